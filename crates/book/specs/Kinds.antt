@@ -1,0 +1,109 @@
+-- The kinds of line (document 01, 'A book and its lines'), a row of data each, and what follows from the rows and the limits.
+use Prim.Native.Nat.{ℕ, zero, suc, _+_, _*_, _^_}
+use mathlib.Core.Bool.{Bool, true, false}
+use mathlib.Core.List.{List, [], _∷_, _++_}
+use lib.IntN.{ℤ, pos, negℤ}
+use lib.ListN.{getD, take, drop, replicate}
+use Rattle.logic.specs.Tests.{pick}
+use Rattle.book.specs.declared.Kind.{Kind}
+use Rattle.book.specs.declared.Content.{Content}
+use Rattle.book.specs.declared.Content.the-variants.{Edition, Statements, Literal, Exception, Total}
+use Rattle.book.specs.Limits as limit
+
+-- The kinds in the order in which they stand in a text: B, R, X, P, Z. A kind says: its letter, a byte; how many fields it has, and where
+-- in the list of contents they begin; how many such lines a book may have; whether its numbers are a row of the number table, which Z
+-- counts; whether it needs a head, so that its first number may not be 0.
+unfoldable pub kinds : List Kind
+kinds =
+    record { letter = 66; fields = 2; from = 0; limit = 1; row = false; headed = false }
+    ∷ record { letter = 82; fields = 9; from = 2; limit = limit.plain; row = true; headed = false }
+    ∷ record { letter = 88; fields = 9; from = 2; limit = limit.exceptions; row = true; headed = true }
+    ∷ record { letter = 80; fields = 2; from = 11; limit = limit.preferences; row = true; headed = false }
+    ∷ record { letter = 90; fields = 1; from = 13; limit = 1; row = false; headed = false }
+    ∷ []
+
+-- What the fields hold: those of B; of R and X, head, needed and barred entries; of P; of Z.
+unfoldable pub contents : List Content
+contents = Edition ∷ Statements ∷ (replicate 9 Literal ++ (Exception ∷ Exception ∷ Total ∷ []))
+
+-- What field i of a line of the kind holds; what all its fields hold, left to right.
+unfoldable pub contentOf : Kind → ℕ → Content
+contentOf x i = getD contents (x .from + i) Edition
+
+unfoldable pub fieldsOf : Kind → List Content
+fieldsOf x = take (x .fields) (drop (x .from) contents)
+
+-- The places of the kinds in that list.
+abbrev pub first : ℕ
+first = 0
+
+abbrev pub plain : ℕ
+plain = 1
+
+abbrev pub exception : ℕ
+exception = 2
+
+abbrev pub preference : ℕ
+preference = 3
+
+abbrev pub last : ℕ
+last = 4
+
+-- How many kinds there are: the place of no kind.
+abbrev pub none : ℕ
+none = 5
+
+-- A line of no kind.
+unfoldable pub unknown : Kind
+unknown = record { letter = 0; fields = 0; from = 0; limit = 0; row = false; headed = false }
+
+-- The kind at a place.
+unfoldable pub kind : ℕ → Kind
+kind k = getD kinds k unknown
+
+-- The bytes of a line with its line feed: the letter, four columns a field, the line feed.
+unfoldable pub bytes : Kind → ℕ
+bytes x = 2 + 4 * x .fields
+
+-- The sum over kinds of a number that each has, as often as its limit.
+unfoldable pub most : (Kind → ℕ) → List Kind → ℕ
+most f [] = 0
+most f (x ∷ xs) = x .limit * f x + most f xs
+
+-- How many numbers of the number table a line has.
+unfoldable pub width : Kind → ℕ
+width x = pick (x .row) (x .fields) 0
+
+-- The longest text: every line that a book may have.
+unfoldable pub longest : ℕ
+longest = most bytes kinds
+
+-- The most lines that Z counts.
+unfoldable pub mostRows : ℕ
+mostRows = most (λ x. pick (x .row) 1 0) kinds
+
+-- The longest number table: n, the three counts, the rows.
+unfoldable pub longestTable : ℕ
+longestTable = 4 + most width kinds
+
+-- The sets of exceptions.
+abbrev pub sets : ℕ
+sets = 2 ^ limit.exceptions
+
+-- The most rules, plain ones and exceptions.
+abbrev pub rules : ℕ
+rules = limit.plain + limit.exceptions
+
+-- From where to where a field's number lies, and the refusal where it does not.
+pub record Range : Type 0 where
+  pub low : ℤ
+  pub high : ℤ
+  pub fault : ℕ
+
+-- What a field may hold in a book of n statements.
+unfoldable pub rangeOf : Content → ℕ → Range
+rangeOf Edition n = record { low = pos 1; high = pos 1; fault = 7 }
+rangeOf Statements n = record { low = pos 1; high = pos limit.statements; fault = 6 }
+rangeOf Literal n = record { low = negℤ (pos n); high = pos n; fault = 6 }
+rangeOf Exception n = record { low = pos 1; high = pos limit.exceptions; fault = 6 }
+rangeOf Total n = record { low = pos 0; high = pos mostRows; fault = 6 }

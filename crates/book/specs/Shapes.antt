@@ -1,0 +1,23 @@
+-- The code's constants as the definitions give them.
+use Rattle.book.specs.declared.Limits.{Limits}
+use Rattle.book.specs.declared.Shape.{Shape}
+use Rattle.book.specs.Limits as limit
+use Rattle.book.specs.Kinds.{longest, mostRows, longestTable, sets, rules}
+
+-- The limits and all that follows from them.
+unfoldable pub limits : Limits
+limits = record {
+  statements = limit.statements;
+  plain = limit.plain;
+  exceptions = limit.exceptions;
+  preferences = limit.preferences;
+  text = longest;
+  rules = rules;
+  rows = mostRows;
+  numbers = longestTable;
+  sets = sets;
+}
+
+-- The shape of the empty book: one statement, no line but B and Z.
+unfoldable pub emptyShape : Shape
+emptyShape = record { statements = 1; plain = 0; exceptions = 0; preferences = 0 }

@@ -1,0 +1,1 @@
+// Words for lists and tests that every definition uses: no code.

@@ -1,0 +1,13 @@
+pub mod Members
+pub mod Closed
+pub mod Ranks
+pub mod Twins
+pub mod SmallBooks
+pub mod Laws
+pub mod Ordered
+pub mod Sorted
+pub mod Refusals
+pub mod Demand3
+pub mod Shown
+pub mod Next
+pub mod Ranges

@@ -1,0 +1,115 @@
+-- The starred small books of document 01, K1 to K14, and two books of our own that pin the order of pairs, as one computed table;
+-- proofs/Shown says what it means in the words of the definitions.
+use Prim.Native.Nat.{ℕ}
+use mathlib.Core.Bool.{Bool, true, false}
+use mathlib.Core.Path.{_≡_, refl}
+use mathlib.Core.List.{List, [], _∷_}
+use Rattle.logic.specs.Tests.{concatMap, consIf, every, keep, some}
+use Rattle.sets.specs.Sets.{member, size, sizeTo}
+use Rattle.sets.specs.declared.Pair.{Pair}
+use Rattle.meaning.specs.Literals.{Literal, pos, neg, isIn}
+use Rattle.meaning.specs.Rules.{Head, none, gives, Rule}
+use Rattle.meaning.specs.AnswerSets.{someIn, struck, reduct}
+use Rattle.meaning.specs.Books.{Book, takenFrom}
+use Rattle.meaning.specs.Order.{valueOf, value}
+use Rattle.meaning.specs.Twins.Closure.{addTo, add, addHead, keepBack, takeOut, closeBy, empty, closure}
+use Rattle.meaning.specs.Twins.Verdicts.{satisfied, breaks, apart, same, answerSet, rankRule, rankRules, outranks, rankedIn, rankedWithin, dominates, lawful, answers, bodies, view, below, pairs, views, containedTo, properSubset, dominatedBy, exceededBy, verdict, unbeaten, resolutionsAmong, resolutions}
+use Rattle.meaning.specs.Twins.Tables.{differsFrom, before, ascending, samePair, Example, sameMembers, right}
+
+-- A rule; a rule with an empty body; a constraint.
+abbrev rule : Head → List Literal → List Literal → Rule
+rule h n b = record { head = h; body = record { needed = n; barred = b } }
+
+abbrev fact : Literal → Rule
+fact l = rule (gives l) [] []
+
+abbrev never : List Literal → List Literal → Rule
+never n b = rule none n b
+
+abbrev facts : List ℕ → List Rule
+facts [] = []
+facts (i ∷ is) = fact (pos i) ∷ facts is
+
+-- A pair: taken, held, denied.
+abbrev pair : ℕ → ℕ → ℕ → Pair
+pair t h d = record { taken = t; held = h; denied = d }
+
+-- A book of n statements, all its resolutions in order, and the verdicts on some pairs.
+abbrev example : ℕ → List Rule → List Rule → List (ℕ × ℕ) → List Pair → List (Pair × ℕ) → Example
+example n rs xs ps found judged = record { book = record { statements = n; plain = rs; exceptions = xs; preferences = ps }; found = found; judged = judged }
+
+-- K1: no rules.
+abbrev k1 : Example
+k1 = example 1 [] [] [] (pair 0 0 0 ∷ []) []
+
+-- K2: a constraint with an empty body.
+abbrev k2 : Example
+k2 = example 1 (never [] [] ∷ []) [] [] [] []
+
+-- K3: +2 if not -1.
+abbrev k3 : Example
+k3 = example 2 (rule (gives (pos 2)) [] (neg 1 ∷ []) ∷ []) [] [] (pair 0 2 0 ∷ []) []
+
+-- K4: +1 if not +2; +2 if not +1.
+abbrev k4 : Example
+k4 = example 2 (rule (gives (pos 1)) [] (pos 2 ∷ []) ∷ rule (gives (pos 2)) [] (pos 1 ∷ []) ∷ []) [] [] (pair 0 2 0 ∷ pair 0 1 0 ∷ []) []
+
+-- K5: +1 if +1.
+abbrev k5 : Example
+k5 = example 1 (rule (gives (pos 1)) (pos 1 ∷ []) [] ∷ []) [] [] (pair 0 0 0 ∷ []) ((pair 0 1 0, 1) ∷ [])
+
+-- K6: the facts +1 and -1.
+abbrev k6 : Example
+k6 = example 1 (fact (pos 1) ∷ fact (neg 1) ∷ []) [] [] [] []
+
+-- K7: a constraint, not +1, not +2; +3 if +1; X1 +1; X2 +2. K8: K7 with P 1 2.
+abbrev k7-plain : List Rule
+k7-plain = never [] (pos 1 ∷ pos 2 ∷ []) ∷ rule (gives (pos 3)) (pos 1 ∷ []) [] ∷ []
+
+abbrev k7 : Example
+k7 = example 3 k7-plain (facts (1 ∷ 2 ∷ [])) [] (pair 1 5 0 ∷ pair 2 2 0 ∷ []) ((pair 3 7 0, 5) ∷ [])
+
+abbrev k8 : Example
+k8 = example 3 k7-plain (facts (1 ∷ 2 ∷ [])) ((1, 2) ∷ []) (pair 1 5 0 ∷ []) ((pair 2 2 0, 4) ∷ (pair 3 7 0, 2) ∷ [])
+
+-- K9: the views with {1, 4} and {2, 3} dominate each other.
+abbrev k9 : Example
+k9 =
+    example 4 (never [] (pos 1 ∷ pos 2 ∷ []) ∷ never [] (pos 3 ∷ pos 4 ∷ []) ∷ never (pos 1 ∷ pos 3 ∷ []) [] ∷ never (pos 2 ∷ pos 4 ∷ []) [] ∷ [])
+    (facts (1 ∷ 2 ∷ 3 ∷ 4 ∷ [])) ((1, 2) ∷ (3, 4) ∷ []) [] ((pair 9 9 0, 4) ∷ (pair 6 6 0, 4) ∷ [])
+
+-- K10: an exception that outranks itself.
+abbrev k10 : Example
+k10 = example 1 (never [] (pos 1 ∷ []) ∷ []) (facts (1 ∷ [])) ((1, 1) ∷ []) [] ((pair 1 1 0, 2) ∷ [])
+
+-- K11: X1 +1; X2 +2 if -1; constraint not +1.
+abbrev k11 : Example
+k11 = example 2 (never [] (pos 1 ∷ []) ∷ []) (fact (pos 1) ∷ rule (gives (pos 2)) (neg 1 ∷ []) [] ∷ []) [] (pair 1 1 0 ∷ []) ((pair 3 1 0, 3) ∷ [])
+
+-- K12: X1 and X2 both +1; constraint not +1.
+abbrev k12 : Example
+k12 = example 1 (never [] (pos 1 ∷ []) ∷ []) (facts (1 ∷ 1 ∷ [])) [] (pair 1 1 0 ∷ pair 2 1 0 ∷ []) []
+
+-- K13: a chain of preferences, P 1 2 and P 2 3; constraints not +1, not +3; +2.
+abbrev k13 : Example
+k13 = example 3 (never [] (pos 1 ∷ pos 3 ∷ []) ∷ never (pos 2 ∷ []) [] ∷ []) (facts (1 ∷ 2 ∷ 3 ∷ [])) ((1, 2) ∷ (2, 3) ∷ []) (pair 1 1 0 ∷ []) ((pair 4 4 0, 4) ∷ [])
+
+-- K14: the view with {2} is smaller, and dominated.
+abbrev k14 : Example
+k14 = example 3 (never [] (pos 1 ∷ pos 2 ∷ []) ∷ never (pos 1 ∷ []) (pos 3 ∷ []) ∷ []) (facts (1 ∷ 2 ∷ 3 ∷ [])) ((1, 2) ∷ []) (pair 5 5 0 ∷ []) ((pair 2 2 0, 4) ∷ [])
+
+-- Not of document 01, whose books leave the order of pairs open. Held comes before denied.
+abbrev held-first : Example
+held-first = example 1 (rule (gives (pos 1)) [] (neg 1 ∷ []) ∷ rule (gives (neg 1)) [] (pos 1 ∷ []) ∷ []) [] [] (pair 0 1 0 ∷ pair 0 0 1 ∷ []) []
+
+-- One exception comes before two, though its number is larger.
+abbrev fewer-first : Example
+fewer-first = example 3 (never [] (pos 1 ∷ pos 3 ∷ []) ∷ never [] (pos 2 ∷ pos 3 ∷ []) ∷ []) (facts (1 ∷ 2 ∷ 3 ∷ [])) [] (pair 4 4 0 ∷ pair 3 3 0 ∷ []) []
+
+unfoldable pub table : List Example
+table = k1 ∷ k2 ∷ k3 ∷ k4 ∷ k5 ∷ k6 ∷ k7 ∷ k8 ∷ k9 ∷ k10 ∷ k11 ∷ k12 ∷ k13 ∷ k14 ∷ held-first ∷ fewer-first ∷ []
+
+-- Every example of the table is right, computed.
+pub all-right : every right table ≡ true
+unfolding table size sizeTo valueOf consIf every right member isIn someIn struck reduct takenFrom value some keep concatMap addTo add addHead keepBack takeOut closeBy empty closure satisfied breaks apart same answerSet rankRule rankRules outranks rankedIn rankedWithin dominates lawful answers bodies view below pairs views containedTo properSubset dominatedBy exceededBy verdict unbeaten resolutionsAmong resolutions differsFrom before ascending samePair sameMembers
+all-right = refl

@@ -1,0 +1,11 @@
+pub mod Literals
+pub mod Rules
+pub mod AnswerSets
+pub mod Preferences
+pub mod Books
+pub mod Views
+pub mod Resolutions
+pub mod Published
+pub mod Order
+pub mod Listings
+pub mod Twins

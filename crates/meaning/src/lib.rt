@@ -1,0 +1,1 @@
+// The meaning of a book: definitions and their laws, no code.
