@@ -10,21 +10,31 @@ use Rattle.book.specs.declared.Content.{Content}
 use Rattle.book.specs.declared.Content.the-variants.{Edition, Statements, Literal, Exception, Total}
 use Rattle.book.specs.Limits as limit
 
+-- How many fields an R or X line has: head, needed entries, barred entries; and how many a P line has.
+abbrev pub entriesEach : ℕ
+entriesEach = 4
+
+abbrev pub ruleFields : ℕ
+ruleFields = 1 + entriesEach + entriesEach
+
+abbrev pub preferenceFields : ℕ
+preferenceFields = 2
+
 -- The kinds in the order in which they stand in a text: B, R, X, P, Z. A kind says: its letter, a byte; how many fields it has, and where
 -- in the list of contents they begin; how many such lines a book may have; whether its numbers are a row of the number table, which Z
 -- counts; whether it needs a head, so that its first number may not be 0.
 unfoldable pub kinds : List Kind
 kinds =
     record { letter = 66; fields = 2; from = 0; limit = 1; row = false; headed = false }
-    ∷ record { letter = 82; fields = 9; from = 2; limit = limit.plain; row = true; headed = false }
-    ∷ record { letter = 88; fields = 9; from = 2; limit = limit.exceptions; row = true; headed = true }
-    ∷ record { letter = 80; fields = 2; from = 11; limit = limit.preferences; row = true; headed = false }
+    ∷ record { letter = 82; fields = ruleFields; from = 2; limit = limit.plain; row = true; headed = false }
+    ∷ record { letter = 88; fields = ruleFields; from = 2; limit = limit.exceptions; row = true; headed = true }
+    ∷ record { letter = 80; fields = preferenceFields; from = 11; limit = limit.preferences; row = true; headed = false }
     ∷ record { letter = 90; fields = 1; from = 13; limit = 1; row = false; headed = false }
     ∷ []
 
 -- What the fields hold: those of B; of R and X, head, needed and barred entries; of P; of Z.
 unfoldable pub contents : List Content
-contents = Edition ∷ Statements ∷ (replicate 9 Literal ++ (Exception ∷ Exception ∷ Total ∷ []))
+contents = Edition ∷ Statements ∷ (replicate ruleFields Literal ++ (Exception ∷ Exception ∷ Total ∷ []))
 
 -- What field i of a line of the kind holds; what all its fields hold, left to right.
 unfoldable pub contentOf : Kind → ℕ → Content

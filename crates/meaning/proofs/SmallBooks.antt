@@ -1,6 +1,8 @@
 -- The starred small books of document 01, K1 to K14, and two books of our own that pin the order of pairs, as one computed table;
 -- proofs/Shown says what it means in the words of the definitions.
 use Prim.Native.Nat.{ℕ}
+use lib.IntN.{ℤ}
+use lib.IntN as Z
 use mathlib.Core.Bool.{Bool, true, false}
 use mathlib.Core.Path.{_≡_, refl}
 use mathlib.Core.List.{List, [], _∷_}
@@ -11,6 +13,7 @@ use Rattle.meaning.specs.Literals.{Literal, pos, neg, isIn}
 use Rattle.meaning.specs.Rules.{Head, none, gives, Rule}
 use Rattle.meaning.specs.AnswerSets.{someIn, struck, reduct}
 use Rattle.meaning.specs.Books.{Book, takenFrom}
+use Rattle.meaning.specs.Meant.{entry, headOf, number, entriesAt, ruleAt, rulesAt, preferencesAt, bookOf}
 use Rattle.meaning.specs.Order.{valueOf, value}
 use Rattle.meaning.specs.Twins.Closure.{addTo, add, addHead, keepBack, takeOut, closeBy, empty, closure}
 use Rattle.meaning.specs.Twins.Verdicts.{satisfied, breaks, apart, same, answerSet, rankRule, rankRules, outranks, rankedIn, rankedWithin, dominates, lawful, answers, bodies, view, below, pairs, views, containedTo, properSubset, dominatedBy, exceededBy, verdict, unbeaten, resolutionsAmong, resolutions}
@@ -113,3 +116,18 @@ table = k1 ∷ k2 ∷ k3 ∷ k4 ∷ k5 ∷ k6 ∷ k7 ∷ k8 ∷ k9 ∷ k10 ∷ k
 pub all-right : every right table ≡ true
 unfolding table size sizeTo valueOf consIf every right member isIn someIn struck reduct takenFrom value some keep concatMap addTo add addHead keepBack takeOut closeBy empty closure satisfied breaks apart same answerSet rankRule rankRules outranks rankedIn rankedWithin dominates lawful answers bodies view below pairs views containedTo properSubset dominatedBy exceededBy verdict unbeaten resolutionsAmong resolutions differsFrom before ascending samePair sameMembers
 all-right = refl
+
+-- ---- a number table
+-- K8 as document 01's number table has it: n and the counts are the shape, these are the rows.
+abbrev k8-rows : List ℤ
+k8-rows =
+    Z.pos 0 ∷ Z.pos 0 ∷ Z.pos 0 ∷ Z.pos 0 ∷ Z.pos 0 ∷ Z.pos 1 ∷ Z.pos 2 ∷ Z.pos 0 ∷ Z.pos 0
+    ∷ Z.pos 3 ∷ Z.pos 1 ∷ Z.pos 0 ∷ Z.pos 0 ∷ Z.pos 0 ∷ Z.pos 0 ∷ Z.pos 0 ∷ Z.pos 0 ∷ Z.pos 0
+    ∷ Z.pos 1 ∷ Z.pos 0 ∷ Z.pos 0 ∷ Z.pos 0 ∷ Z.pos 0 ∷ Z.pos 0 ∷ Z.pos 0 ∷ Z.pos 0 ∷ Z.pos 0
+    ∷ Z.pos 2 ∷ Z.pos 0 ∷ Z.pos 0 ∷ Z.pos 0 ∷ Z.pos 0 ∷ Z.pos 0 ∷ Z.pos 0 ∷ Z.pos 0 ∷ Z.pos 0
+    ∷ Z.pos 1 ∷ Z.pos 2 ∷ []
+
+-- Its rows stand for the book K8.
+pub k8-meant : bookOf (record { statements = 3; plain = 2; exceptions = 2; preferences = 1 }) k8-rows ≡ k8 .book
+unfolding bookOf preferencesAt number rulesAt ruleAt entriesAt headOf entry
+k8-meant = refl

@@ -3,6 +3,7 @@ pub mod Rules
 pub mod AnswerSets
 pub mod Preferences
 pub mod Books
+pub mod Meant
 pub mod Views
 pub mod Resolutions
 pub mod Published
