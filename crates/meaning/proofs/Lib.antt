@@ -11,3 +11,4 @@ pub mod Demand3
 pub mod Shown
 pub mod Next
 pub mod Ranges
+pub mod Parts
