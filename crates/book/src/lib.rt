@@ -49,6 +49,9 @@ impl Book {
 
     pub const ROWS: usize = Book::RULES + Book::PREFERENCES;
 
+    // How many kinds of line there are.
+    pub const KINDS: usize = 5;
+
     // The columns of a field, the fields of each kind of line, the bytes of a line beside its fields.
     pub const COLUMNS: usize = 4;
 
@@ -148,7 +151,7 @@ const CONTENTS: [Content; 14] = [
     Content::Total,
 ];
 
-const KINDS: [Kind; 5] = [
+const KINDS: [Kind; Book::KINDS] = [
     Kind {
         letter: b'B',
         fields: 2,
