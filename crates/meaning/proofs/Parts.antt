@@ -6,9 +6,10 @@ use mathlib.Core.Logic.{_⊎_, inl, inr, ⊎-elim}
 use Rattle.logic.specs.Lists.{Among, Every}
 use Rattle.logic.proofs.Members.{every-map, every-at, every-of, among-left, among-right}
 use Rattle.sets.specs.declared.Pair.{Pair}
-use Rattle.meaning.specs.Books.{Book}
+use Rattle.meaning.specs.Books.{Book, Lawful}
 use Rattle.meaning.specs.Resolutions.{Resolution}
-use Rattle.meaning.specs.Order.{Before, Ascending, Point, Later, AllLater}
+use Rattle.meaning.specs.Order.{Before, Ascending, Point, LawfulPoint, Later, AllLater}
+use Rattle.meaning.proofs.Sorted.{select, all-later}
 
 -- The list of the resolutions later than the point that have the property.
 pub record Part (b : Book) (from : Point) (P : Pair → Type 0) (xs : List Pair) : Type 0 where
@@ -61,3 +62,18 @@ module _ (b : Book) (from : Point) where
         all = λ p r l. s .all p r l (f p r);
         ascending = s .ascending;
       }
+
+  -- The part of a property that is decided is there.
+  pub part-there : (P : Pair → Type 0) → ((p : Pair) → P p ⊎ (P p → ⊥)) → LawfulPoint b from → (xs : List Pair) × Part b from P xs
+  part-there P d l =
+      let a = all-later b from l in
+      let ok = every-map {P = λ p. Resolution b p × Later from p} {Q = Lawful b} (λ p h. h .0 .view .lawful) (a .0) (a .1 .only) in
+      let s = select b P (a .0) ok (every-of (λ p. P p ⊎ (P p → ⊥)) (a .0) (λ p m. d p)) in (
+        s .list,
+        record {
+          only = every-of (λ p. Resolution b p × Later from p × P p) (s .list)
+              (λ p m. let h = s .only p m in let k = every-at (λ p. Resolution b p × Later from p) p (a .0) (a .1 .only) (h .1) in (k .0, k .1, h .0));
+          all = λ p r q h. s .all p h (a .1 .all p r q);
+          ascending = s .ascending;
+        },
+      )

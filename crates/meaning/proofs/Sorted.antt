@@ -83,7 +83,7 @@ module _ (b : Book) where
     pub only : (r : Pair) → Among r list → P r × Among r ps
     pub all : (r : Pair) → P r → Among r ps → Among r list
 
-  select : (P : Pair → Type 0) (ps : List Pair) → Every (Lawful b) ps → Every (λ p. P p ⊎ (P p → ⊥)) ps → Selected P ps
+  pub select : (P : Pair → Type 0) (ps : List Pair) → Every (Lawful b) ps → Every (λ p. P p ⊎ (P p → ⊥)) ps → Selected P ps
   select P [] ls ds = record { list = []; ascending = tt; only = λ r m. absurd m; all = λ r h m. absurd m }
   select P (p ∷ ps) ls ds = go (ds .0) (select P ps (ls .1) (ds .1))
     where

@@ -1,0 +1,1 @@
+// The walk over all sets of exceptions in their order.
