@@ -34,7 +34,7 @@ no-end p e = let z : _≡_ {A = ℕ} 0 1 = cc in omega arith
 
 module _ (b : Book) (from : Point) where
   -- The first later resolution is the head.
-  head-first : (p q : Pair) (qs : List Pair) → AllLater b from (q ∷ qs) → FirstLater b from (found p) → p ≡ q
+  pub head-first : (p q : Pair) (qs : List Pair) → AllLater b from (q ∷ qs) → FirstLater b from (found p) → p ≡ q
   head-first p q qs a f = go (a .all p (f .0) (f .1)) (f .2 q (a .only .0 .0) (a .only .0 .1))
     where
       go : (q ≡ p) ⊎ Among p qs → (p ≡ q) ⊎ Before p q → p ≡ q
@@ -43,7 +43,7 @@ module _ (b : Book) (from : Point) where
       go (inr m) (inr x) = absurd (before-irreflexive p (before-transitive p q p x (every-at (Before q) p qs (a .ascending .0) m)))
 
   -- What is later than the head is the tail.
-  tail-later : (q : Pair) (qs : List Pair) → AllLater b from (q ∷ qs) → AllLater b (at q) qs
+  pub tail-later : (q : Pair) (qs : List Pair) → AllLater b from (q ∷ qs) → AllLater b (at q) qs
   tail-later q qs a =
       record {
         only = every-of (λ p. Resolution b p × Before q p) qs (λ r m. (every-at (λ p. Resolution b p × Later from p) r qs (a .only .1) m .0, every-at (Before q) r qs (a .ascending .0) m));

@@ -12,3 +12,4 @@ pub mod Shown
 pub mod Next
 pub mod Ranges
 pub mod Parts
+pub mod Pages

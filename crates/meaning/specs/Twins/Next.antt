@@ -1,5 +1,5 @@
 -- What First and After answer, as a function that computes: the first of all resolutions later than a point, or End.
-use Prim.Native.Nat.{ℕ}
+use Prim.Native.Nat.{ℕ, zero, suc}
 use mathlib.Core.Bool.{Bool, true, false}
 use mathlib.Core.List.{List, [], _∷_}
 use Rattle.sets.specs.declared.Pair.{Pair}
@@ -27,3 +27,13 @@ firstOf n from (p ∷ ps) = elim (later n from p) [ true ↦ earlier n p (firstO
 -- The first resolution later than the point, or End if there is none.
 unfoldable pub nextFrom : Book → Point → Answer
 nextFrom b from = firstOf (b .statements) from (resolutions b)
+
+-- The first k resolutions later than the point: as many answers, each from the point that the one before it gave.
+unfoldable pub onwardFrom : Answer → (Pair → List Pair) → List Pair
+onwardFrom (found p) rest = p ∷ rest p
+onwardFrom end rest = []
+onwardFrom (refused k line) rest = []
+
+unfoldable pub pageFrom : Book → ℕ → Point → List Pair
+pageFrom b zero from = []
+pageFrom b (suc k) from = onwardFrom (nextFrom b from) (λ p. pageFrom b k (at p))
