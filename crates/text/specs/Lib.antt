@@ -1,0 +1,6 @@
+pub mod Fields
+pub mod Lines
+pub mod Reading
+pub mod Tables
+pub mod Writing
+pub mod ALines
