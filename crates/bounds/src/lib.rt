@@ -1,0 +1,343 @@
+// Sound steps on bounds: no view within them is lost. In which order steps are taken, no proof depends on.
+ghost use mathlib.Core.Path.{_≡_};
+ghost use Prim.Native.Nat.{ℕ, _+_, _*_, _<_, _≤_};
+ghost use lib.ListN.{length};
+ghost use Rattle.masks.specs.Views.{Meets};
+ghost use Rattle.bounds.specs.Singles.{oneOf, Place, Picked};
+ghost use Rattle.bounds.specs.Sound.{Keeps, Firing, Idle, Coherent, Levelled, LevelledAt, Ruled, intoOf, outOf, narrowOf};
+ghost use Rattle.bounds.specs.Supports.{Scanned, Saw, Backed};
+use masks::Bounds;
+use masks::Masks;
+use sets::Pair;
+
+// The words of a pair by number.
+pub const HELD: u64 = 0;
+
+pub const DENIED: u64 = 1;
+
+pub const TAKEN: u64 = 2;
+
+// The pair whose one member stands at place k of a word.
+pub fn one(word: u64, k: u64) -> Pair
+    requires { ⌜ k < 64 ⌝ }
+    ensures { λ m. ⌜ m ≡ oneOf word k ⌝ }
+{
+    let x = 1 << k;
+    if word == HELD {
+        return Pair {
+            taken: 0,
+            held: x,
+            denied: 0,
+        };
+    }
+    if word == DENIED {
+        return Pair {
+            taken: 0,
+            held: 0,
+            denied: x,
+        };
+    }
+    Pair {
+        taken: x,
+        held: 0,
+        denied: 0,
+    }
+}
+
+// The place of the highest member of a word that has one.
+pub fn top(x: u64) -> u64
+    requires { ⌜ 0 < x ⌝ }
+    ensures { λ k. ⌜ Place x k ⌝ }
+{
+    63 - u64::leading_zeros(x) as u64
+}
+
+// One member, of x if x has any: which one, nothing depends on.
+pub fn single(x: Pair) -> Pair
+    ensures { λ m. ⌜ Picked x m ⌝ }
+{
+    let held = x.held;
+    if 0 < held {
+        return one(HELD, top(held));
+    }
+    let denied = x.denied;
+    if 0 < denied {
+        return one(DENIED, top(denied));
+    }
+    let taken = x.taken;
+    if 0 < taken {
+        return one(TAKEN, top(taken));
+    }
+    one(HELD, 0)
+}
+
+// The bounds with m in every pair.
+pub fn into(b: Bounds, m: Pair) -> Bounds
+    ensures { λ o. ⌜ o ≡ intoOf b m ⌝ }
+{
+    let hi = b.hi;
+    Bounds {
+        lo: sets::join(b.lo, m),
+        hi,
+    }
+}
+
+// The bounds with nothing of m in any pair.
+pub fn out(b: Bounds, m: Pair) -> Bounds
+    ensures { λ o. ⌜ o ≡ outOf b m ⌝ }
+{
+    let lo = b.lo;
+    Bounds {
+        lo,
+        hi: sets::minus(b.hi, m),
+    }
+}
+
+// Bounds with nothing in them.
+pub fn void() -> Bounds {
+    Bounds {
+        lo: Pair {
+            taken: 0,
+            held: 1,
+            denied: 0,
+        },
+        hi: Pair {
+            taken: 0,
+            held: 0,
+            denied: 0,
+        },
+    }
+}
+
+// The bounds b without what o leaves out.
+pub fn narrowed(b: Bounds, o: Bounds) -> Bounds
+    ensures { λ p. ⌜ p ≡ narrowOf b o ⌝ }
+{
+    Bounds {
+        lo: sets::join(b.lo, o.lo),
+        hi: sets::meet(b.hi, o.hi),
+    }
+}
+
+// The bounds are the same.
+pub fn unchanged(a: Bounds, b: Bounds) -> bool {
+    sets::same(a.lo, b.lo) && sets::same(a.hi, b.hi)
+}
+
+// The body is satisfied: needed entries in, barred ones out, the head in. A constraint leaves nothing. (a), (b)
+pub fn forced(r: Masks, b: Bounds) -> Bounds
+    ensures { λ o. ⌜ Keeps (Firing r) b o ⌝ }
+{
+    if masks::constraint(r) {
+        return void();
+    }
+    into(into(out(b, r.bar), r.need), r.head)
+}
+
+// The body is not satisfied: the rule is no exception that is taken. (c)
+pub fn untaken(r: Masks, b: Bounds) -> Bounds
+    ensures { λ o. ⌜ Keeps (Idle r) b o ⌝ }
+{
+    out(
+        b,
+        Pair {
+            taken: r.need.taken,
+            held: 0,
+            denied: 0,
+        },
+    )
+}
+
+// The body is not satisfied: if one open condition is left, it is made false. (B1)
+pub fn falsified(r: Masks, b: Bounds) -> Bounds
+    ensures { λ o. ⌜ Keeps (Idle r) b o ⌝ }
+{
+    if sets::apart(r.bar, b.hi) {
+        let x = sets::minus(r.need, b.lo);
+        let m = single(x);
+        if sets::within(x, m) {
+            return out(b, m);
+        }
+        return b;
+    }
+    if sets::within(r.need, b.lo) {
+        let y = sets::meet(r.bar, b.hi);
+        let m = single(y);
+        if sets::within(y, m) {
+            return into(b, m);
+        }
+    }
+    b
+}
+
+// What one rule says: its body surely fails, surely holds, or must not hold.
+pub fn step(r: Masks, b: Bounds) -> Bounds
+    ensures { λ o. ⌜ Keeps (Meets r) b o ⌝ }
+{
+    if !masks::fires(r, b.lo, b.hi) {
+        return untaken(r, b);
+    }
+    if r.need.taken & b.lo.taken != 0 {
+        return forced(r, b);
+    }
+    if masks::fires(r, b.hi, b.lo) {
+        return forced(r, b);
+    }
+    if masks::constraint(r) {
+        return falsified(r, b);
+    }
+    if !sets::within(r.head, b.hi) {
+        return falsified(r, b);
+    }
+    b
+}
+
+// What is held is not denied. (e)
+pub fn coheres(b: Bounds) -> Bounds
+    ensures { λ o. ⌜ Keeps Coherent b o ⌝ }
+{
+    out(
+        b,
+        Pair {
+            taken: 0,
+            held: b.lo.denied,
+            denied: b.lo.held,
+        },
+    )
+}
+
+// What the exception at place a outranks is not taken beside it. (f)
+pub fn level_step(rank: u64, a: u64, b: Bounds) -> Bounds
+    requires { ⌜ a < 64 ⌝ }
+    ensures { λ o. ⌜ Keeps (LevelledAt rank a) b o ⌝ }
+{
+    if (b.lo.taken >> a) % 2 == 1 {
+        return out(
+            b,
+            Pair {
+                taken: rank,
+                held: 0,
+                denied: 0,
+            },
+        );
+    }
+    if rank & b.lo.taken != 0 {
+        return out(b, one(TAKEN, a));
+    }
+    b
+}
+
+// The same of every exception.
+pub fn levels(ranks: &[u64], b: Bounds) -> Bounds
+    requires { ⌜ length (now ranks) ≤ 64 ⌝ }
+    ensures { λ o. ⌜ Keeps (Levelled (now (ranks .entry))) b o ⌝ }
+{
+    let mut o = b;
+    let mut a = 0;
+    while a < ranks.len() {
+        o = level_step(ranks[a], a as u64, o);
+        a += 1;
+    }
+    o
+}
+
+// Heads of the rules that can fire within bounds: of one at least, of two at least, of one that need not fire.
+pub struct Heads {
+    pub once: Pair,
+    pub twice: Pair,
+    pub unsure: Pair,
+}
+
+// The conclusions x with the rule's head, unless the rule surely fires.
+pub fn with_unsure(r: Masks, b: Bounds, x: Pair) -> Pair {
+    if masks::fires(r, b.hi, b.lo) {
+        return x;
+    }
+    sets::join(x, r.head)
+}
+
+// The heads s with that of one more rule.
+pub fn see(r: Masks, b: Bounds, s: Heads) -> Heads
+    ensures { λ t. ⌜ Saw r b s t ⌝ }
+{
+    if masks::fires(r, b.lo, b.hi) {
+        return Heads {
+            once: sets::join(s.once, r.head),
+            twice: sets::join(s.twice, sets::meet(s.once, r.head)),
+            unsure: with_unsure(r, b, s.unsure),
+        };
+    }
+    s
+}
+
+// The heads of the rules that can fire.
+pub fn scan(words: &[u64], n: usize, b: Bounds) -> Heads
+    requires { ⌜ n * 8 ≤ length (now words) ⌝ }
+    ensures { λ s. ⌜ Scanned (now (words .entry)) n b s ⌝ }
+{
+    let none = Pair {
+        taken: 0,
+        held: 0,
+        denied: 0,
+    };
+    let mut s = Heads {
+        once: none,
+        twice: none,
+        unsure: none,
+    };
+    let mut k = 0;
+    while k < n {
+        s = see(masks::masks_at(words, k), b, s);
+        k += 1;
+    }
+    s
+}
+
+// The rule fires if it can and has a conclusion of `sole` for its head.
+pub fn back(r: Masks, b: Bounds, sole: Pair, o: Bounds) -> Bounds
+    ensures { λ p. ⌜ Keeps (Backed r b sole) o p ⌝ }
+{
+    if masks::fires(r, b.lo, b.hi) {
+        if sets::apart(r.head, sole) {
+            return o;
+        }
+        return forced(r, o);
+    }
+    o
+}
+
+// A conclusion that no rule can give is out; where one rule alone can give a sure conclusion, that rule fires. (d), (B2)
+pub fn support(words: &[u64], n: usize, b: Bounds) -> Bounds
+    requires { ⌜ n * 8 ≤ length (now words) ⌝ }
+    ensures { λ o. ⌜ Keeps (Ruled (now (words .entry)) n) b o ⌝ }
+{
+    let s = scan(words, n, b);
+    let possible = Pair {
+        taken: 0,
+        held: b.hi.held,
+        denied: b.hi.denied,
+    };
+    let sole = sets::minus(b.lo, s.twice);
+    let mut o = out(b, sets::minus(possible, s.once));
+    if sets::apart(sole, s.unsure) {
+        return o;
+    }
+    let mut k = 0;
+    while k < n {
+        o = back(masks::masks_at(words, k), b, sole, o);
+        k += 1;
+    }
+    o
+}
+
+// What no chain of rules can give from nothing within the bounds is out: the upper end shrinks to a closure.
+pub fn upper(words: &[u64], n: usize, b: Bounds) -> Bounds
+    requires { ⌜ n * 8 ≤ length (now words) ⌝ }
+    ensures { λ o. ⌜ Keeps (Ruled (now (words .entry)) n) b o ⌝ }
+{
+    let lo = b.lo;
+    Bounds {
+        lo,
+        hi: sets::meet(b.hi, masks::closure(words, n, b)),
+    }
+}

@@ -1,0 +1,5 @@
+pub mod Booleans
+pub mod Sums
+pub mod Facts
+pub mod Closures
+pub mod Tests

@@ -1,0 +1,182 @@
+// Rules as masks, and the exact test of a view. A mask is a set of conclusions and exceptions in three words.
+ghost use mathlib.Core.Path.{_≡_};
+ghost use Prim.Native.Nat.{ℕ, _+_, _*_, _<_, _≤_};
+ghost use lib.ListN.{length};
+ghost use Rattle.logic.specs.Tests.{Decides};
+ghost use Rattle.sets.specs.Sets.{bitOf, Apart};
+ghost use Rattle.masks.specs.Views.{masksAt, Fires, Constraint, Meets, MeetsAll, Level, MaskView};
+ghost use Rattle.masks.specs.Closures.{Fired, Passed, Closure};
+use sets::Pair;
+
+// A rule: its head, its needed entries (the rule's own exception among them), its barred entries.
+pub struct Masks {
+    pub head: Pair,
+    pub need: Pair,
+    pub bar: Pair,
+}
+
+// The pairs between lo and hi.
+pub struct Bounds {
+    pub lo: Pair,
+    pub hi: Pair,
+}
+
+// Rule k of a slice that has eight words for each rule.
+pub fn masks_at(words: &[u64], k: usize) -> Masks
+    requires { ⌜ k * 8 + 8 ≤ length (now words) ⌝ }
+    ensures { λ r. ⌜ r ≡ masksAt (now (words .entry)) k ⌝ }
+{
+    let at = k * 8;
+    Masks {
+        head: Pair {
+            taken: 0,
+            held: words[at],
+            denied: words[at + 1],
+        },
+        need: Pair {
+            taken: words[at + 4],
+            held: words[at + 2],
+            denied: words[at + 3],
+        },
+        bar: Pair {
+            taken: 0,
+            held: words[at + 5],
+            denied: words[at + 6],
+        },
+    }
+}
+
+// What the rule needs is in c, and nothing of v bars it.
+pub fn fires(r: Masks, v: Pair, c: Pair) -> bool
+    ensures { λ o. ⌜ Decides o (Fires r v c) ⌝ }
+{
+    if !sets::within(r.need, c) {
+        return false;
+    }
+    sets::apart(r.bar, v)
+}
+
+// The pair d with what the rule adds within the bounds, if it can fire from d.
+pub fn fire(r: Masks, b: Bounds, d: Pair) -> Pair
+    ensures { λ e. ⌜ Fired r b d e ⌝ }
+{
+    if fires(r, b.lo, d) {
+        return sets::join(d, sets::meet(r.head, b.hi));
+    }
+    d
+}
+
+// The pair c with what the rules add in one pass, each from what those before it have left.
+pub fn pass(words: &[u64], n: usize, b: Bounds, c: Pair) -> Pair
+    requires { ⌜ n * 8 ≤ length (now words) ⌝ }
+    ensures { λ d. ⌜ Passed (now (words .entry)) n b c d ⌝ }
+{
+    let mut d = c;
+    let mut k = 0;
+    while k < n {
+        d = fire(masks_at(words, k), b, d);
+        k += 1;
+    }
+    d
+}
+
+// The least pair that has the exceptions of the upper bound and to which no rule adds anything within the bounds.
+pub fn closure(words: &[u64], n: usize, b: Bounds) -> Pair
+    requires { ⌜ n * 8 ≤ length (now words) ⌝ }
+    ensures { λ c. ⌜ Closure (now (words .entry)) n b c ⌝ }
+{
+    let mut c = Pair {
+        taken: b.hi.taken,
+        held: 0,
+        denied: 0,
+    };
+    loop {
+        let d = pass(words, n, b, c);
+        if sets::same(d, c) {
+            break;
+        }
+        c = d;
+    }
+    c
+}
+
+// The rule has no head.
+pub fn constraint(r: Masks) -> bool
+    ensures { λ o. ⌜ Decides o (Constraint r) ⌝ }
+{
+    r.head.held | r.head.denied == 0
+}
+
+// The pair v is to this rule what a view is to every rule.
+pub fn meets(r: Masks, v: Pair) -> bool
+    ensures { λ o. ⌜ Decides o (Meets r v) ⌝ }
+{
+    if fires(r, v, v) {
+        if constraint(r) {
+            return false;
+        }
+        return sets::within(r.head, v);
+    }
+    r.need.taken & v.taken == 0
+}
+
+// The same of the first n rules.
+pub fn meets_all(words: &[u64], n: usize, v: Pair) -> bool
+    requires { ⌜ n * 8 ≤ length (now words) ⌝ }
+    ensures { λ o. ⌜ Decides o (MeetsAll (now (words .entry)) n v) ⌝ }
+{
+    let mut k = 0;
+    while k < n {
+        if !meets(masks_at(words, k), v) {
+            return false;
+        }
+        k += 1;
+    }
+    true
+}
+
+// The exception at place a is not taken, or none of those that it outranks is.
+pub fn level_at(rank: u64, a: u64, taken: u64) -> bool
+    requires { ⌜ a < 64 ⌝ }
+    ensures { λ o. ⌜ Decides o (bitOf taken a ≡ 1 → Apart rank taken) ⌝ }
+{
+    if (taken >> a) % 2 == 0 {
+        return true;
+    }
+    rank & taken == 0
+}
+
+// No taken exception outranks a taken one. The slice has for each exception those that it outranks.
+pub fn level(ranks: &[u64], taken: u64) -> bool
+    requires { ⌜ length (now ranks) ≤ 64 ⌝ }
+    ensures { λ o. ⌜ Decides o (Level (now (ranks .entry)) taken) ⌝ }
+{
+    let mut a = 0;
+    while a < ranks.len() {
+        if !level_at(ranks[a], a as u64, taken) {
+            return false;
+        }
+        a += 1;
+    }
+    true
+}
+
+// The pair is a view, by the definition.
+pub fn is_view(words: &[u64], n: usize, ranks: &[u64], v: Pair) -> bool
+    requires { ⌜ (n * 8 ≤ length (now words)) × (length (now ranks) ≤ 64) ⌝ }
+    ensures { λ o. ⌜ Decides o (MaskView (now (words .entry)) n (now (ranks .entry)) v) ⌝ }
+{
+    let held = v.held;
+    let denied = v.denied;
+    if held & denied != 0 {
+        return false;
+    }
+    let taken = v.taken;
+    if !level(ranks, taken) {
+        return false;
+    }
+    if !meets_all(words, n, v) {
+        return false;
+    }
+    sets::same(closure(words, n, Bounds { lo: v, hi: v }), v)
+}

@@ -1,0 +1,13 @@
+use native.Mathlib.Omega.{arith}
+use lib.Count.{trailing-le}
+use Rattle.queue.proofs.waiting.low.Statement.{statement}
+use Rattle.queue.proofs.waiting.low.Tie as tie
+
+cast-result : tie.Need-cast-result
+cast-result c = record { fits = omega (arith, trailing-le 64 (c .args .x)) }
+
+returns : tie.Need-returns
+returns c = trailing-le 64 _
+
+pub low-spec : {M : Type 1} → statement M
+low-spec = tie.close (tie.spec cast-result returns)
