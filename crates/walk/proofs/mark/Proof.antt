@@ -1,0 +1,37 @@
+use Prim.Native.Nat.{_-_, _≤_}
+use native.Mathlib.Omega.{arith}
+use borrow.Author.Needs.{needs}
+use Rattle.book.specs.Kinds.{sets}
+use Rattle.walk.specs.Marks.{Marked}
+use Rattle.walk.proofs.Marks.{marked-none, marked-more}
+use Rattle.walk.proofs.mark.Statement.{statement}
+use Rattle.walk.proofs.mark.Tie as tie
+
+abbrev Inv-loop : tie.InvT-loop
+Inv-loop marks₀ lo hi but t₀ marks t = Marked marks₀ lo hi but marks
+
+abbrev μ-loop : tie.MeasureT-loop
+μ-loop marks₀ lo hi but t₀ marks t = sets - t
+
+loop-holds : tie.Need-loop-holds Inv-loop μ-loop
+loop-holds c = marked-none _ _ _ _
+
+mark-one-requires : tie.Need-mark-one-requires Inv-loop μ-loop
+mark-one-requires c κs = omega arith
+
+add-t : tie.Need-add-t Inv-loop μ-loop
+add-t c = search needs
+
+loop-less : tie.Need-loop-less Inv-loop μ-loop
+loop-less c = omega arith
+
+loop-again : tie.Need-loop-again Inv-loop μ-loop
+loop-again c = marked-more _ _ _ _ _ _ (c .before .before .before .loop .inv) (c .mark-one .ensures)
+
+returns : tie.Need-returns Inv-loop μ-loop
+returns c = c .before .loop .inv
+
+pub mark-spec : {M : Type 1} → statement M
+mark-spec =
+    tie.close
+    (tie.spec Inv-loop μ-loop loop-holds mark-one-requires add-t loop-less loop-again returns)
