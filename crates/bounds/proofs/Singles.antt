@@ -17,7 +17,7 @@ use Rattle.sets.proofs.Pairs.{atom-held, atom-denied, atom-taken}
 use Rattle.bounds.specs.Singles.{wordOf, oneOf, Place, Picked}
 
 -- ---- the pair made
-shifted : (k : ℕ) → k < 64 → 1 * 2 ^ k % 2 ^ 64 ≡ 2 ^ k
+pub shifted : (k : ℕ) → k < 64 → 1 * 2 ^ k % 2 ^ 64 ≡ 2 ^ k
 shifted k h = shl-exact 1 k 64 (lit< tt) (omega arith) ∙ one-mul _
 
 module _ (s k : ℕ) (h : k < 64) where

@@ -1,10 +1,10 @@
 -- Each step keeps every view: why, by the fact about a view that it uses.
 -- A pair within the bounds stays within them when what it has goes in, or what it lacks goes out.
-use mathlib.Core.Path.{_≡_, refl}
-use mathlib.Core.Bool.{Bool, true, false, not}
-use mathlib.Core.List.{List, []}
+use mathlib.Core.Path.{_≡_}
+use mathlib.Core.Bool.{Bool, true, not}
+use mathlib.Core.List.{List}
 use mathlib.Core.Logic.{⊎-elim}
-use Prim.Native.Nat.{ℕ, _+_, _^_, _<_, _≤_}
+use Prim.Native.Nat.{ℕ, _^_, _<_}
 use native.Mathlib.Nat.{le-refl, le-trans}
 use native.Mathlib.Omega.{arith}
 use lib.Bits.{bitAnd}
@@ -13,7 +13,7 @@ use Rattle.logic.specs.Tests.{Decides}
 use Rattle.logic.proofs.Decide.{holds-or-not}
 use Rattle.sets.specs.declared.Pair.{Pair}
 use Rattle.sets.specs.Sets.{bitOf, Apart}
-use Rattle.sets.specs.Pairs.{Sub, Off, joinOf, meetOf, minusOf, Atom}
+use Rattle.sets.specs.Pairs.{Sub, Off, joinOf, meetOf, minusOf}
 use Rattle.sets.proofs.Digits.{bit-lt}
 use Rattle.sets.proofs.Words as N
 use Rattle.sets.proofs.Words.{none-off, off-is, none-and, single-has, single}

@@ -2,7 +2,7 @@
 -- One scan collects the heads of the rules that can fire, and what two of them share; what is sure and not shared has one rule alone.
 use mathlib.Core.Path.{_≡_, refl}
 use mathlib.Core.Bool.{Bool, true, false}
-use mathlib.Core.List.{List, []}
+use mathlib.Core.List.{List}
 use mathlib.Core.Logic.{_⊎_, inl, inr, ⊎-elim}
 use Prim.Native.Nat.{ℕ, _+_, _<_, _≤_}
 use native.Mathlib.Omega.{arith}
@@ -20,7 +20,7 @@ use Rattle.masks.proofs.Facts.{unsupported, only-support}
 use Rattle.bounds.specs.declared.Heads.{Heads}
 use Rattle.bounds.specs.Sound.{In, Keeps, outOf, Firing, Ruled}
 use Rattle.bounds.specs.Supports.{Scanned, Saw, Backed}
-use Rattle.bounds.proofs.Steps.{keeps-then, in-out, can}
+use Rattle.bounds.proofs.Steps.{in-out, can}
 
 -- ---- the scan
 module _ (r : Masks) (b : Bounds) (s : Heads) where

@@ -1,6 +1,6 @@
 // Sound steps on bounds: no view within them is lost. In which order steps are taken, no proof depends on.
 ghost use mathlib.Core.Path.{_≡_};
-ghost use Prim.Native.Nat.{ℕ, _+_, _*_, _<_, _≤_};
+ghost use Prim.Native.Nat.{_+_, _*_, _<_, _≤_};
 ghost use lib.ListN.{length};
 ghost use Rattle.masks.specs.Views.{Meets};
 ghost use Rattle.bounds.specs.Singles.{oneOf, Place, Picked};

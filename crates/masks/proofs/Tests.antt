@@ -3,7 +3,7 @@
 use mathlib.Core.Path.{_≡_, ap}
 use mathlib.Core.Bool.{Bool, true, false, not}
 use mathlib.Core.List.{List}
-use mathlib.Core.Logic.{_⊎_, inl, inr, ⊎-elim}
+use mathlib.Core.Logic.{⊎-elim}
 use Prim.Native.Nat.{ℕ, _+_, _<_, _≤_}
 use native.Mathlib.Nat.{le-refl}
 use native.Mathlib.Omega.{arith}
@@ -20,7 +20,6 @@ use Rattle.sets.proofs.Digits.{bit-lt}
 use Rattle.sets.proofs.Words.{decide, or-zero, off-is, and-none, none-and}
 use Rattle.sets.proofs.Pairs.{sub-refl, sub-trans, meet-l, sub-both}
 use Rattle.masks.specs.declared.Masks.{Masks}
-use Rattle.masks.specs.declared.Bounds.{Bounds}
 use Rattle.masks.specs.Views.{masksAt, Fires, Constraint, Meets, MeetsAll, Level, MaskView}
 use Rattle.masks.specs.Closures.{Closure}
 use Rattle.masks.proofs.Booleans.{refused, granted, decides-true, decides-false}

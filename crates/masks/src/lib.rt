@@ -1,6 +1,6 @@
 // Rules as masks, and the exact test of a view. A mask is a set of conclusions and exceptions in three words.
 ghost use mathlib.Core.Path.{_≡_};
-ghost use Prim.Native.Nat.{ℕ, _+_, _*_, _<_, _≤_};
+ghost use Prim.Native.Nat.{_+_, _*_, _<_, _≤_};
 ghost use lib.ListN.{length};
 ghost use Rattle.logic.specs.Tests.{Decides};
 ghost use Rattle.sets.specs.Sets.{bitOf, Apart};

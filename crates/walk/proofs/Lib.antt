@@ -1,2 +1,4 @@
 pub mod Places
 pub mod Marks
+pub mod Plans
+pub mod Walks

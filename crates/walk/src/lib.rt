@@ -1,45 +1,373 @@
-// The walk over all sets of exceptions in their order.
+// The walk over all sets of exceptions in their order: which of them a resolution can have.
 ghost use mathlib.Core.Path.{_≡_};
-ghost use mathlib.Core.Bool.{true};
-ghost use Prim.Native.Nat.{_<_};
+ghost use mathlib.Core.Bool.{true, false};
+ghost use Prim.Native.Nat.{_*_, _<_, _≤_};
+ghost use lib.ListN.{length};
 ghost use Rattle.book.specs.Kinds.{sets};
-ghost use Rattle.walk.specs.Marks.{Struck, Marked};
+ghost use Rattle.walk.specs.Marks.{Struck, Marked, Outranked, WithRank};
+ghost use Rattle.order.specs.Order.{setAt};
+ghost use Rattle.page.specs.Pages.{Fits};
+ghost use Rattle.walk.specs.Walks.{SetListed, Walked};
+ghost use Rattle.walk.specs.Plans.{withSets, NoView, Wider, MarksRight, Admits};
 use book::Book;
+use masks::Bounds;
+use page::Task;
+use probe::Answer;
+use queue::index;
+use queue::index::Index;
+use sets::Pair;
 
 // A byte for each set of exceptions, not 0 where the set is known to be that of no resolution.
 pub type Marks = [u8; Book::SETS];
 
-// The set t has all of lo, has nothing but what is in hi, and is not `but`.
-pub fn struck(lo: u64, hi: u64, but: u64, t: u64) -> bool
-    ensures { λ r. ⌜ (r ≡ true → Struck lo hi but t) ⌝ }
-{
-    if lo ^ (lo & t) != 0 {
-        return false;
-    }
-    if t ^ (t & hi) != 0 {
-        return false;
-    }
-    t != but
+// Which sets to mark: those that have a member of `any`, and those from lo to hi but one.
+pub struct Strike {
+    pub lo: u64,
+    pub hi: u64,
+    pub but: u64,
+    pub any: u64,
 }
 
-// Marks the set t if it lies from lo to hi and is not `but`.
-pub fn mark_one(marks: &mut Marks, t: usize, lo: u64, hi: u64, but: u64)
-    requires { ⌜ t < sets ⌝ }
-    ensures { λ _. ⌜ Marked (now (marks .entry)) lo hi but (now (marks .exit)) ⌝ }
+// The set t is one to mark.
+pub fn struck(s: Strike, t: u64) -> bool
+    ensures { λ r. ⌜ (r ≡ true → Struck s t) ⌝ }
 {
-    if !struck(lo, hi, but, t as u64) {
+    if t & s.any != 0 {
+        return true;
+    }
+    if s.lo ^ (s.lo & t) != 0 {
+        return false;
+    }
+    if t ^ (t & s.hi) != 0 {
+        return false;
+    }
+    t != s.but
+}
+
+// Marks the set t if it is one to mark.
+pub fn mark_one(marks: &mut Marks, s: Strike, t: usize)
+    requires { ⌜ t < sets ⌝ }
+    ensures { λ _. ⌜ Marked (now (marks .entry)) s (now (marks .exit)) ⌝ }
+{
+    if !struck(s, t as u64) {
         return;
     }
     marks[t] = 1;
 }
 
-// Marks every set from lo to hi but one.
-pub fn mark(marks: &mut Marks, lo: u64, hi: u64, but: u64)
-    ensures { λ _. ⌜ Marked (now (marks .entry)) lo hi but (now (marks .exit)) ⌝ }
+// Marks every set that is one to mark.
+pub fn mark(marks: &mut Marks, s: Strike)
+    ensures { λ _. ⌜ Marked (now (marks .entry)) s (now (marks .exit)) ⌝ }
 {
     let mut t: usize = 0;
     while t < Book::SETS {
-        mark_one(marks, t, lo, hi, but);
+        mark_one(marks, s, t);
         t += 1;
     }
+}
+
+// The set b with those of `rank`, if the exception at place a is taken.
+pub fn with_rank(rank: u64, a: u64, taken: u64, b: u64) -> u64
+    requires { ⌜ a < 64 ⌝ }
+    ensures { λ r. ⌜ WithRank rank a taken b r ⌝ }
+{
+    if (taken >> a) % 2 == 1 {
+        return b | rank;
+    }
+    b
+}
+
+// The exceptions that a member of `taken` outranks.
+pub fn outranked(ranks: &[u64], taken: u64) -> u64
+    requires { ⌜ length (now ranks) ≤ 64 ⌝ }
+    ensures { λ r. ⌜ Outranked (now (ranks .entry)) taken r ⌝ }
+{
+    let mut b = 0;
+    let mut a = 0;
+    while a < ranks.len() {
+        b = with_rank(ranks[a], a as u64, taken, b);
+        a += 1;
+    }
+    b
+}
+
+// The bounds root with only the sets of exceptions from lo to hi.
+pub fn with_sets(root: Bounds, lo: u64, hi: u64) -> Bounds
+    ensures { λ b. ⌜ b ≡ withSets root lo hi ⌝ }
+{
+    Bounds {
+        lo: Pair {
+            taken: root.lo.taken | lo,
+            held: root.lo.held,
+            denied: root.lo.denied,
+        },
+        hi: Pair {
+            taken: root.hi.taken & hi,
+            held: root.hi.held,
+            denied: root.hi.denied,
+        },
+    }
+}
+
+// Whether propagation alone shows that no view has a set of exceptions from lo to hi.
+pub fn refuted(
+    words: &[u64],
+    n: usize,
+    ranks: &[u64],
+    index: &Index,
+    root: Bounds,
+    lo: u64,
+    hi: u64,
+) -> bool
+    requires { ⌜ (n * 8 ≤ length (now words)) × (length (now ranks) ≤ 64) ⌝ }
+    ensures { λ r. ⌜ (r ≡ true → NoView (now (words .entry)) n (now (ranks .entry)) root lo hi) ⌝ }
+{
+    let b = with_sets(root, lo, hi);
+    let o = queue::propagate(words, n, ranks, index, index::changed(index, root, b), b);
+    !sets::within(o.lo, o.hi)
+}
+
+// Sets of exceptions from lo to hi.
+pub struct Range {
+    pub lo: u64,
+    pub hi: u64,
+}
+
+// The range with and without the exception at place e too, if propagation still shows that it has no view.
+pub fn wider(
+    words: &[u64],
+    n: usize,
+    ranks: &[u64],
+    index: &Index,
+    root: Bounds,
+    s: Range,
+    e: u64,
+) -> Range
+    requires { ⌜ (n * 8 ≤ length (now words)) × (length (now ranks) ≤ 64) × (e < 64) ⌝ }
+    ensures { λ r. ⌜ Wider (now (words .entry)) n (now (ranks .entry)) root s r ⌝ }
+{
+    let bit = 1 << e;
+    let lo = s.lo ^ (s.lo & bit);
+    let hi = s.hi | bit;
+    if refuted(words, n, ranks, index, root, lo, hi) {
+        return Range { lo, hi };
+    }
+    s
+}
+
+// A range of sets without a view around one that has none.
+pub fn widened(
+    words: &[u64],
+    n: usize,
+    ranks: &[u64],
+    index: &Index,
+    root: Bounds,
+    t: u64,
+) -> Range
+    requires { ⌜ (n * 8 ≤ length (now words)) × (length (now ranks) ≤ 64) ⌝ }
+    ensures { λ r. ⌜ Wider (now (words .entry)) n (now (ranks .entry)) root (record { lo = t; hi = t }) r ⌝ }
+{
+    let mut s = Range { lo: t, hi: t };
+    let mut e = 0;
+    while e < ranks.len() {
+        s = wider(words, n, ranks, index, root, s, e as u64);
+        e += 1;
+    }
+    s
+}
+
+// Whether a set was admitted, and how much may still be spent on marking sets without a view.
+pub struct Admission {
+    pub ok: bool,
+    pub credit: u64,
+}
+
+// What is left to spend after a range was marked: marking is worth while where ranges are wide.
+pub fn spent(s: Range, credit: u64) -> u64 {
+    if u64::count_ones(s.lo ^ s.hi) < 4 {
+        if credit == 0 {
+            return 0;
+        }
+        return credit - 1;
+    }
+    credit
+}
+
+// Marks a range of sets around t, which has no view.
+pub fn mark_around(
+    words: &[u64],
+    n: usize,
+    ranks: &[u64],
+    index: &Index,
+    root: Bounds,
+    t: u64,
+    credit: u64,
+    marks: &mut Marks,
+) -> u64
+    requires { ⌜ (n * 8 ≤ length (now words)) × (length (now ranks) ≤ 64) ⌝ }
+    ensures { λ _. ⌜ (NoView (now (words .entry)) n (now (ranks .entry)) root t t → MarksRight (now (words .entry)) n (now (ranks .entry)) root (now (marks .entry)) (now (marks .exit))) ⌝ }
+{
+    if credit == 0 {
+        return 0;
+    }
+    let s = widened(words, n, ranks, index, root, t);
+    mark(
+        marks,
+        Strike {
+            lo: s.lo,
+            hi: s.hi,
+            but: 0xffff_ffff_ffff_ffff,
+            any: 0,
+        },
+    );
+    spent(s, credit)
+}
+
+// Whether a resolution can have the set t, of which a view may be found. A view that is found marks the sets that it surpasses.
+pub fn tested(
+    words: &[u64],
+    n: usize,
+    ranks: &[u64],
+    index: &Index,
+    root: Bounds,
+    t: u64,
+    marks: &mut Marks,
+) -> bool
+    requires { ⌜ (n * 8 ≤ length (now words)) × (length (now ranks) ≤ 64) × (t < sets) ⌝ }
+    ensures { λ r. ⌜ Admits (now (words .entry)) n (now (ranks .entry)) root t (now (marks .entry)) (now (marks .exit)) r ⌝ }
+{
+    let b = with_sets(root, t, t);
+    let w = index::changed(index, root, b);
+    let a = probe::probe(words, n, ranks, index, w, b);
+    match a {
+        Answer::Nothing => false,
+        Answer::Found(v) => {
+            let taken = v.taken;
+            let any = outranked(ranks, taken);
+            mark(
+                marks,
+                Strike {
+                    lo: taken,
+                    hi: 0xffff_ffff_ffff_ffff,
+                    but: taken,
+                    any,
+                },
+            );
+            let place = t as usize;
+            if marks[place] != 0 {
+                return false;
+            }
+            admissible::admissible(words, n, ranks, index, root, t)
+        }
+    }
+}
+
+// Whether a resolution can have the set t: not where it is marked, nor where propagation shows that it has no view.
+pub fn admits(
+    words: &[u64],
+    n: usize,
+    ranks: &[u64],
+    index: &Index,
+    root: Bounds,
+    t: u64,
+    credit: u64,
+    marks: &mut Marks,
+) -> Admission
+    requires { ⌜ (n * 8 ≤ length (now words)) × (length (now ranks) ≤ 64) × (t < sets) ⌝ }
+    ensures { λ r. ⌜ Admits (now (words .entry)) n (now (ranks .entry)) root t (now (marks .entry)) (now (marks .exit)) (r .ok) ⌝ }
+{
+    let place = t as usize;
+    if marks[place] != 0 {
+        return Admission { ok: false, credit };
+    }
+    if t ^ (t & root.hi.taken) != 0 {
+        return Admission { ok: false, credit };
+    }
+    if root.lo.taken ^ (root.lo.taken & t) != 0 {
+        return Admission { ok: false, credit };
+    }
+    if refuted(words, n, ranks, index, root, t, t) {
+        let left = mark_around(words, n, ranks, index, root, t, credit, marks);
+        return Admission {
+            ok: false,
+            credit: left,
+        };
+    }
+    let ok = tested(words, n, ranks, index, root, t, marks);
+    Admission { ok, credit }
+}
+
+// How far a page is filled, and what may still be spent on marking.
+pub struct Filled {
+    pub at: usize,
+    pub credit: u64,
+}
+
+// Puts the resolutions with the set t on the page; where `after` is true only those later than the task's point, which has that set.
+pub fn list_set(
+    words: &[u64],
+    ranks: &[u64],
+    index: &Index,
+    root: Bounds,
+    task: Task,
+    t: u64,
+    after: bool,
+    filled: Filled,
+    marks: &mut Marks,
+    out: &mut [u64],
+) -> Filled
+    requires { ⌜ Fits (now words) (now ranks) (now out) task (filled .at) × (t < sets) ⌝ }
+    ensures { λ r. ⌜ SetListed (now (words .entry)) (now (ranks .entry)) root task t after (filled .at) (now (marks .entry)) (now (marks .exit)) (now (out .entry)) (now (out .exit)) (r .at) ⌝ }
+{
+    let a = admits(words, task.rules, ranks, index, root, t, filled.credit, marks);
+    let credit = a.credit;
+    let at = filled.at;
+    if !a.ok {
+        return Filled { at, credit };
+    }
+    let r = page::list_views(words, ranks, index, task, t, after, out, at);
+    Filled { at: r, credit }
+}
+
+// Puts the resolutions with the sets from place `from` on on the page, until it is full.
+pub fn walk(
+    words: &[u64],
+    ranks: &[u64],
+    index: &Index,
+    root: Bounds,
+    task: Task,
+    from: usize,
+    filled: Filled,
+    marks: &mut Marks,
+    out: &mut [u64],
+) -> usize
+    requires { ⌜ Fits (now words) (now ranks) (now out) task (filled .at) × (from ≤ sets) ⌝ }
+    ensures { λ r. ⌜ Walked (now (words .entry)) (now (ranks .entry)) root task from (filled .at) (now (marks .entry)) (now (out .entry)) (now (out .exit)) r ⌝ }
+{
+    let mut f = filled;
+    let mut j = from;
+    while j < Book::SETS {
+        let at = f.at;
+        if task.room <= at {
+            return at;
+        }
+        f = list_set(words, ranks, index, root, task, order::set_at(j), false, f, marks, out);
+        j += 1;
+    }
+    f.at
+}
+
+// The place of a set in the order.
+pub fn place_of(t: u64) -> usize
+    requires { ⌜ t < sets ⌝ }
+    ensures { λ r. ⌜ (r < sets) × (setAt r ≡ t) ⌝ }
+{
+    let mut j: usize = 0;
+    while j < Book::SETS - 1 {
+        if order::set_at(j) == t {
+            return j;
+        }
+        j += 1;
+    }
+    j
 }

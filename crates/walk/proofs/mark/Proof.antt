@@ -1,4 +1,4 @@
-use Prim.Native.Nat.{_-_, _≤_}
+use Prim.Native.Nat.{_-_}
 use native.Mathlib.Omega.{arith}
 use borrow.Author.Needs.{needs}
 use Rattle.book.specs.Kinds.{sets}
@@ -8,13 +8,13 @@ use Rattle.walk.proofs.mark.Statement.{statement}
 use Rattle.walk.proofs.mark.Tie as tie
 
 abbrev Inv-loop : tie.InvT-loop
-Inv-loop marks₀ lo hi but t₀ marks t = Marked marks₀ lo hi but marks
+Inv-loop marks₀ s t₀ marks t = Marked marks₀ s marks
 
 abbrev μ-loop : tie.MeasureT-loop
-μ-loop marks₀ lo hi but t₀ marks t = sets - t
+μ-loop marks₀ s t₀ marks t = sets - t
 
 loop-holds : tie.Need-loop-holds Inv-loop μ-loop
-loop-holds c = marked-none _ _ _ _
+loop-holds c = marked-none _ _
 
 mark-one-requires : tie.Need-mark-one-requires Inv-loop μ-loop
 mark-one-requires c κs = omega arith
@@ -26,7 +26,7 @@ loop-less : tie.Need-loop-less Inv-loop μ-loop
 loop-less c = omega arith
 
 loop-again : tie.Need-loop-again Inv-loop μ-loop
-loop-again c = marked-more _ _ _ _ _ _ (c .before .before .before .loop .inv) (c .mark-one .ensures)
+loop-again c = marked-more _ _ _ _ (c .before .before .before .loop .inv) (c .mark-one .ensures)
 
 returns : tie.Need-returns Inv-loop μ-loop
 returns c = c .before .loop .inv

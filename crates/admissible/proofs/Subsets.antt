@@ -1,0 +1,82 @@
+-- A set of exceptions is minimal exactly where, for each of its members, there is no view within the set without that member.
+-- A proper subset lacks some member; one probe for each member decides.
+use mathlib.Core.Path.{_≡_, refl}
+use mathlib.Core.Bool.{Bool, true, false, not}
+use mathlib.Core.List.{List}
+use mathlib.Core.Logic.{⊎-elim}
+use Prim.Native.Nat.{ℕ, zero, suc, _+_, _*_, _^_, _%_, _<_, _≤_}
+use native.Mathlib.Nat.{le-refl, le-trans}
+use native.Mathlib.Omega.{arith}
+use lib.Bits.{bitAnd, bitXor}
+use borrow.Author.Count.{below-more}
+use Rattle.logic.specs.Tests.{Decides}
+use Rattle.sets.specs.declared.Pair.{Pair}
+use Rattle.sets.specs.Sets.{bitOf, Within, Apart, without}
+use Rattle.sets.proofs.Digits.{bit-lt, bit-over, bit-without, lt-or-le}
+use Rattle.sets.proofs.Words as N
+use Rattle.sets.proofs.Words.{single, single-has}
+use Rattle.sets.proofs.Pairs.{sub-trans}
+use Rattle.masks.specs.declared.Bounds.{Bounds}
+use Rattle.masks.specs.Views.{MaskView}
+use Rattle.masks.proofs.Booleans.{refused, granted, decides-true, decides-false}
+use Rattle.bounds.specs.Sound.{In}
+use Rattle.bounds.proofs.Singles.{shifted}
+use Rattle.probe.specs.declared.Answer.{Answer}
+use Rattle.probe.specs.declared.Answer.the-variants.{Found, Nothing}
+use Rattle.probe.specs.Probes.{Probed}
+use Rattle.admissible.specs.Admissible.{belowOf, Minimal, MinimalAt}
+
+-- The bounds as the code makes them.
+pub below-is : (root : Bounds) (taken e : ℕ) → e < 64 → _≡_ {A = Bounds} (record {
+  lo = root .lo;
+  hi = record { taken = bitAnd (root .hi .taken) (bitXor taken (bitAnd taken (1 * 2 ^ e % 2 ^ 64))); held = root .hi .held; denied = root .hi .denied };
+}) (belowOf root taken e)
+unfolding belowOf
+below-is root taken e h = rw (shifted e h)
+
+lacks : (v e : ℕ) → bitOf v e ≡ 0 → Apart v (2 ^ e)
+lacks v e z = ⊎-elim (λ f. absurd (let q = single-has e v f in omega arith)) (λ f i. let q = f i in omega arith) (single e v)
+
+module _ (ws : List ℕ) (n : ℕ) (ranks : List ℕ) (root : Bounds) (taken e : ℕ) where
+  pub minimal-absent : bitOf taken e ≡ 0 → Decides true (MinimalAt ws n ranks root taken e)
+  minimal-absent z = decides-true (record { has = λ v w x f. omega arith })
+
+  module _ (b : Bounds) (eb : b ≡ belowOf root taken e) (a : Answer) (p : Probed ws n ranks b a) where
+    -- A view that is found has a subset of taken that lacks e.
+    pub minimal-found : (u : Pair) → (bitOf taken e ≡ 0 → ⊥) → a ≡ Found u → Decides false (MinimalAt ws n ranks root taken e)
+    unfolding belowOf
+    minimal-found u z ea = decides-false (λ k.
+        let f = rw eb at (p .found u ea) in
+        let x : In root u = record { lo = f .1 .lo; hi = sub-trans (f .1 .hi) (record { held = λ i. le-refl _; denied = λ i. le-refl _; taken = N.and-l _ _ }) } in
+        let s : Within (u .taken) (without taken (2 ^ e)) = λ i. le-trans (f .1 .hi .taken i) (N.and-r (root .hi .taken) (without taken (2 ^ e)) i) in
+        let t : Within (u .taken) taken = λ i. le-trans (s i) (N.minus-sub taken (2 ^ e) i) in
+        let own = single-has e (2 ^ e) (λ i. le-refl _) in
+        let y = k .has u (f .0) x t in
+        z (omega (arith, s e, bit-without taken (2 ^ e) e, bit-lt taken e)))
+
+    pub minimal-none : a ≡ Nothing → Decides true (MinimalAt ws n ranks root taken e)
+    unfolding belowOf
+    minimal-none ea = decides-true (record { has = λ v w x f. go v w x f (bitOf (v .taken) e) refl })
+      where
+        go : (v : Pair) → MaskView ws n ranks v → In root v → Within (v .taken) taken → (d : ℕ) → bitOf (v .taken) e ≡ d → bitOf taken e ≤ d
+        go v w x f zero ed = absurd (p .none ea v w (rw eb (record {
+          lo = x .lo;
+          hi = record { held = x .hi .held; denied = x .hi .denied; taken = N.sub-and _ _ _ (x .hi .taken) (N.sub-minus _ _ _ f (lacks (v .taken) e ed)) };
+        })))
+        go v w x f (suc d) ed = omega (arith, bit-lt taken e)
+
+-- ---- all members
+abbrev pub MinimalTo : List ℕ → ℕ → List ℕ → Bounds → ℕ → ℕ → Type 0
+MinimalTo ws n ranks root taken k = (e : ℕ) → e < k → MinimalAt ws n ranks root taken e
+
+module _ (ws : List ℕ) (n : ℕ) (ranks : List ℕ) (root : Bounds) (taken e : ℕ) where
+  module _ (b : Bool) (d : Decides b (MinimalAt ws n ranks root taken e)) where
+    pub minimal-lost : not b ≡ true → Decides false (Minimal ws n ranks root taken)
+    minimal-lost q = decides-false (λ m. refused d q (record { has = λ v w x f. m .has v w x f e }))
+
+    pub minimal-turn : MinimalTo ws n ranks root taken e → not b ≡ false → MinimalTo ws n ranks root taken (e + 1)
+    minimal-turn f q = below-more _ e f (granted d q)
+
+  pub minimal-won : taken < 2 ^ 64 → 64 ≤ e → MinimalTo ws n ranks root taken e → Decides true (Minimal ws n ranks root taken)
+  minimal-won h g f =
+      decides-true (record { has = λ v w x s i. ⊎-elim (λ l. f i (omega arith) .has v w x s) (λ l. omega (arith, bit-over taken 64 i h l)) (lt-or-le i 64) })

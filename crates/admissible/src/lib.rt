@@ -1,0 +1,140 @@
+// Which sets of exceptions a resolution can have: no view has a proper subset, and no view has a member that outranks one.
+ghost use mathlib.Core.Path.{_≡_};
+ghost use Prim.Native.Nat.{_*_, _<_, _≤_};
+ghost use lib.ListN.{length};
+ghost use Rattle.logic.specs.Tests.{Decides};
+ghost use Rattle.admissible.specs.Admissible.{belowOf, Minimal, MinimalAt, Undominated, UndominatedAt, Admissible};
+use masks::Bounds;
+use probe::Answer;
+use queue::index;
+use queue::index::Index;
+use sets::Pair;
+
+// The bounds root with no exceptions but those of `taken`, the one at place e left out.
+pub fn below(root: Bounds, taken: u64, e: u64) -> Bounds
+    requires { ⌜ e < 64 ⌝ }
+    ensures { λ b. ⌜ b ≡ belowOf root taken e ⌝ }
+{
+    let lo = root.lo;
+    Bounds {
+        lo,
+        hi: Pair {
+            taken: root.hi.taken & (taken ^ (taken & (1 << e))),
+            held: root.hi.held,
+            denied: root.hi.denied,
+        },
+    }
+}
+
+// No view within root has a subset of `taken` that lacks its exception at place e.
+pub fn minimal_at(
+    words: &[u64],
+    n: usize,
+    ranks: &[u64],
+    index: &Index,
+    root: Bounds,
+    taken: u64,
+    e: u64,
+) -> bool
+    requires { ⌜ (n * 8 ≤ length (now words)) × (length (now ranks) ≤ 64) × (e < 64) ⌝ }
+    ensures { λ r. ⌜ Decides r (MinimalAt (now (words .entry)) n (now (ranks .entry)) root taken e) ⌝ }
+{
+    if (taken >> e) % 2 == 0 {
+        return true;
+    }
+    let b = below(root, taken, e);
+    let t = index::changed(index, root, b);
+    let a = probe::probe(words, n, ranks, index, t, b);
+    match a {
+        Answer::Found(_) => false,
+        Answer::Nothing => true,
+    }
+}
+
+// No view within root has a proper subset of `taken`.
+pub fn minimal(
+    words: &[u64],
+    n: usize,
+    ranks: &[u64],
+    index: &Index,
+    root: Bounds,
+    taken: u64,
+) -> bool
+    requires { ⌜ (n * 8 ≤ length (now words)) × (length (now ranks) ≤ 64) ⌝ }
+    ensures { λ r. ⌜ Decides r (Minimal (now (words .entry)) n (now (ranks .entry)) root taken) ⌝ }
+{
+    let mut e: u64 = 0;
+    while e < 64 {
+        if !minimal_at(words, n, ranks, index, root, taken, e) {
+            return false;
+        }
+        e += 1;
+    }
+    true
+}
+
+// No view within root takes the exception at place a, if that outranks a member of `taken`.
+pub fn undominated_at(
+    words: &[u64],
+    n: usize,
+    ranks: &[u64],
+    index: &Index,
+    root: Bounds,
+    taken: u64,
+    rank: u64,
+    a: u64,
+) -> bool
+    requires { ⌜ (n * 8 ≤ length (now words)) × (length (now ranks) ≤ 64) × (a < 64) ⌝ }
+    ensures { λ r. ⌜ Decides r (UndominatedAt (now (words .entry)) n (now (ranks .entry)) root taken rank a) ⌝ }
+{
+    if rank & taken == 0 {
+        return true;
+    }
+    let b = bounds::into(root, bounds::one(bounds::TAKEN, a));
+    let t = index::changed(index, root, b);
+    let f = probe::probe(words, n, ranks, index, t, b);
+    match f {
+        Answer::Found(_) => false,
+        Answer::Nothing => true,
+    }
+}
+
+// No view within root takes an exception that outranks a member of `taken`.
+pub fn undominated(
+    words: &[u64],
+    n: usize,
+    ranks: &[u64],
+    index: &Index,
+    root: Bounds,
+    taken: u64,
+) -> bool
+    requires { ⌜ (n * 8 ≤ length (now words)) × (length (now ranks) ≤ 64) ⌝ }
+    ensures { λ r. ⌜ Decides r (Undominated (now (words .entry)) n (now (ranks .entry)) root taken) ⌝ }
+{
+    let mut a = 0;
+    while a < ranks.len() {
+        if !undominated_at(words, n, ranks, index, root, taken, ranks[a], a as u64) {
+            return false;
+        }
+        a += 1;
+    }
+    true
+}
+
+// The set is one that a resolution can have, among the views within root. The bounds root should be at rest.
+pub fn admissible(
+    words: &[u64],
+    n: usize,
+    ranks: &[u64],
+    index: &Index,
+    root: Bounds,
+    taken: u64,
+) -> bool
+    requires { ⌜ (n * 8 ≤ length (now words)) × (length (now ranks) ≤ 64) ⌝ }
+    ensures { λ r. ⌜ Decides r (Admissible (now (words .entry)) n (now (ranks .entry)) root taken) ⌝ }
+{
+    if !minimal(words, n, ranks, index, root, taken) {
+        return false;
+    }
+    undominated(words, n, ranks, index, root, taken)
+}

@@ -1,0 +1,10 @@
+pub mod Lists
+pub mod Singles
+pub mod Entries
+pub mod Reducts
+pub mod Rules
+pub mod Levels
+pub mod Ranks
+pub mod Views
+pub mod Roots
+pub mod Rows

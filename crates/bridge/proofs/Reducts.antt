@@ -1,0 +1,38 @@
+-- Closure under the reduct, as one condition on each rule: if no barred entry is in S and every needed entry is in t, the head is in t.
+-- By induction on the rules; the reduct drops or keeps the first by the same test.
+use mathlib.Core.Path.{_≡_, refl, sym, _∙_}
+use mathlib.Core.Bool.{Bool, true, false, not}
+use mathlib.Core.List.{List, [], _∷_}
+use mathlib.Core.Logic.{_↔_}
+use Rattle.logic.specs.Lists.{Every}
+use Rattle.logic.specs.Tests.{consIf}
+use Rattle.logic.proofs.Decide.{clash}
+use Rattle.meaning.specs.Literals.{Literal, Conclusions, isIn, _∈_}
+use Rattle.meaning.specs.Rules.{Rule}
+use Rattle.meaning.specs.AnswerSets.{someIn, struck, reduct, Given, Closed}
+
+module _ (s : Conclusions) where
+  none-in : (ls : List Literal) → (someIn s ls ≡ false) ↔ Every (λ l. l ∈ s → ⊥) ls
+  unfolding someIn
+  none-in [] = (λ e. tt, λ h. refl)
+  none-in (l ∷ ls) = go (isIn l s) refl (none-in ls)
+    where
+      go : (b : Bool) → isIn l s ≡ b → (someIn s ls ≡ false) ↔ Every (λ l. l ∈ s → ⊥) ls
+          → (elim b as (λ _. Bool) [ true ↦ true | false ↦ someIn s ls ] ≡ false) ↔ ((l ∈ s → ⊥) × Every (λ l. l ∈ s → ⊥) ls)
+      go true q ih = (λ e. absurd (clash (sym e)), λ h. absurd (h .0 q))
+      go false q ih = (λ e. (λ m. clash (sym q ∙ m), ih .0 e), λ h. ih .1 (h .1))
+
+  -- What closure of t under the reduct by s asks of a rule.
+  abbrev pub Asks : Conclusions → Rule → Type 0
+  Asks t r = Every (λ l. l ∈ s → ⊥) (r .body .barred) → Every (λ l. l ∈ t) (r .body .needed) → Given (r .head) t
+
+  reduct-step : (t : Conclusions) (r : Rule) (rs : List Rule) (b : Bool) → someIn s (r .body .barred) ≡ b → Closed (reduct s rs) t ↔ Every (Asks t) rs
+      → Closed (consIf (not b) (struck r) (reduct s rs)) t ↔ (Asks t r × Every (Asks t) rs)
+  unfolding consIf struck
+  reduct-step t r rs true q ih = (λ h. (λ o. absurd (clash (sym (none-in (r .body .barred) .1 o) ∙ q)), ih .0 h), λ h. ih .1 (h .1))
+  reduct-step t r rs false q ih = (λ h. (λ o. h .0, ih .0 (h .1)), λ h. (h .0 (none-in (r .body .barred) .0 q), ih .1 (h .1)))
+
+  pub closed-reduct : (t : Conclusions) (rs : List Rule) → Closed (reduct s rs) t ↔ Every (Asks t) rs
+  unfolding reduct
+  closed-reduct t [] = (λ h. tt, λ h. tt)
+  closed-reduct t (r ∷ rs) = reduct-step t r rs (someIn s (r .body .barred)) refl (closed-reduct t rs)

@@ -1,0 +1,66 @@
+-- The rules of a book as the masks that the search reads, eight words for each rule.
+use Prim.Native.Nat.{ℕ, suc, _-_, _^_, _<_}
+use mathlib.Core.Path.{_≡_}
+use mathlib.Core.List.{List, [], _∷_, _++_}
+use lib.ListN.{length, getD}
+use Rattle.sets.specs.declared.Pair.{Pair}
+use Rattle.sets.specs.Pairs.{joinOf}
+use Rattle.meaning.specs.Literals.{Literal, pos, neg}
+use Rattle.meaning.specs.Rules.{Head, none, gives, Rule}
+use Rattle.meaning.specs.Books.{Book}
+use Rattle.masks.specs.declared.Masks.{Masks}
+use Rattle.masks.specs.Views.{masksAt}
+
+-- The pair that has nothing.
+abbrev pub nothing : Pair
+nothing = record { taken = 0; held = 0; denied = 0 }
+
+-- The pair that has one conclusion: statement i stands at place i - 1 of its word.
+unfoldable pub maskOf : Literal → Pair
+maskOf (pos i) = record { taken = 0; held = 2 ^ (i - 1); denied = 0 }
+maskOf (neg i) = record { taken = 0; held = 0; denied = 2 ^ (i - 1) }
+
+-- The pair that has the entries of a list.
+unfoldable pub maskAll : List Literal → Pair
+maskAll [] = nothing
+maskAll (l ∷ ls) = joinOf (maskOf l) (maskAll ls)
+
+-- The pair that has the head's conclusion; a constraint's has nothing.
+unfoldable pub maskHead : Head → Pair
+maskHead none = nothing
+maskHead (gives l) = maskOf l
+
+-- A rule of a book, with the set that holds its own exception and nothing else; the set is empty for a plain rule.
+pub record Tagged : Type 0 where
+  pub own : ℕ
+  pub rule : Rule
+
+-- The masks of a rule: its head, its needed entries with its own exception, its barred entries.
+unfoldable pub masksOf : Tagged → Masks
+masksOf x = record {
+  head = maskHead (x .rule .head);
+  need = record { taken = x .own; held = maskAll (x .rule .body .needed) .held; denied = maskAll (x .rule .body .needed) .denied };
+  bar = maskAll (x .rule .body .barred);
+}
+
+-- Plain rules; exceptions, the first of which stands at place k.
+unfoldable pub plainly : List Rule → List Tagged
+plainly [] = []
+plainly (r ∷ rs) = record { own = 0; rule = r } ∷ plainly rs
+
+unfoldable pub numbered : ℕ → List Rule → List Tagged
+numbered k [] = []
+numbered k (r ∷ rs) = record { own = 2 ^ k; rule = r } ∷ numbered (suc k) rs
+
+-- All rules of a book: the plain ones, then the exceptions.
+unfoldable pub rulesOf : Book → List Tagged
+rulesOf b = plainly (b .plain) ++ numbered 0 (b .exceptions)
+
+-- What stands past the end of a list of rules.
+abbrev pub blank : Tagged
+blank = record { own = 0; rule = record { head = none; body = record { needed = []; barred = [] } } }
+
+-- The words hold the n rules of the book, in order; there may be more words after them.
+pub record Packs (b : Book) (ws : List ℕ) (n : ℕ) : Type 0 where
+  pub count : n ≡ length (rulesOf b)
+  pub rule-at : (k : ℕ) → k < n → masksAt ws k ≡ masksOf (getD (rulesOf b) k blank)

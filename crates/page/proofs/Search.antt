@@ -1,0 +1,176 @@
+-- Each return of the search makes the page that was promised.
+-- A settled pair is listed if it passes; the values tried one after the other list what their statement lists.
+use mathlib.Core.Path.{_≡_, refl}
+use mathlib.Core.Bool.{Bool, true, false, not}
+use mathlib.Core.List.{List, [], _∷_, _++_}
+use Prim.Native.Nat.{ℕ, zero, suc, _+_, _-_, _*_, _^_, _<_, _≤_}
+use native.Mathlib.Nat.{le-refl, lt-of-lt-of-le}
+use native.Mathlib.Numerals.{sub-one}
+use native.Mathlib.Omega.{arith}
+use lib.ListN.{length}
+use lib.Pow.{pow-pos, pow-mono}
+use lib.Seq.{sets}
+use Rattle.logic.specs.Tests.{Decides, both, pick, keep, consIf}
+use Rattle.logic.proofs.Decide.{holds, fails}
+use Rattle.logic.proofs.Members.{every-at, among-left, among-right}
+use Rattle.sets.specs.declared.Pair.{Pair}
+use Rattle.sets.proofs.Words.{none-sub}
+use Rattle.masks.specs.declared.Bounds.{Bounds}
+use Rattle.masks.specs.Views.{MaskView}
+use Rattle.masks.proofs.Booleans.{refused, granted}
+use Rattle.bounds.specs.Sound.{Propagated}
+use Rattle.meaning.specs.Twins.Tables.{differsFrom}
+use Rattle.page.specs.declared.Task.{Task}
+use Rattle.page.specs.declared.Node.{Node}
+use Rattle.page.specs.declared.Branch.{Branch}
+use Rattle.page.specs.declared.Branch.the-variants.{Cut, Open}
+use Rattle.page.specs.Orders.{bare, given, tried, allFrom, passes, listFrom}
+use Rattle.page.specs.Pages.{flat, Tests, Rooted, Fits, Ready, Settled, passing, triedFrom, Tried, branchFrom, BranchReady, Child, Branched, Listed}
+use Rattle.page.proofs.Pages.{page-none, page-full, page-append, page-one}
+use Rattle.page.proofs.Orders.{Extends, all-extend, all-below}
+use Rattle.page.proofs.General.{within-every, keep-append}
+
+-- ---- tests of the point
+pub where-equal : (t x : Bool) → t ≡ true → x ≡ both t x
+unfolding both
+where-equal t x e = rw e
+
+pub where-not : (t x : Bool) → t ≡ false → false ≡ both t x
+unfolding both
+where-not t x e = rw e
+
+-- ---- every statement settled
+module _ (ws ranks : List ℕ) (q : Task) (d : Node) (at : ℕ) (o : List ℕ) (h : at < q .room) where
+  -- The list of one pair.
+  last-list : (g : Pair → Bool) → passing g q 0 d (allFrom (q .statements) 0 (d .pair)) ≡ consIf (both (pick (d .equal) false true) (g (d .pair))) (d .pair) []
+  unfolding allFrom keep passes differsFrom
+  last-list g = refl
+
+  pub finish-equal : d .equal ≡ true → Settled ws ranks q 0 d at o o at
+  unfolding pick both consIf
+  finish-equal e = record { most = omega arith; page = λ g tg. rw (last-list g, e) (page-none (q .room) at o) }
+
+  module _ (e : d .equal ≡ false) (z : Bool) (dz : Decides z (MaskView ws (q .rules) ranks (d .pair))) where
+    own : (g : Pair → Bool) → Tests ws (q .rules) ranks (allFrom (q .statements) 0 (d .pair)) g → Decides (g (d .pair)) (MaskView ws (q .rules) ranks (d .pair))
+    unfolding allFrom
+    own g tg = tg .right (d .pair) (mathlib.Core.Logic.inl refl)
+
+    pub finish-not : not z ≡ true → Settled ws ranks q 0 d at o o at
+    unfolding pick both consIf
+    finish-not ez = record { most = omega arith; page = λ g tg. rw (last-list g, e, fails (own g tg) (refused dz ez)) (page-none (q .room) at o) }
+
+    pub finish-put : (o′ : List ℕ) → not z ≡ false → o′ ≡ sets o (at * 3) (flat (d .pair ∷ [])) → Settled ws ranks q 0 d at o o′ (at + 1)
+    unfolding pick both consIf
+    finish-put o′ ez eo = record { most = omega arith; page = λ g tg. rw (last-list g, e, holds (own g tg) (granted dz ez)) (page-one (q .room) at o o′ (d .pair) h eo) }
+
+-- ---- a statement and its values
+-- The values of the first statement left are all that come from the node.
+pub settle-open : (ws ranks : List ℕ) (q : Task) (left : ℕ) (d : Node) (at : ℕ) (o o′ : List ℕ) (r : ℕ) → (left ≡ 0 → ⊥) → Tried ws ranks q (left - 1) 3 d at o o′ r → Settled ws ranks q left d at o o′ r
+unfolding listFrom allFrom
+settle-open ws ranks q zero d at o o′ r n w = absurd (n refl)
+settle-open ws ranks q (suc l) d at o o′ r n w = let v : Tried ws ranks q l 3 d at o o′ r = rw sub-one at w in record { most = v .most; page = v .page }
+
+pub settle-last : (ws ranks : List ℕ) (q : Task) (left : ℕ) (d : Node) (at : ℕ) (o o′ : List ℕ) (r : ℕ) → left ≡ 0 → Settled ws ranks q 0 d at o o′ r → Settled ws ranks q left d at o o′ r
+settle-last ws ranks q left d at o o′ r e w = rw e w
+
+fits-again : (ws ranks o o′ : List ℕ) (q : Task) (at r : ℕ) → Fits ws ranks o q at → length o′ ≡ length o → r ≤ q .room → Fits ws ranks o′ q r
+fits-again ws ranks o o′ q at r f e h = record { suits = f .suits; place = h; long = rw e (f .long) }
+
+-- The slice changed and the place moved on.
+pub ready-again : (ws ranks o o′ : List ℕ) (q : Task) (left : ℕ) (d : Node) (at r : ℕ) → Ready ws ranks o q left d at → length o′ ≡ length o → r ≤ q .room → Ready ws ranks o′ q left d r
+ready-again ws ranks o o′ q left d at r rd e h = record { fits = fits-again ws ranks o o′ q at r (rd .fits) e h; unsettled = rd .unsettled; covers = rd .covers }
+
+-- The last v values are the first of them and the others.
+tried-first : (f : Pair → List Pair) (p : Pair) (i v : ℕ) → (v ≡ 0 → ⊥) → tried f p i v ≡ f (given p i (3 - v)) ++ tried f p i (v - 1)
+unfolding tried
+tried-first f p i zero n = absurd (n refl)
+tried-first f p i (suc v) n = rw sub-one
+
+-- So the pairs that pass are those of the first value's branch and those of the others, and a test right for all is right for both.
+module _ (ws ranks : List ℕ) (q : Task) (left v : ℕ) (d : Node) (n : v ≡ 0 → ⊥) (g : Pair → Bool) where
+  tried-split : triedFrom q left v d ≡ branchFrom q left (3 - v) d ++ triedFrom q left (v - 1) d
+  tried-split = tried-first (λ p. allFrom (q .statements) left p) (d .pair) (q .statements - left) v n
+
+  tried-passing : passing g q (suc left) d (triedFrom q left v d) ≡ passing g q (suc left) d (branchFrom q left (3 - v) d) ++ passing g q (suc left) d (triedFrom q left (v - 1) d)
+  tried-passing = rw tried-split (keep-append (passes g (q .statements) (q .point) (suc left) (d .equal)) (branchFrom q left (3 - v) d) (triedFrom q left (v - 1) d))
+
+  module _ (t : Tests ws (q .rules) ranks (triedFrom q left v d) g) where
+    tests-branch : Tests ws (q .rules) ranks (branchFrom q left (3 - v) d) g
+    tests-branch = record { right = λ u m. t .right u (rw tried-split (among-left u (branchFrom q left (3 - v) d) (triedFrom q left (v - 1) d) m)) }
+
+    tests-rest : Tests ws (q .rules) ranks (triedFrom q left (v - 1) d) g
+    tests-rest = record { right = λ u m. t .right u (rw tried-split (among-right u (branchFrom q left (3 - v) d) (triedFrom q left (v - 1) d) m)) }
+
+module _ (ws ranks : List ℕ) (q : Task) (left v : ℕ) (d : Node) (at : ℕ) (o : List ℕ) (rd : Ready ws ranks o q left d at) (pos : 0 < left) where
+  pub try-none : v ≡ 0 → Tried ws ranks q (left - 1) v d at o o at
+  unfolding tried keep
+  try-none e = rw e (record { most = rd .fits .place; page = λ g tg. page-none (q .room) at o })
+
+  pub try-full : q .room ≤ at → Tried ws ranks q (left - 1) v d at o o at
+  try-full l = record { most = rd .fits .place; page = λ g tg. page-full (q .room) at o _ l }
+
+  pub branch-ready : (w : ℕ) → w ≤ 2 → BranchReady ws ranks q (left - 1) w d
+  branch-ready w h =
+      let e : left ≡ suc (left - 1) = omega arith in
+      record {
+        suits = rd .fits .suits;
+        unsettled = omega (arith, rd .unsettled);
+        value = h;
+        covers = rw e at (rd .covers);
+      }
+
+  module _ (n : v ≡ 0 → ⊥) (b : Branch) (br : Branched ws ranks q (left - 1) (3 - v) d b) where
+    pub try-cut : b ≡ Cut → (o′ : List ℕ) (r : ℕ) → Tried ws ranks q (left - 1) (v - 1) d at o o′ r → Tried ws ranks q (left - 1) v d at o o′ r
+    try-cut e o′ r t = record {
+      most = t .most;
+      page = λ g tg. rw (tried-passing ws ranks q (left - 1) v d n g, br .cut e g (tests-branch ws ranks q (left - 1) v d n g tg))
+          (t .page g (tests-rest ws ranks q (left - 1) v d n g tg));
+    }
+
+    module _ (c : Node) (e : b ≡ Open c) where
+      pub child-ready : Ready ws ranks o q (left - 1) c at
+      child-ready = record { fits = rd .fits; unsettled = omega (arith, rd .unsettled); covers = br .opened c e .covers }
+
+      pub try-open : (o′ o″ : List ℕ) (r r′ : ℕ) → Settled ws ranks q (left - 1) c at o o′ r → Tried ws ranks q (left - 1) (v - 1) d r o′ o″ r′ → Tried ws ranks q (left - 1) v d at o o″ r′
+      try-open o′ o″ r r′ s t = record {
+        most = t .most;
+        page = λ g tg.
+            let k : Child ws ranks q (left - 1) (3 - v) d c = br .opened c e in
+            let u : Tests ws (q .rules) ranks (branchFrom q (left - 1) (3 - v) d) g = tests-branch ws ranks q (left - 1) v d n g tg in
+            rw (tried-passing ws ranks q (left - 1) v d n g, k .same g)
+            (page-append (q .room) at r r′ o o′ o″ _ _ (s .page g (rw (k .pair) u)) (t .page g (tests-rest ws ranks q (left - 1) v d n g tg)));
+      }
+
+-- ---- the whole search
+pub root-keeps : (ws : List ℕ) (n : ℕ) (ranks : List ℕ) (taken : ℕ) (o : Bounds)
+    → Propagated ws n ranks (record { lo = bare taken; hi = record { taken = taken; held = 2 ^ 64 - 1; denied = 2 ^ 64 - 1 } }) o → Rooted ws n ranks taken o
+root-keeps ws n ranks taken o f = record {
+  kept = λ v k e h d. f .keeps .kept v k (record {
+    lo = record { held = none-sub (v .held); denied = none-sub (v .denied); taken = λ i. rw e (le-refl _) };
+    hi = record { held = within-every (v .held) h; denied = within-every (v .denied) d; taken = λ i. rw e (le-refl _) };
+  });
+}
+
+module _ (ws ranks : List ℕ) (q : Task) (taken : ℕ) (t : Bool) (at : ℕ) (o : List ℕ) (f : Fits ws ranks o q at) where
+  pub list-full : q .room ≤ at → Listed ws ranks q taken t at o o at
+  list-full l = record { most = f .place; page = λ g tg. page-full (q .room) at o _ l }
+
+  pub root-ready : (b : Bounds) → Rooted ws (q .rules) ranks taken b → Ready ws ranks o q (q .statements) (record { equal = t; pair = bare taken; bounds = b }) at
+  root-ready b rb =
+      let n : ℕ = q .statements in
+      let xs : List Pair = allFrom n n (bare taken) in
+      record {
+        fits = f;
+        unsettled = le-refl n;
+        covers = record {
+          kept = λ v k m.
+              let e = every-at (Extends (n - n) (bare taken)) v xs (all-extend n n (bare taken) (le-refl n)) m in
+              let w = every-at (λ u. (u .held < 2 ^ n) × (u .denied < 2 ^ n)) v xs (all-below n n (bare taken) (le-refl n) (pow-pos n, pow-pos n)) m in
+              let s : 2 ^ n ≤ 2 ^ 64 = pow-mono (f .suits .few) in
+              rb .kept v k (e .taken) (lt-of-lt-of-le (w .0) s) (lt-of-lt-of-le (w .1) s);
+        };
+      }
+
+  pub list-settled : (b : Bounds) (o′ : List ℕ) (r : ℕ) → Settled ws ranks q (q .statements) (record { equal = t; pair = bare taken; bounds = b }) at o o′ r → Listed ws ranks q taken t at o o′ r
+  unfolding listFrom
+  list-settled b o′ r w = record { most = w .most; page = w .page }

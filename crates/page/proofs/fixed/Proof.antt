@@ -1,0 +1,40 @@
+use Rattle.page.proofs.Statements.{fixed-keeps}
+use borrow.Author.Needs.{needs}
+use Rattle.page.proofs.fixed.Statement.{statement}
+use Rattle.page.proofs.fixed.Tie as tie
+use Rattle.page.proofs.fixed.Reads as reads
+use Rattle.page.proofs.fixed.Lts as lts
+use Rattle.bounds.proofs.into.Reads as into-reads
+use Rattle.bounds.proofs.out.Reads as out-reads
+use Rattle.page.proofs.about.Reads as about-reads
+use Rattle.page.proofs.said.Reads as said-reads
+use Rattle.sets.proofs.minus.Reads as minus-reads
+
+-- src/lib.rt:111:9
+said-requires : tie.Need-said-requires
+said-requires c κs = search needs
+
+-- src/lib.rt:112:17
+into-requires : tie.Need-into-requires
+into-requires c κs = search needs
+
+-- src/lib.rt:112:49
+about-requires : tie.Need-about-requires
+about-requires c κs = search needs
+
+-- src/lib.rt:112:37
+minus-requires : tie.Need-minus-requires
+minus-requires c κs = search needs
+
+-- src/lib.rt:112:5
+out-requires : tie.Need-out-requires
+out-requires c κs = search needs
+
+-- src/lib.rt:107:1
+returns : tie.Need-returns
+returns c = fixed-keeps _ _ _ _ _ _ _ _ (c .before .before .before .before .said .ensures) (c .before .before .before .into .ensures) (c .before .before .about .ensures) (c .before .minus .ensures) (c .out .ensures)
+
+pub fixed-spec : {M : Type 1} → statement M
+fixed-spec =
+    tie.close
+    (tie.spec said-requires into-requires about-requires minus-requires out-requires returns)

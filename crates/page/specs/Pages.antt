@@ -1,0 +1,121 @@
+-- What the search promises: a page, the first so many pairs of a list in a lent slice; and what settling a statement and trying its values need.
+use Prim.Native.Nat.{ℕ, suc, _+_, _-_, _*_, _^_, _<_, _≤_}
+use mathlib.Core.Bool.{Bool}
+use mathlib.Core.Path.{_≡_}
+use mathlib.Core.List.{List, [], _∷_}
+use lib.ListN.{length, take}
+use lib.Seq.{sets}
+use Rattle.logic.specs.Lists.{Among}
+use Rattle.logic.specs.Tests.{Decides, keep}
+use Rattle.sets.specs.declared.Pair.{Pair}
+use Rattle.sets.specs.Sets.{Apart}
+use Rattle.masks.specs.declared.Bounds.{Bounds}
+use Rattle.masks.specs.Views.{MaskView}
+use Rattle.bounds.specs.Sound.{In}
+use Rattle.meaning.specs.Order.{value as valueAt}
+use Rattle.page.specs.declared.Task.{Task}
+use Rattle.page.specs.declared.Node.{Node}
+use Rattle.page.specs.declared.Branch.{Branch}
+use Rattle.page.specs.declared.Branch.the-variants.{Cut, Open}
+use Rattle.page.specs.Orders.{bare, given, tried, allFrom, passes, listFrom}
+
+-- ---- pages
+-- Pairs as the slice has them, three words each.
+unfoldable pub flat : List Pair → List ℕ
+flat [] = []
+flat (p ∷ ps) = p .taken ∷ p .held ∷ p .denied ∷ flat ps
+
+-- From place `at` on the slice has the first pairs of xs, as many as there is room for up to `cap`; the place after them is r, nothing else changes.
+pub record Page (cap at : ℕ) (o o′ : List ℕ) (xs : List Pair) (r : ℕ) : Type 0 where
+  pub count : r ≡ at + length (take (cap - at) xs)
+  pub filled : o′ ≡ sets o (at * 3) (flat (take (cap - at) xs))
+
+-- The test g decides for every pair of the list whether it is a view.
+pub record Tests (ws : List ℕ) (n : ℕ) (ranks : List ℕ) (xs : List Pair) (g : Pair → Bool) : Type 0 where
+  pub right : (v : Pair) → Among v xs → Decides (g v) (MaskView ws n ranks v)
+
+-- ---- a statement's value within bounds
+-- The pair is coherent and has the value w at statement i; the pair is a view and has it.
+pub record Giving (i w : ℕ) (v : Pair) : Type 0 where
+  pub coherent : Apart (v .held) (v .denied)
+  pub gives : valueAt v i ≡ w
+
+pub record ViewGiving (ws : List ℕ) (n : ℕ) (ranks : List ℕ) (i w : ℕ) (v : Pair) : Type 0 where
+  pub view : MaskView ws n ranks v
+  pub gives : valueAt v i ≡ w
+
+-- Every view that differs from the settled pair at most at the last `left` of n statements is within the bounds.
+pub record Covers (ws : List ℕ) (rules : ℕ) (ranks : List ℕ) (n left : ℕ) (p : Pair) (b : Bounds) : Type 0 where
+  pub kept : (v : Pair) → MaskView ws rules ranks v → Among v (allFrom n left p) → In b v
+
+-- Every view with these exceptions whose sets are words is within the bounds.
+pub record Rooted (ws : List ℕ) (rules : ℕ) (ranks : List ℕ) (exceptions : ℕ) (b : Bounds) : Type 0 where
+  pub kept : (v : Pair) → MaskView ws rules ranks v → v .taken ≡ exceptions → v .held < 2 ^ 64 → v .denied < 2 ^ 64 → In b v
+
+-- ---- the search
+-- The words and the ranks are those of the task's rules, and its statements are numbers of a word.
+pub record Suits (ws ranks : List ℕ) (q : Task) : Type 0 where
+  pub rules : q .rules * 8 ≤ length ws
+  pub ranked : length ranks ≤ 64
+  pub few : q .statements ≤ 64
+
+-- And the page has the task's room, with the place `at` in it or at its end.
+pub record Fits (ws ranks o : List ℕ) (q : Task) (at : ℕ) : Type 0 where
+  pub suits : Suits ws ranks q
+  pub place : at ≤ q .room
+  pub long : q .room * 3 ≤ length o
+
+-- The search can go on at the node d, with `left` statements to settle.
+pub record Ready (ws ranks o : List ℕ) (q : Task) (left : ℕ) (d : Node) (at : ℕ) : Type 0 where
+  pub fits : Fits ws ranks o q at
+  pub unsettled : left ≤ q .statements
+  pub covers : Covers ws (q .rules) ranks (q .statements) left (d .pair) (d .bounds)
+
+-- Of the pairs xs those that pass at the node d, where `left` statements are to be settled.
+abbrev pub passing : (Pair → Bool) → Task → ℕ → Node → List Pair → List Pair
+passing g q left d xs = keep (passes g (q .statements) (q .point) left (d .equal)) xs
+
+-- Settling the last `left` statements from the node d: the page of all views that come from there.
+pub record Settled (ws ranks : List ℕ) (q : Task) (left : ℕ) (d : Node) (at : ℕ) (o o′ : List ℕ) (r : ℕ) : Type 0 where
+  pub most : r ≤ q .room
+  pub page : (g : Pair → Bool) → Tests ws (q .rules) ranks (allFrom (q .statements) left (d .pair)) g
+      → Page (q .room) at o o′ (passing g q left d (allFrom (q .statements) left (d .pair))) r
+
+-- The pairs that come from the node d with the last v values tried at a statement that `left` others follow.
+abbrev pub triedFrom : Task → ℕ → ℕ → Node → List Pair
+triedFrom q left v d = tried (λ p. allFrom (q .statements) left p) (d .pair) (q .statements - left) v
+
+-- Trying these values: the page of the views among those pairs.
+pub record Tried (ws ranks : List ℕ) (q : Task) (left v : ℕ) (d : Node) (at : ℕ) (o o′ : List ℕ) (r : ℕ) : Type 0 where
+  pub most : r ≤ q .room
+  pub page : (g : Pair → Bool) → Tests ws (q .rules) ranks (triedFrom q left v d) g
+      → Page (q .room) at o o′ (passing g q (suc left) d (triedFrom q left v d)) r
+
+-- The pairs that come from the node d with the value w at the statement.
+abbrev pub branchFrom : Task → ℕ → ℕ → Node → List Pair
+branchFrom q left w d = allFrom (q .statements) left (given (d .pair) (q .statements - left) w)
+
+-- What a branch needs: the statement is one of the book's, the value one of three, and the bounds lose no view.
+pub record BranchReady (ws ranks : List ℕ) (q : Task) (left w : ℕ) (d : Node) : Type 0 where
+  pub suits : Suits ws ranks q
+  pub unsettled : left < q .statements
+  pub value : w ≤ 2
+  pub covers : Covers ws (q .rules) ranks (q .statements) (suc left) (d .pair) (d .bounds)
+
+-- The node c goes on from d with the value w: it has that value, its bounds lose no view, and what is later than the point stays so.
+pub record Child (ws ranks : List ℕ) (q : Task) (left w : ℕ) (d c : Node) : Type 0 where
+  pub pair : c .pair ≡ given (d .pair) (q .statements - left) w
+  pub covers : Covers ws (q .rules) ranks (q .statements) left (c .pair) (c .bounds)
+  pub same : (g : Pair → Bool) → passing g q (suc left) d (branchFrom q left w d) ≡ passing g q left c (allFrom (q .statements) left (c .pair))
+
+-- The branch of the value w: where it is cut nothing is lost, where it is open it goes on.
+pub record Branched (ws ranks : List ℕ) (q : Task) (left w : ℕ) (d : Node) (r : Branch) : Type 0 where
+  pub cut : r ≡ Cut → (g : Pair → Bool) → Tests ws (q .rules) ranks (branchFrom q left w d) g
+      → passing g q (suc left) d (branchFrom q left w d) ≡ []
+  pub opened : (c : Node) → r ≡ Open c → Child ws ranks q left w d c
+
+-- The page of all views with these exceptions, where t is true of those later than the point.
+pub record Listed (ws ranks : List ℕ) (q : Task) (exceptions : ℕ) (t : Bool) (at : ℕ) (o o′ : List ℕ) (r : ℕ) : Type 0 where
+  pub most : r ≤ q .room
+  pub page : (g : Pair → Bool) → Tests ws (q .rules) ranks (allFrom (q .statements) (q .statements) (bare exceptions)) g
+      → Page (q .room) at o o′ (listFrom g (q .statements) (q .point) (q .statements) t (bare exceptions)) r

@@ -1,0 +1,85 @@
+// Is there a view within given bounds? Propagate, test what is left if it is one pair, else split the bounds by one member.
+ghost use Prim.Native.Nat.{_*_, _≤_};
+ghost use lib.ListN.{length};
+ghost use Rattle.sets.specs.Pairs.{minusOf};
+ghost use Rattle.bounds.specs.Singles.{Picked};
+ghost use Rattle.probe.specs.Probes.{Opened, Probed};
+use masks::Bounds;
+use queue::index;
+use queue::index::Index;
+use queue::waiting::Waiting;
+use sets::Pair;
+
+pub mod weights;
+
+// A view within the bounds, or that there is none.
+pub enum Answer {
+    Found(Pair),
+    Nothing,
+}
+
+// What propagation leaves of bounds: one view; nothing; narrower bounds, with a member to split them by.
+pub enum Node {
+    View(Pair),
+    Empty,
+    Open(Bounds, Pair),
+}
+
+// A member that is in some pairs within the bounds and not in others: the heaviest, or any if that is none.
+pub fn pick(words: &[u64], n: usize, c: Bounds) -> Pair
+    requires { ⌜ n * 8 ≤ length (now words) ⌝ }
+    ensures { λ m. ⌜ Picked (minusOf (c .hi) (c .lo)) m ⌝ }
+{
+    let free = sets::minus(c.hi, c.lo);
+    let at = weights::heaviest(words, n, c, free);
+    let m = bounds::one(at / 64, at % 64);
+    if sets::within(m, free) {
+        return m;
+    }
+    bounds::single(free)
+}
+
+// One node of the search.
+pub fn visit(words: &[u64], n: usize, ranks: &[u64], index: &Index, w: Waiting, b: Bounds) -> Node
+    requires { ⌜ (n * 8 ≤ length (now words)) × (length (now ranks) ≤ 64) ⌝ }
+    ensures { λ x. ⌜ Opened (now (words .entry)) n (now (ranks .entry)) b x ⌝ }
+{
+    let c = queue::propagate(words, n, ranks, index, w, b);
+    let lo = c.lo;
+    let hi = c.hi;
+    if !sets::within(lo, hi) {
+        return Node::Empty;
+    }
+    if sets::same(lo, hi) {
+        if masks::is_view(words, n, ranks, lo) {
+            return Node::View(lo);
+        }
+        return Node::Empty;
+    }
+    Node::Open(c, pick(words, n, c))
+}
+
+// A view within the bounds b, or none. The rules w are those that the bounds may not be at rest with.
+pub fn probe(words: &[u64], n: usize, ranks: &[u64], index: &Index, w: Waiting, b: Bounds) -> Answer
+    requires { ⌜ (n * 8 ≤ length (now words)) × (length (now ranks) ≤ 64) ⌝ }
+    ensures { λ a. ⌜ Probed (now (words .entry)) n (now (ranks .entry)) b a ⌝ }
+{
+    let x = visit(words, n, ranks, index, w, b);
+    match x {
+        Node::View(v) => Answer::Found(v),
+        Node::Empty => Answer::Nothing,
+        Node::Open(c, m) => {
+            let o = bounds::out(c, m);
+            let t = index::changed(index, c, o);
+            let a = probe(words, n, ranks, index, t, o);
+            match a {
+                Answer::Found(v) => Answer::Found(v),
+                Answer::Nothing => {
+                    let p = bounds::into(c, m);
+                    let t = index::changed(index, c, p);
+                    probe(words, n, ranks, index, t, p)
+                }
+            }
+        }
+    }
+}

@@ -1,0 +1,128 @@
+// Which member to split bounds by: the one in the most and shortest bodies. No contract depends on the choice, so only safety is proved.
+ghost use Prim.Native.Nat.{_*_, _≤_};
+ghost use lib.ListN.{length};
+use masks::Bounds;
+use masks::Masks;
+use queue::waiting;
+use sets::Pair;
+
+// A weight for each member of a pair: the statements held, then those denied, then the exceptions taken.
+pub type Weights = [u64; 192];
+
+// Adds w to the weight of each member of m, counted from place `from`.
+pub fn add(t: &mut Weights, from: u64, m: u64, w: u64)
+    requires { ⌜ from ≤ 128 ⌝ }
+{
+    let mut rest = m;
+    let mut j: u64 = 0;
+    while j < 64 {
+        let i = waiting::low(rest);
+        if 64 <= i {
+            return;
+        }
+        let at = (from + i) as usize;
+        t[at] = std::num::wrapping_add_u64(t[at], w);
+        rest = waiting::cleared(rest, i);
+        j += 1;
+    }
+}
+
+// Adds w to the weight of each member of x.
+pub fn add_pair(t: &mut Weights, x: Pair, w: u64) {
+    add(t, 0, x.held, w);
+    add(t, 64, x.denied, w);
+    add(t, 128, x.taken, w);
+}
+
+// About how many conditions a body has open: a statement of which both sides are asked for counts once.
+pub fn conditions(x: Pair, y: Pair) -> u32 {
+    let k = sets::size(x.held | x.denied | y.held | y.denied);
+    if x.taken == 0 {
+        return k;
+    }
+    std::num::wrapping_add_u32(k, 1)
+}
+
+// 4 to the minus k, as a part of 256.
+pub fn weight(k: u32) -> u64
+    ensures { λ w. ⌜ w ≤ 64 ⌝ }
+{
+    if k == 1 {
+        return 64;
+    }
+    if k == 2 {
+        return 16;
+    }
+    if k == 3 {
+        return 4;
+    }
+    1
+}
+
+// Adds the weight of one rule to its open conditions, if it can fire; barred entries count twice.
+pub fn add_rule(t: &mut Weights, r: Masks, b: Bounds, free: Pair) {
+    if masks::fires(r, b.lo, b.hi) {
+        let x = sets::meet(r.need, free);
+        let y = sets::meet(r.bar, free);
+        let k = conditions(x, y);
+        if k == 0 {
+            return;
+        }
+        let w = weight(k);
+        add_pair(t, x, w);
+        add_pair(t, y, w * 2 + 1);
+    }
+}
+
+// The heaviest member so far: its place, 192 if there is none, and its weight.
+pub struct Best {
+    pub at: u64,
+    pub weight: u64,
+}
+
+// The heaviest of s and the members of m, counted from place `from`.
+pub fn heavier(t: &Weights, from: u64, m: u64, s: Best) -> Best
+    requires { ⌜ from ≤ 128 ⌝ }
+{
+    let mut o = s;
+    let mut rest = m;
+    let mut j: u64 = 0;
+    while j < 64 {
+        let i = waiting::low(rest);
+        if 64 <= i {
+            return o;
+        }
+        let at = from + i;
+        o = better(o, at, t[at as usize]);
+        rest = waiting::cleared(rest, i);
+        j += 1;
+    }
+    o
+}
+
+// The heavier of the two, the one so far if they weigh the same.
+pub fn better(s: Best, at: u64, weight: u64) -> Best {
+    if s.at == 192 {
+        return Best { at, weight };
+    }
+    if s.weight < weight {
+        return Best { at, weight };
+    }
+    s
+}
+
+// The place of the heaviest of the members `free`, over the rules that can fire within the bounds.
+pub fn heaviest(words: &[u64], n: usize, b: Bounds, free: Pair) -> u64
+    requires { ⌜ n * 8 ≤ length (now words) ⌝ }
+{
+    let mut t: Weights = [0; 192];
+    let mut k = 0;
+    while k < n {
+        add_rule(&mut t, masks::masks_at(words, k), b, free);
+        k += 1;
+    }
+    let s = heavier(&t, 0, free.held, Best { at: 192, weight: 0 });
+    let s = heavier(&t, 64, free.denied, s);
+    let s = heavier(&t, 128, free.taken, s);
+    s.at
+}

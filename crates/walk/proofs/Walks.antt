@@ -1,0 +1,131 @@
+-- The walk's page: the resolutions of each set follow those of the sets before it, and where the page is full the rest does not matter.
+use mathlib.Core.Path.{_≡_, refl, sym, ap, _∙_}
+use mathlib.Core.Bool.{Bool, true, false, not}
+use mathlib.Core.List.{List, [], _∷_, _++_}
+use mathlib.Core.Logic.{_⊎_, inl, inr, ⊎-elim, _↔_}
+use Prim.Native.Nat.{ℕ, zero, suc, _+_, _<_, _≤_}
+use native.Mathlib.Nat.{le-refl, le-trans}
+use native.Mathlib.Numerals.{add-one}
+use native.Mathlib.Omega.{arith}
+use borrow.Author.Tests.{not-true, not-false}
+use lib.ListN.{length}
+use Rattle.logic.specs.Tests.{Decides}
+use Rattle.logic.proofs.Decide.{clash, reworded}
+use Rattle.sets.specs.declared.Pair.{Pair}
+use Rattle.sets.proofs.Digits.{lt-or-le}
+use Rattle.book.specs.Kinds.{sets}
+use Rattle.order.specs.Order.{setAt}
+use Rattle.order.proofs.Rule.{order-rule}
+use Rattle.masks.specs.declared.Bounds.{Bounds}
+use Rattle.masks.specs.Views.{MaskView}
+use Rattle.page.specs.declared.Task.{Task}
+use Rattle.page.specs.Orders.{Begins}
+use Rattle.page.specs.Pages.{Page, Fits, Listed}
+use Rattle.page.proofs.Pages.{page-none, page-full, page-append}
+use Rattle.page.proofs.Listed.{views-listed, part-of-listing}
+use Rattle.meaning.specs.Books.{Book, Lawful}
+use Rattle.meaning.specs.Order.{Point, LawfulPoint, Later, AllLater}
+use Rattle.meaning.specs.Twins.Verdicts.{view}
+use Rattle.meaning.proofs.Twins.{decides-view}
+use Rattle.meaning.proofs.Parts.{Part, part-none, part-same}
+use Rattle.bridge.proofs.Views.{view-same}
+use Rattle.walk.specs.Marks.{RightMarks}
+use Rattle.walk.specs.Plans.{Rooted, MarksRight, Admits}
+use Rattle.walk.specs.Walks.{Passed, Serves, SetListed, Beyond, Walked}
+use Rattle.walk.proofs.Plans.{admissible-resolution}
+use Rattle.walk.proofs.Places.{one-more, all-places, cut-short}
+
+-- ---- one set
+module _ (ws ranks : List ℕ) (root : Bounds) (q : Task) (t : ℕ) (after : Bool) (at : ℕ) (m m′ : List ℕ) (z : Bool) (a : Admits ws (q .rules) ranks root t m m′ z) (o : List ℕ) where
+  pub set-refused : not z ≡ true → at ≤ q .room → SetListed ws ranks root q t after at m m′ o o at
+  set-refused e h = record {
+    most = h;
+    marks = a .marks;
+    part = λ b from s w g. ([], page-none (q .room) at o, part-none b from (λ p. p .taken ≡ t) (λ p r l d. a .refuses (not-true z e) b (s .rooted) w .none p r d));
+  }
+
+  pub set-listed : not z ≡ false → (o′ : List ℕ) (r : ℕ) → Listed ws ranks q t after at o o′ r → SetListed ws ranks root q t after at m m′ o o′ r
+  set-listed e o′ r l = record { most = l .most; marks = a .marks; part = part }
+    where
+      yes : z ≡ true
+      yes = not-false z e
+
+      part : (b : Book) (from : Point) → Serves b ws ranks root q → RightMarks b m → Begins b from t after (q .point)
+          → (ys : List Pair) × Page (q .room) at o o′ ys r × Part b from (λ p. p .taken ≡ t) ys
+      part b from s w g =
+          let v = views-listed b from t (a .lawful yes b (s .rooted)) ws ranks q (s .statements) after g (view b)
+              (λ p k d. let i = view-same b ws (q .rules) (s .rooted .packs) p ranks (s .rooted .ranked) k in reworded (decides-view b p) (i .1) (i .0)) at r o o′ l in (
+            v .0,
+            v .1,
+            part-of-listing b from t (MaskView ws (q .rules) ranks) (v .0)
+            (λ p k d x. admissible-resolution b ws (q .rules) ranks root (s .rooted) p (rw d (a .accepts yes)) (view-same b ws (q .rules) (s .rooted .packs) p ranks (s .rooted .ranked) k .0 x))
+            (λ p x d. s .rooted .holds p (x .view) .0) (v .2),
+          )
+
+-- ---- all sets
+-- The loop of the walk at place j: marks are right, and the page has all that stands at the places before j.
+pub record Going (ws ranks : List ℕ) (root : Bounds) (q : Task) (first at : ℕ) (m o : List ℕ) (j k : ℕ) (n p : List ℕ) : Type 0 where
+  pub from : first ≤ j
+  pub to : j ≤ sets
+  pub fits : Fits ws ranks p q k
+  pub marks : MarksRight ws (q .rules) ranks root m n
+  pub page : (b : Book) (from : Point) → Serves b ws ranks root q → RightMarks b m → LawfulPoint b from → Beyond from first
+      → (start : List ℕ) (xs : List Pair) → Part b from (Passed first) xs → Page (q .room) 0 start o xs at
+      → (ys : List Pair) × Part b from (Passed j) ys × Page (q .room) 0 start p ys k
+
+fits-again : (ws ranks o o′ : List ℕ) (q : Task) (at r : ℕ) → Fits ws ranks o q at → length o′ ≡ length o → r ≤ q .room → Fits ws ranks o′ q r
+fits-again ws ranks o o′ q at r f e h = record { suits = f .suits; place = h; long = rw e (f .long) }
+
+module _ (ws ranks : List ℕ) (root : Bounds) (q : Task) (first at : ℕ) (m o : List ℕ) where
+  pub going-first : Fits ws ranks o q at → first ≤ sets → Going ws ranks root q first at m o first at m o
+  going-first f h = record {
+    from = le-refl first;
+    to = h;
+    fits = f;
+    marks = record { stay = λ b r w. w };
+    page = λ b from s w l y start xs p g. (xs, p, g);
+  }
+
+  module _ (j k : ℕ) (n p : List ℕ) (g : Going ws ranks root q first at m o j k n p) where
+    pub going-next : j < sets → (t : ℕ) → t ≡ setAt j → (n′ p′ : List ℕ) (r : ℕ) → SetListed ws ranks root q t false k n n′ p p′ r → length p′ ≡ length p
+        → Going ws ranks root q first at m o (j + 1) r n′ p′
+    going-next h t et n′ p′ r s e = record {
+      from = omega (arith, g .from);
+      to = omega arith;
+      fits = fits-again ws ranks p p′ q k r (g .fits) e (s .most);
+      marks = record { stay = λ b x w. s .marks .stay b x (g .marks .stay b x w) };
+      page = λ b from x w l y start xs u v.
+          let c = g .page b from x w l y start xs u v in
+          let d = s .part b from x (g .marks .stay b (x .rooted) w) (record { within = λ f. absurd (clash f); before = λ f i z. y .later j (g .from) h i (sym et ∙ sym z) }) in
+          (
+            c .0 ++ d .0,
+            rw (add-one j) (one-more b from j (c .0) (d .0) h (c .1) (part-same b from (λ i. i .taken ≡ t) (λ i. setAt j ≡ i .taken) (d .0) (λ i a z. sym et ∙ sym z) (λ i a z. sym z ∙ sym et) (d .2))),
+            page-append (q .room) 0 k r start p p′ (c .0) (d .0) (c .2) (d .1),
+          );
+    }
+
+    -- All places have been passed.
+    pub walked-all : sets ≤ j → Walked ws ranks root q first at m o p k
+    walked-all h = record {
+      whole = λ b from x w l y start xs u v.
+          let c = g .page b from x w l y start xs u v in
+          let e : j ≡ sets = omega (arith, g .to) in
+          (c .0, all-places b from (x .few) (c .0) (rw e at (c .1)), c .2);
+    }
+
+    -- The page is full.
+    pub walked-full : q .room ≤ k → Walked ws ranks root q first at m o p k
+    walked-full h = record {
+      whole = λ b from x w l y start xs u v.
+          let c = g .page b from x w l y start xs u v in
+          let d = cut-short b from (x .few) l j (c .0) (c .1) in
+          (c .0 ++ d .0, d .1, page-append (q .room) 0 k k start p p (c .0) (d .0) (c .2) (page-full (q .room) k p (d .0) h));
+    }
+
+-- ---- the place of a set
+-- If a set stands at no place before the last, it stands at the last.
+pub last-place : (t j : ℕ) → t < sets → suc j ≡ sets → ((i : ℕ) → i < j → setAt i ≡ t → ⊥) → (j < sets) × (setAt j ≡ t)
+last-place t j h e n =
+    let k = order-rule .present t h in
+    let l : k .0 ≡ j = ⊎-elim (λ x. absurd (n (k .0) x (k .2))) (λ x. omega (arith, k .1)) (lt-or-le (k .0) j) in
+    (omega arith, rw l at (k .2))

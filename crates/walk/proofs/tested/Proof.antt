@@ -1,0 +1,57 @@
+use Rattle.walk.proofs.Plans.{admits-nothing, admits-surpassed, admits-tested}
+use borrow.Author.Needs.{needs}
+use Rattle.walk.proofs.tested.Statement.{statement}
+use Rattle.walk.proofs.tested.Tie as tie
+
+with-sets-requires : tie.Need-with-sets-requires
+with-sets-requires c κs = search needs
+
+changed-requires : tie.Need-changed-requires
+changed-requires c κs = search needs
+
+probe-requires : tie.Need-probe-requires
+probe-requires c κs = search needs
+
+enum-told : tie.Need-enum-told
+enum-told c = search needs
+
+enum-known-a : tie.Need-enum-known-a
+enum-known-a c = search needs
+
+outranked-requires : tie.Need-outranked-requires
+outranked-requires c κs = search needs
+
+mark-requires : tie.Need-mark-requires
+mark-requires c κs = search needs
+
+element-copy-out-if1 : tie.Need-element-copy-out-if1
+element-copy-out-if1 c = search needs
+
+returns : tie.Need-returns
+returns c = admits-surpassed _ _ _ _ _ _ _ (c .before .before .before .before .before .before .before .before .before .before .with-sets .ensures) _ (c .before .before .before .before .before .before .before .before .probe .ensures) (c .before .before .before .before .before .before .a .given .0 .0) (search needs) _ _ (c .before .before .before .before .outranked .ensures) _ (c .before .before .mark .ensures) (search needs)
+
+admissible-requires : tie.Need-admissible-requires
+admissible-requires c κs = search needs
+
+returns-2 : tie.Need-returns-2
+returns-2 c = admits-nothing _ _ _ _ _ _ _ (c .before .before .before .before .with-sets .ensures) _ (c .before .before .probe .ensures) (search needs)
+
+returns-3 : tie.Need-returns-3
+returns-3 c = admits-tested _ _ _ _ _ _ _ (c .before .before .before .before .before .before .before .before .before .before .before .with-sets .ensures) _ (c .before .before .before .before .before .before .before .before .before .probe .ensures) (c .before .before .before .before .before .before .before .a .given .0 .0) (search needs) _ _ (c .before .before .before .before .before .outranked .ensures) _ (c .before .before .before .mark .ensures) _ (c .admissible .ensures)
+
+pub tested-spec : {M : Type 1} → statement M
+tested-spec =
+    tie.close
+    (tie.spec
+    with-sets-requires
+    changed-requires
+    probe-requires
+    enum-told
+    enum-known-a
+    outranked-requires
+    mark-requires
+    element-copy-out-if1
+    returns
+    admissible-requires
+    returns-2
+    returns-3)

@@ -1,0 +1,63 @@
+use Prim.Native.Nat.{_-_, _≤_, _<_}
+use mathlib.Core.Path.{_≡_, refl, _∙_}
+use native.Mathlib.Omega.{arith}
+use borrow.Author.Needs.{needs}
+use lib.ListN.{length}
+use Rattle.book.specs.Kinds.{sets}
+use Rattle.order.proofs.Rule.{order-rule}
+use Rattle.walk.proofs.Walks.{Going, going-first, going-next, walked-all, walked-full}
+use Rattle.walk.proofs.walk.Statement.{statement}
+use Rattle.walk.proofs.walk.Tie as tie
+
+abbrev Inv-loop : tie.InvT-loop
+Inv-loop words ranks index root task from marks₀ out₀ f₀ j₀ marks out f j = Going words ranks root task from (f₀ .at) marks₀ out₀ j (f .at) marks out × (length out ≡ length out₀)
+
+abbrev μ-loop : tie.MeasureT-loop
+μ-loop words ranks index root task from marks₀ out₀ f₀ j₀ marks out f j = sets - j
+
+loop-holds : tie.Need-loop-holds Inv-loop μ-loop
+loop-holds c = (going-first _ _ _ _ _ _ _ _ (c .before .before .before .pre .0) (c .before .before .before .pre .1), refl)
+
+same-length : tie.Need-same-length Inv-loop μ-loop
+same-length c = c .before .before .before .loop .inv .1
+
+returns : tie.Need-returns Inv-loop μ-loop
+returns c = walked-full _ _ _ _ _ _ _ _ _ _ _ _ (c .before .before .before .loop .inv .0) (search needs)
+
+set-at-requires : tie.Need-set-at-requires Inv-loop μ-loop
+set-at-requires c κs = omega arith
+
+list-set-requires : tie.Need-list-set-requires Inv-loop μ-loop
+list-set-requires c κs = (c .before .before .before .before .before .before .loop .inv .0 .fits, rw (c .before .before .set-at .ensures) (order-rule .below _ (omega arith)))
+
+add-j : tie.Need-add-j Inv-loop μ-loop
+add-j c = search needs
+
+loop-less : tie.Need-loop-less Inv-loop μ-loop
+loop-less c = omega arith
+
+loop-again : tie.Need-loop-again Inv-loop μ-loop
+loop-again c = (going-next _ _ _ _ _ _ _ _ _ _ _ _ (c .before .before .before .before .before .before .before .before .before .loop .inv .0) (omega arith) _ (c .before .before .before .before .before .set-at .ensures) _ _ _ (c .before .before .list-set .ensures) (c .before .before .list-set .kept .1 .1 .1 .1 .1 .1 .1 .1 .1 .0), (c .before .before .list-set .kept .1 .1 .1 .1 .1 .1 .1 .1 .1 .0) ∙ c .before .before .before .before .before .before .before .before .before .loop .inv .1)
+
+same-length-2 : tie.Need-same-length-2 Inv-loop μ-loop
+same-length-2 c = c .before .loop .inv .1
+
+returns-2 : tie.Need-returns-2 Inv-loop μ-loop
+returns-2 c = walked-all _ _ _ _ _ _ _ _ _ _ _ _ (c .before .loop .inv .0) (omega arith)
+
+pub walk-spec : {M : Type 1} → statement M
+walk-spec =
+    tie.close
+    (tie.spec
+    Inv-loop
+    μ-loop
+    loop-holds
+    same-length
+    returns
+    set-at-requires
+    list-set-requires
+    add-j
+    loop-less
+    loop-again
+    same-length-2
+    returns-2)

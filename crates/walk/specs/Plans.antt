@@ -1,0 +1,51 @@
+-- What the walk knows of the book whose words it reads, and what it says of a set of exceptions.
+use Prim.Native.Nat.{ℕ, _^_, _<_}
+use mathlib.Core.Path.{_≡_}
+use mathlib.Core.Bool.{Bool, true, false}
+use mathlib.Core.List.{List}
+use lib.Bits.{bitAnd, bitOr}
+use lib.ListN.{length}
+use Rattle.sets.specs.declared.Pair.{Pair}
+use Rattle.masks.specs.declared.Bounds.{Bounds}
+use Rattle.masks.specs.Views.{MaskView}
+use Rattle.bounds.specs.Sound.{In}
+use Rattle.admissible.specs.Admissible.{Admissible}
+use Rattle.meaning.specs.Books.{Book}
+use Rattle.meaning.specs.Views.{View}
+use Rattle.bridge.specs.Packed.{Packs}
+use Rattle.bridge.specs.Ranks.{RanksOf}
+use Rattle.walk.specs.declared.Range.{Range}
+use Rattle.walk.specs.Marks.{NoneAt, RightMarks}
+
+-- The words and the ranks are those of the book, and the views within root are its views.
+pub record Rooted (b : Book) (ws : List ℕ) (n : ℕ) (ranks : List ℕ) (root : Bounds) : Type 0 where
+  pub packs : Packs b ws n
+  pub ranked : RanksOf b ranks
+  pub holds : (v : Pair) → View b v → MaskView ws n ranks v × In root v
+  pub only : (v : Pair) → MaskView ws n ranks v → In root v → View b v
+
+-- The bounds root with only the sets of exceptions from lo to hi.
+unfoldable pub withSets : Bounds → ℕ → ℕ → Bounds
+withSets root lo hi = record {
+  lo = record { taken = bitOr (root .lo .taken) lo; held = root .lo .held; denied = root .lo .denied };
+  hi = record { taken = bitAnd (root .hi .taken) hi; held = root .hi .held; denied = root .hi .denied };
+}
+
+-- No view has a set of exceptions from lo to hi.
+pub record NoView (ws : List ℕ) (n : ℕ) (ranks : List ℕ) (root : Bounds) (lo hi : ℕ) : Type 0 where
+  pub none : (v : Pair) → MaskView ws n ranks v → In (withSets root lo hi) v → ⊥
+
+-- If the range s has no view, the range r has none.
+pub record Wider (ws : List ℕ) (n : ℕ) (ranks : List ℕ) (root : Bounds) (s r : Range) : Type 0 where
+  pub still : NoView ws n ranks root (s .lo) (s .hi) → NoView ws n ranks root (r .lo) (r .hi)
+
+-- Marks that are right for the book stay so.
+pub record MarksRight (ws : List ℕ) (n : ℕ) (ranks : List ℕ) (root : Bounds) (before after : List ℕ) : Type 0 where
+  pub stay : (b : Book) → Rooted b ws n ranks root → RightMarks b before → RightMarks b after
+
+-- Whether a resolution can have the set t: if not, none has it; if so, the set is admissible. Marks that were right stay right.
+pub record Admits (ws : List ℕ) (n : ℕ) (ranks : List ℕ) (root : Bounds) (t : ℕ) (before after : List ℕ) (r : Bool) : Type 0 where
+  pub marks : MarksRight ws n ranks root before after
+  pub refuses : r ≡ false → (b : Book) → Rooted b ws n ranks root → RightMarks b before → NoneAt b t
+  pub accepts : r ≡ true → Admissible ws n ranks root t
+  pub lawful : r ≡ true → (b : Book) → Rooted b ws n ranks root → t < 2 ^ length (b .exceptions)
