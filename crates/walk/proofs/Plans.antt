@@ -28,28 +28,14 @@ use Rattle.admissible.specs.Admissible.{Admissible}
 use Rattle.meaning.specs.Books.{Book, Lawful}
 use Rattle.meaning.specs.Views.{View}
 use Rattle.meaning.specs.Resolutions.{Resolution}
-use Rattle.bridge.specs.Packed.{Packs}
-use Rattle.bridge.specs.Ranks.{RanksOf}
-use Rattle.bridge.specs.Roots.{rootOf}
-use Rattle.bridge.proofs.Levels.{cleared-of, cleared-same}
-use Rattle.bridge.proofs.Roots.{lawful-in, in-lawful}
-use Rattle.bridge.proofs.Views.{view-same}
+use Rattle.bridge.proofs.Levels.{cleared-of}
 use Rattle.walk.specs.declared.Strike.{Strike}
 use Rattle.walk.specs.Marks.{Struck, shares, between, IsMarked, Marked, NoneAt, RightMarks, Outranked}
 use Rattle.walk.specs.declared.Range.{Range}
-use Rattle.walk.specs.Plans.{Rooted, withSets, NoView, Wider, MarksRight, Admits}
+use Rattle.resolution.specs.Rooted.{Rooted}
+use Rattle.resolution.proofs.Resolutions.{resolution-same}
+use Rattle.walk.specs.Plans.{withSets, NoView, Wider, MarksRight, Admits}
 use Rattle.walk.proofs.Marks.{right-more}
-
--- Bounds that propagation makes of the bounds of all lawful pairs have the book's views.
-pub rooted : (b : Book) (ws : List ℕ) (n : ℕ) (ranks : List ℕ) (root : Bounds) → Packs b ws n → RanksOf b ranks → Propagated ws n ranks (rootOf b) root → Rooted b ws n ranks root
-rooted b ws n ranks root p o k = record {
-  packs = p;
-  ranked = o;
-  holds = λ v w. let m = view-same b ws n p v ranks o (w .lawful) .1 w in (m, k .keeps .kept v m (lawful-in b v (w .lawful)));
-  only = λ v m i.
-      let l = in-lawful b v (record { lo = sub-trans (k .lo) (i .lo); hi = sub-trans (i .hi) (k .hi) }) (m .coherent) in
-      view-same b ws n p v ranks o l .0 m;
-}
 
 module _ (b : Book) (ws : List ℕ) (n : ℕ) (ranks : List ℕ) (root : Bounds) (rt : Rooted b ws n ranks root) where
   -- A view's set surpasses every set above it and every set with a member that it outranks.
@@ -86,34 +72,8 @@ module _ (b : Book) (ws : List ℕ) (n : ℕ) (ranks : List ℕ) (root : Bounds)
   }
 
   -- The set of a resolution is admissible.
-  pub resolution-admissible : (p : Pair) → Resolution b p → Admissible ws n ranks root (p .taken)
-  resolution-admissible p r = record {
-    minimal = record {
-      has = λ v m i f. ⊎-elim (λ e. λ c. rw e (le-refl _))
-          (λ d. absurd (r .minimal (record { other = v; view = rt .only v m i; smaller = record { contained = within-contained (v .taken) (p .taken) f; different = d } })))
-          (holds-or-not (decides-eq (v .taken) (p .taken)));
-    };
-    undominated = record {
-      free = λ a h v m i e. cleared-of b ranks (rt .ranked) (v .taken) (p .taken) (λ q. r .undominated (record { other = v; view = rt .only v m i; dominates = q })) a h e;
-    };
-  }
-
   pub not-admissible : (t : ℕ) → (Admissible ws n ranks root t → ⊥) → NoneAt b t
-  not-admissible t f = record { none = λ p r e. f (rw e at (resolution-admissible p r)) }
-
-  -- A view of an admissible set is a resolution.
-  pub admissible-resolution : (p : Pair) → Admissible ws n ranks root (p .taken) → View b p → Resolution b p
-  admissible-resolution p a w = record {
-    view = w;
-    undominated = λ d.
-        let k = rt .holds (d .other) (d .view) in
-        cleared-same b ranks (rt .ranked) (d .other .taken) (p .taken) (d .view .lawful .exceptions) .0
-        (λ c h e. a .undominated .free c h (d .other) (k .0) (k .1) e) (d .dominates);
-    minimal = λ x.
-        let k = rt .holds (x .other) (x .view) in
-        let f = contained-within (x .other .taken) (p .taken) (x .smaller .contained) in
-        x .smaller .different (both-ways (x .other .taken) (p .taken) f (a .minimal .has (x .other) (k .0) (k .1) f));
-  }
+  not-admissible t f = record { none = λ p r e. f (rw e at (resolution-same b ws n ranks root rt p .1 r .1)) }
 
 -- A pair within the narrower bounds is within root.
 in-root : (root : Bounds) (lo hi : ℕ) (v : Pair) → In (withSets root lo hi) v → In root v

@@ -30,9 +30,9 @@ use Rattle.meaning.proofs.Twins.{decides-view}
 use Rattle.meaning.proofs.Parts.{Part, part-none, part-same}
 use Rattle.bridge.proofs.Views.{view-same}
 use Rattle.walk.specs.Marks.{RightMarks}
-use Rattle.walk.specs.Plans.{Rooted, MarksRight, Admits}
+use Rattle.walk.specs.Plans.{MarksRight, Admits}
+use Rattle.resolution.proofs.Resolutions.{resolution-same}
 use Rattle.walk.specs.Walks.{Passed, Serves, SetListed, Beyond, Walked}
-use Rattle.walk.proofs.Plans.{admissible-resolution}
 use Rattle.walk.proofs.Places.{one-more, all-places, cut-short}
 
 -- ---- one set
@@ -58,7 +58,7 @@ module _ (ws ranks : List ℕ) (root : Bounds) (q : Task) (t : ℕ) (after : Boo
             v .0,
             v .1,
             part-of-listing b from t (MaskView ws (q .rules) ranks) (v .0)
-            (λ p k d x. admissible-resolution b ws (q .rules) ranks root (s .rooted) p (rw d (a .accepts yes)) (view-same b ws (q .rules) (s .rooted .packs) p ranks (s .rooted .ranked) k .0 x))
+            (λ p k d x. resolution-same b ws (q .rules) ranks root (s .rooted) p .0 (view-same b ws (q .rules) (s .rooted .packs) p ranks (s .rooted .ranked) k .0 x, rw d (a .accepts yes)))
             (λ p x d. s .rooted .holds p (x .view) .0) (v .2),
           )
 

@@ -17,7 +17,8 @@ use Rattle.meaning.specs.Books.{Book}
 use Rattle.meaning.specs.Order.{Point, LawfulPoint, Later, AllLater}
 use Rattle.meaning.proofs.Parts.{Part}
 use Rattle.walk.specs.Marks.{RightMarks}
-use Rattle.walk.specs.Plans.{Rooted, MarksRight}
+use Rattle.resolution.specs.Rooted.{Rooted}
+use Rattle.walk.specs.Plans.{MarksRight}
 
 -- The pair's set of exceptions stands at one of the first j places of the order.
 abbrev pub Passed : ℕ → Pair → Type 0
