@@ -49,8 +49,18 @@ impl Book {
 
     pub const ROWS: usize = Book::RULES + Book::PREFERENCES;
 
-    // How many kinds of line there are.
+    // How many kinds of line there are, and their places in the order of a text: B, R, X, P, Z.
     pub const KINDS: usize = 5;
+
+    pub const AT_FIRST: usize = 0;
+
+    pub const AT_PLAIN: usize = 1;
+
+    pub const AT_EXCEPTION: usize = 2;
+
+    pub const AT_PREFERENCE: usize = 3;
+
+    pub const AT_LAST: usize = 4;
 
     // The columns of a field, the fields of each kind of line, the bytes of a line beside its fields.
     pub const COLUMNS: usize = 4;

@@ -26,10 +26,10 @@ unfoldable pub toNat : ℤ → ℕ
 toNat (pos m) = m
 toNat (negsuc m) = 0
 
--- The first of the numbers, and n if there is none.
-unfoldable pub firstOr : ℕ → List ℤ → ℕ
-firstOr n [] = n
-firstOr n (v ∷ vs) = toNat v
+-- The last of the numbers, and n if there is none.
+unfoldable pub lastOr : ℕ → List ℤ → ℕ
+lastOr n [] = n
+lastOr n (v ∷ vs) = lastOr (toNat v) vs
 
 -- The first kind that may follow one at place k: another of the same kind if it is a row of the table; B and Z stand once.
 unfoldable pub after : ℕ → ℕ
@@ -39,7 +39,7 @@ after k = pick (kind k .row) k (suc k)
 unfoldable pub step : State → ℕ → List ℤ → State
 step st k vs = record {
   next = after k;
-  statements = firstOr (st .statements) (numbersIn Statements (fieldsOf (kind k)) vs);
+  statements = lastOr (st .statements) (numbersIn Statements (fieldsOf (kind k)) vs);
   counts = set (st .counts) k (suc (getD (st .counts) k 0));
   rows = pick (kind k .row) (suc (st .rows)) (st .rows);
 }

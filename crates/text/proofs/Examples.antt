@@ -1,0 +1,42 @@
+-- Books that are accepted: the empty book, and a full one of 48 statements, 200 R, 12 X and 32 P lines. So no shape of book is shut out.
+-- The tables' tests are computed; that the texts are accepted follows by `write-read`.
+use mathlib.Core.Path.{_≡_, refl}
+use mathlib.Core.Bool.{true, false, not}
+use mathlib.Core.List.{List, [], _∷_, _++_}
+use Prim.Native.Nat.{ℕ, _*_}
+use lib.IntN.{ℤ, pos}
+use lib.ListN.{replicate}
+use Rattle.logic.specs.Tests.{both, either, pick, consIf, some, concatMap}
+use Rattle.book.specs.declared.Shape.{Shape}
+use Rattle.book.specs.Limits as limit
+use Rattle.book.specs.Kinds.{kinds, kind, unknown, contents, fieldsOf, ruleFields, preferenceFields, mostRows, most, rangeOf}
+use Rattle.book.specs.Shapes.{emptyShape}
+use Rattle.text.specs.Lines.{between, inside, andThen, testField, code, numbersIn, headless, missing, unless, judged}
+use Rattle.text.specs.Reading.{toNat, rowOf, prepend, onLine, readText, tableOf}
+use Rattle.text.specs.Reading.Outcome.{accepted}
+use Rattle.text.specs.Tables.{countsOf, layout, widths, cut, rowsOf, testFields, rowFault, testRow, testRows, shapeIn, miscount, testTable}
+use Rattle.text.specs.Writing.{textOf}
+use Rattle.text.proofs.Inverse.{write-read}
+
+pub empty-table : testTable (tableOf emptyShape []) ≡ accepted emptyShape []
+unfolding kinds kind unknown contents fieldsOf rangeOf between inside both either pick toNat tableOf emptyShape countsOf layout widths cut rowsOf testRows shapeIn miscount testTable
+empty-table = refl
+
+pub empty-text : readText (textOf emptyShape []) ≡ accepted emptyShape []
+empty-text = write-read (tableOf emptyShape []) emptyShape [] empty-table .0
+
+-- The full book: constraints with empty bodies, exceptions that give +1, preferences of the first exception over itself.
+unfoldable pub fullShape : Shape
+fullShape = record { statements = limit.statements; plain = limit.plain; exceptions = limit.exceptions; preferences = limit.preferences }
+
+unfoldable pub fullRows : List ℤ
+fullRows =
+    replicate (limit.plain * ruleFields) (pos 0)
+    ++ (concatMap (λ x. x) (replicate limit.exceptions (pos 1 ∷ replicate 8 (pos 0))) ++ replicate (limit.preferences * preferenceFields) (pos 1))
+
+pub full-table : testTable (tableOf fullShape fullRows) ≡ accepted fullShape fullRows
+unfolding kinds kind unknown contents fieldsOf mostRows most rangeOf between inside andThen testField code numbersIn headless missing unless judged both either pick consIf some concatMap toNat rowOf prepend onLine tableOf countsOf layout widths cut rowsOf testFields rowFault testRow testRows shapeIn miscount testTable fullShape fullRows
+full-table = refl
+
+pub full-text : readText (textOf fullShape fullRows) ≡ accepted fullShape fullRows
+full-text = write-read (tableOf fullShape fullRows) fullShape fullRows full-table .0

@@ -1,0 +1,15 @@
+pub mod Tests
+pub mod Fields
+pub mod KindFacts
+pub mod Lines
+pub mod Texts
+pub mod Layouts
+pub mod Rows
+pub mod Runs
+pub mod Books
+pub mod Written
+pub mod Inverse
+pub mod Facts
+pub mod Refusals
+pub mod Examples
+pub mod Vectors

@@ -1,0 +1,97 @@
+-- Texts and tables with their refusal and its line, or 0 and how many numbers the table has: computed through the definitions.
+-- They are the small books K7 and K8, and for each refusal a case or more, at the first, a middle and the last line.
+use mathlib.Core.Bool.{Bool, true, false, not}
+use mathlib.Core.List.{List, [], _∷_}
+use Prim.Native.Nat.{ℕ}
+use Prim.Native.Char.{code as codeOf}
+use Prim.Native.String.{String}
+use Prim.Native.String as S
+use lib.Dec.{T, eqb}
+use lib.IntN.{ℤ, pos, negsuc}
+use lib.ListN.{length}
+use Rattle.logic.specs.Tests.{both, either, pick, consIf, some}
+use Rattle.book.specs.Kinds.{kinds, kind, unknown, contents, fieldsOf, bytes, width, most, longest, mostRows, rangeOf}
+use Rattle.text.specs.Fields.{columnOf, columns, digitOf, sizeOf, minusIn, signed, same, readColumns, spelt, firstField}
+use Rattle.text.specs.Lines.{toFirst, lines, seek, kindFor, between, inside, andThen, testField, readFields, code, numbersIn, headless, missing, miscounted, wholeOf, unless, judged, readRest, readKind, readLine}
+use Rattle.text.specs.Reading.{Outcome, start, toNat, lastOr, after, step, rowOf, prepend, shapeOf, readEnd, onLine, readLines, lastByte, readText, tableOf}
+use Rattle.text.specs.Reading.Outcome.{accepted, refused}
+use Rattle.text.specs.Tables.{countsOf, layout, widths, cut, rowsOf, testFields, rowFault, testRow, testRows, shapeIn, miscount, testTable}
+
+-- The bytes of a text.
+abbrev ascii : String → List ℕ
+ascii S.[] = []
+ascii (S._∷_ c s) = codeOf c ∷ ascii s
+
+abbrev is : ℕ → ℕ → Outcome → Bool
+is q l (accepted s ws) = pick (eqb q 0) (eqb l (length (tableOf s ws))) false
+is q l (refused p k) = both (eqb q p) (eqb l k)
+
+abbrev texts : List (ℕ × ℕ × String) → Bool
+texts [] = true
+texts (v ∷ vs) = elim (is (v .0) (v .1) (readText (ascii (v .2)))) [ true ↦ texts vs | false ↦ false ]
+
+abbrev tables : List (ℕ × ℕ × List ℤ) → Bool
+tables [] = true
+tables (v ∷ vs) = elim (is (v .0) (v .1) (testTable (v .2))) [ true ↦ tables vs | false ↦ false ]
+
+pub texts-right : T (texts
+    ((0, 40, "B   1   3\nR   0   0   0   0   0   1   2   0   0\nR   3   1   0   0   0   0   0   0   0\nX   1   0   0   0   0   0   0   0   0\nX   2   0   0   0   0   0   0   0   0\nZ   4\n") ∷
+    (0, 42, "B   1   3\nR   0   0   0   0   0   1   2   0   0\nR   3   1   0   0   0   0   0   0   0\nX   1   0   0   0   0   0   0   0   0\nX   2   0   0   0   0   0   0   0   0\nP   1   2\nZ   5\n") ∷
+    (0, 4, "B   1   1\nZ   0\n") ∷
+    (0, 4, "B   1  48\nZ   0\n") ∷
+    (2, 0, "") ∷
+    (2, 0, "B   1   1") ∷
+    (3, 1, "\n") ∷
+    (3, 1, "Z   0\n") ∷
+    (3, 2, "B   1   1\n") ∷
+    (3, 2, "B   1   1\nB   1   1\nZ   0\n") ∷
+    (3, 3, "B   1   1\nZ   0\n\n") ∷
+    (3, 3, "B   1   1\nX   1   0   0   0   0   0   0   0   0\nR   0   0   0   0   0   0   0   0   0\nZ   2\n") ∷
+    (4, 1, "B   1   1\r\nZ   0\r\n") ∷
+    (4, 2, "B   1   1\nR   0\nZ   1\n") ∷
+    (4, 2, "B   1   1\nZ  0\n") ∷
+    (5, 1, "B   1\t  1\nZ   0\n") ∷
+    (5, 2, "B   1   1\nZ  -0\n") ∷
+    (5, 2, "B   1   1\nZ  00\n") ∷
+    (5, 2, "B   1   1\nZ 0  \n") ∷
+    (5, 1, "B   1\0  1\nZ   0\n") ∷
+    (5, 1, "B   1 \u{ff} 1\nZ   0\n") ∷
+    (5, 2, "B   1   1\nR 1 0   0   0   0   0   0   0   0   0\nZ   1\n") ∷
+    (5, 2, "B   1   1\nZ  +0\n") ∷
+    (5, 2, "B   1   1\nZ    \n") ∷
+    (7, 1, "B   2   1\nZ   0\n") ∷
+    (7, 1, "B   2  49\nZ   0\n") ∷
+    (6, 1, "B   1  49\nZ   0\n") ∷
+    (6, 1, "B   1   0\nZ   0\n") ∷
+    (6, 2, "B   1   1\nR   2   0   0   0   0   0   0   0   0\nZ   1\n") ∷
+    (6, 2, "B   1   1\nR  -2   0   0   0   0   0   0   0   0\nZ   1\n") ∷
+    (6, 2, "B   1   1\nZ 245\n") ∷
+    (6, 2, "B   1   1\nZ  -1\n") ∷
+    (6, 3, "B   1   1\nX   1   0   0   0   0   0   0   0   0\nP  13   1\nZ   2\n") ∷
+    (8, 14, "B   1   1\nX   1   0   0   0   0   0   0   0   0\nX   1   0   0   0   0   0   0   0   0\nX   1   0   0   0   0   0   0   0   0\nX   1   0   0   0   0   0   0   0   0\nX   1   0   0   0   0   0   0   0   0\nX   1   0   0   0   0   0   0   0   0\nX   1   0   0   0   0   0   0   0   0\nX   1   0   0   0   0   0   0   0   0\nX   1   0   0   0   0   0   0   0   0\nX   1   0   0   0   0   0   0   0   0\nX   1   0   0   0   0   0   0   0   0\nX   1   0   0   0   0   0   0   0   0\nX   1   0   0   0   0   0   0   0   0\nZ  13\n") ∷
+    (9, 2, "B   1   1\nX   0   0   0   0   0   0   0   0   0\nZ   1\n") ∷
+    (10, 2, "B   1   1\nP   1   1\nZ   1\n") ∷
+    (10, 3, "B   1   1\nX   1   0   0   0   0   0   0   0   0\nP   1   2\nZ   2\n") ∷
+    (11, 2, "B   1   1\nZ   1\n") ∷
+    (11, 4, "B   1   1\nR   0   0   0   0   0   0   0   0   0\nR   0   0   0   0   0   0   0   0   0\nZ   1\n") ∷ []))
+unfolding kinds kind unknown contents fieldsOf bytes width most longest mostRows rangeOf both either pick consIf some columnOf columns digitOf sizeOf minusIn signed same readColumns spelt firstField toFirst lines seek kindFor between inside andThen testField readFields code numbersIn headless missing miscounted wholeOf unless judged readRest readKind readLine start toNat lastOr after step rowOf prepend shapeOf readEnd onLine readLines lastByte readText tableOf
+texts-right = tt
+
+pub tables-right : T (tables
+    ((16, 0, []) ∷
+    (16, 0, pos 1 ∷ pos 0 ∷ pos 0 ∷ []) ∷
+    (6, 1, pos 0 ∷ pos 0 ∷ pos 0 ∷ pos 0 ∷ []) ∷
+    (6, 1, pos 49 ∷ pos 201 ∷ pos 0 ∷ pos 0 ∷ []) ∷
+    (8, 1, pos 1 ∷ pos 201 ∷ pos 0 ∷ pos 0 ∷ []) ∷
+    (8, 1, pos 1 ∷ pos 0 ∷ negsuc 0 ∷ pos 0 ∷ []) ∷
+    (8, 1, pos 48 ∷ pos 0 ∷ pos 0 ∷ pos 33 ∷ []) ∷
+    (16, 0, pos 1 ∷ pos 0 ∷ pos 0 ∷ pos 0 ∷ pos 0 ∷ []) ∷
+    (16, 0, pos 1 ∷ pos 1 ∷ pos 0 ∷ pos 0 ∷ pos 0 ∷ pos 0 ∷ pos 0 ∷ pos 0 ∷ pos 0 ∷ pos 0 ∷ pos 0 ∷ pos 0 ∷ []) ∷
+    (6, 2, pos 1 ∷ pos 1 ∷ pos 0 ∷ pos 0 ∷ pos 0 ∷ pos 0 ∷ pos 0 ∷ pos 0 ∷ pos 0 ∷ pos 0 ∷ pos 0 ∷ pos 0 ∷ pos 2 ∷ []) ∷
+    (9, 3, pos 1 ∷ pos 1 ∷ pos 1 ∷ pos 0 ∷ pos 0 ∷ pos 0 ∷ pos 0 ∷ pos 0 ∷ pos 0 ∷ pos 0 ∷ pos 0 ∷ pos 0 ∷ pos 0 ∷ pos 0 ∷ pos 0 ∷ pos 0 ∷ pos 0 ∷ pos 0 ∷ pos 0 ∷ pos 0 ∷ pos 0 ∷ pos 0 ∷ []) ∷
+    (10, 4, pos 1 ∷ pos 1 ∷ pos 1 ∷ pos 1 ∷ pos 0 ∷ pos 0 ∷ pos 0 ∷ pos 0 ∷ pos 0 ∷ pos 0 ∷ pos 0 ∷ pos 0 ∷ pos 0 ∷ pos 1 ∷ pos 0 ∷ pos 0 ∷ pos 0 ∷ pos 0 ∷ pos 0 ∷ pos 0 ∷ pos 0 ∷ pos 0 ∷ pos 1 ∷ pos 2 ∷ []) ∷
+    (6, 4, pos 1 ∷ pos 1 ∷ pos 1 ∷ pos 1 ∷ pos 0 ∷ pos 0 ∷ pos 0 ∷ pos 0 ∷ pos 0 ∷ pos 0 ∷ pos 0 ∷ pos 0 ∷ pos 0 ∷ pos 1 ∷ pos 0 ∷ pos 0 ∷ pos 0 ∷ pos 0 ∷ pos 0 ∷ pos 0 ∷ pos 0 ∷ pos 0 ∷ pos 0 ∷ pos 1 ∷ []) ∷
+    (0, 24, pos 1 ∷ pos 1 ∷ pos 1 ∷ pos 1 ∷ pos 0 ∷ pos 0 ∷ pos 0 ∷ pos 0 ∷ pos 0 ∷ pos 0 ∷ pos 0 ∷ pos 0 ∷ pos 0 ∷ pos 1 ∷ pos 0 ∷ pos 0 ∷ pos 0 ∷ pos 0 ∷ pos 0 ∷ pos 0 ∷ pos 0 ∷ pos 0 ∷ pos 1 ∷ pos 1 ∷ []) ∷
+    (0, 4, pos 48 ∷ pos 0 ∷ pos 0 ∷ pos 0 ∷ []) ∷ []))
+unfolding kinds kind unknown contents fieldsOf most mostRows rangeOf both either pick consIf some between inside andThen testField code numbersIn headless missing unless judged toNat rowOf prepend onLine tableOf countsOf layout widths cut rowsOf testFields rowFault testRow testRows shapeIn miscount testTable
+tables-right = tt

@@ -1,0 +1,226 @@
+-- The rows of an accepted table can be written: each number has four columns, each row its kind's fields, and the text is not too long.
+-- By the range of each content; the length by induction on the counts, each at most its kind's limit.
+use mathlib.Core.Path.{_≡_, refl, sym, ap, _∙_}
+use mathlib.Core.Bool.{Bool, true, false, not}
+use mathlib.Core.List.{List, [], _∷_, _++_}
+use Prim.Native.Nat.{ℕ, zero, suc, _+_, _*_, _<_, _≤_}
+use native.Mathlib.Nat.{add-zero, zero-add, suc-mul, mul-le-mul-right}
+use native.Mathlib.Omega.{arith}
+use lib.Dec.{eqb, ltb, leb}
+use lib.IntN.{ℤ, pos, negsuc, negℤ}
+use lib.Signed.{leZ}
+use lib.ListN.{length, getD, take, drop, replicate, length-append, length-take, length-drop, take-append-drop}
+use lib.Seq.{drop-cons}
+use borrow.Author.Tests.{leb-true}
+use Rattle.logic.specs.Lists.{Every}
+use Rattle.logic.specs.Tests.{both, either, pick}
+use Rattle.logic.proofs.Decide.{clash}
+use Rattle.book.specs.declared.Kind.{Kind}
+use Rattle.book.specs.declared.Shape.{Shape}
+use Rattle.book.specs.declared.Content.{Content}
+use Rattle.book.specs.declared.Content.the-variants.{Edition, Statements, Literal, Exception, Total}
+use Rattle.book.specs.Kinds.{kinds, kind, unknown, fieldsOf, bytes, none, first, last, most, longest, mostRows, Range, rangeOf}
+use Rattle.text.specs.declared.Field.the-variants.{Value}
+use Rattle.text.specs.Fields.{writtenAll}
+use Rattle.text.specs.Lines.{Numbers, Line, between, inside, testField, judged, lineOf, unlines}
+use Rattle.text.specs.Lines.Numbers.{numbers, fault}
+use Rattle.text.specs.Lines.Line.{line, wrong}
+use Rattle.text.specs.Reading.{Outcome, rowOf, onLine}
+use Rattle.text.specs.Reading.Outcome.{accepted, refused}
+use Rattle.text.specs.Tables.{Row, countsOf, layout, widths, cut, rowsOf, testFields, rowFault, testRow, testRows}
+use Rattle.text.specs.Writing.{firstRow, lastRow, total, bookRows, rowLines, textOf}
+use Rattle.text.proofs.Tests.{both-left, both-right}
+use Rattle.text.proofs.Fields.{Short}
+use Rattle.text.proofs.KindFacts.{many, width-is}
+use Rattle.text.proofs.Lines.{judged-line, fields-tested, first-numbers, fields-length}
+use Rattle.text.proofs.Texts.{Writable, Went, went}
+use Rattle.text.proofs.Layouts.{Rising, layout-rising}
+use Rattle.text.proofs.Rows.{countOf, Within, row-nums, few-rows}
+use Rattle.text.proofs.Books.{Sized, in-first}
+
+-- ---- numbers in range have four columns
+low-short : (a : ℕ) (v : ℤ) (b : ℕ) → a < 1000 → b < 10000 → between (negℤ (pos a)) (pos b) v ≡ true → Short v
+unfolding between Short
+low-short a (pos m) b h g e = omega (arith, leb-true m b (both-right (leZ (negℤ (pos a)) (pos m)) (leb m b) e))
+low-short zero (negsuc m) b h g e = absurd (clash (both-left (leZ (pos 0) (negsuc m)) _ e))
+low-short (suc a) (negsuc m) b h g e = omega (arith, leb-true m a (both-left (leb m a) _ e))
+
+high-short : (a : ℕ) (v : ℤ) (b : ℕ) → b < 10000 → between (pos a) (pos b) v ≡ true → Short v
+unfolding between Short
+high-short a (pos m) b g e = omega (arith, leb-true m b (both-right (leb a m) (leb m b) e))
+high-short a (negsuc m) b g e = absurd (clash (both-left (leZ (pos a) (negsuc m)) _ e))
+
+pub content-short : (c : Content) (n : ℕ) (v : ℤ) → n < 1000 → inside (rangeOf c n) v ≡ true → Short v
+unfolding inside rangeOf mostRows most kinds pick
+content-short Edition n v h e = high-short 1 v _ (omega arith) e
+content-short Statements n v h e = high-short 1 v _ (omega arith) e
+content-short Literal n v h e = low-short n v n h (omega arith) e
+content-short Exception n v h e = high-short 1 v _ (omega arith) e
+content-short Total n v h e = high-short 0 v _ (omega arith) e
+
+all-short : (cs : List Content) (n : ℕ) (vs us : List ℤ) → n < 1000 → testFields cs n vs ≡ numbers us → Every Short vs
+unfolding testFields
+all-short [] n [] us h e = tt
+all-short [] n (v ∷ vs) us h e = absurd (let z : _≡_ {A = ℕ} 0 1 = cc in omega arith)
+all-short (c ∷ cs) n [] us h e = tt
+all-short (c ∷ cs) n (v ∷ vs) us h e =
+    let g = first-numbers (Value v) (rangeOf c n) (testFields cs n vs) us e in
+    (content-short c n v h (in-first (rangeOf c n) v (testFields cs n vs) us e), all-short cs n vs (g .1) h (g .3))
+
+pub small-n : (n : ℕ) → Sized n → n < 1000
+unfolding inside between rangeOf
+small-n n e = omega (arith, leb-true n _ (both-right (leb 1 n) _ e))
+
+-- ---- the rows of an accepted table
+-- What a row that passed is.
+pub record Row-passed (s : Shape) (k : ℕ) (us : List ℤ) (j : ℕ) (vs : List ℤ) : Type 0 where
+  pub kind-is : k ≡ j
+  pub nums-are : vs ≡ us
+  pub wide : length us ≡ length (fieldsOf (kind k))
+  pub right : rowFault (s .exceptions) (kind k) us ≡ 0
+  pub fields-pass : testFields (fieldsOf (kind k)) (s .statements) us ≡ numbers us
+
+pub tested-row : (s : Shape) (k : ℕ) (us : List ℤ) (j : ℕ) (vs : List ℤ) → testRow s (record { place = k; nums = us }) ≡ line j vs → Row-passed s k us j vs
+unfolding testRow
+tested-row s k us j vs e =
+    let x = judged-line (rowFault (s .exceptions) (kind k)) k (testFields (fieldsOf (kind k)) (s .statements) us) j vs e in
+    let y = fields-tested (fieldsOf (kind k)) (s .statements) us vs (x .0) in
+    record { kind-is = x .1; nums-are = y .0; wide = y .1; right = rw (y .0) at (x .2); fields-pass = rw (y .0) at (x .0) }
+
+-- The rest of rows that were accepted.
+pub record Rest (s : Shape) (k : ℕ) (ks : List ℕ) (ws : List ℤ) (at : ℕ) (s′ : Shape) (ws′ : List ℤ) : Type 0 where
+  pub us : List ℤ
+  pub passed : Row-passed s k (take (kind k .fields) ws) k (take (kind k .fields) ws)
+  pub then : testRows s (cut ks (drop (kind k .fields) ws)) (suc at) ≡ accepted s′ us
+  pub all : ws′ ≡ rowOf k (take (kind k .fields) ws) ++ us
+
+join-rest : (s : Shape) (k : ℕ) (vs us ws′ : List ℤ) (j : ℕ) (ts : List ℤ) → Row-passed s k vs j ts → ws′ ≡ rowOf j ts ++ us → Row-passed s k vs k vs × (ws′ ≡ rowOf k vs ++ us)
+join-rest s k vs us ws′ j ts p e =
+    (record { kind-is = refl; nums-are = refl; wide = p .wide; right = p .right; fields-pass = p .fields-pass }, e ∙ rw (p .nums-are, ← p .kind-is))
+
+pub next-row : (s : Shape) (k : ℕ) (ks : List ℕ) (ws : List ℤ) (at : ℕ) (s′ : Shape) (ws′ : List ℤ) → testRows s (cut (k ∷ ks) ws) at ≡ accepted s′ ws′ → Rest s k ks ws at s′ ws′
+unfolding testRows cut
+next-row s k ks ws at s′ ws′ e =
+    let w = went (testRow s (record { place = k; nums = take (kind k .fields) ws })) at (λ j vs. testRows s (cut ks (drop (kind k .fields) ws)) (suc at)) s′ ws′ e in
+    let q = join-rest s k (take (kind k .fields) ws) (w .us) ws′ (w .k) (w .vs) (tested-row s k (take (kind k .fields) ws) (w .k) (w .vs) (w .is)) (w .all) in
+    record { us = w .us; passed = q .0; then = w .then; all = q .1 }
+
+pub rows-tested : (ks : List ℕ) (s : Shape) (ws : List ℤ) (at m : ℕ) (s′ : Shape) (ws′ : List ℤ) → first < m → Rising m last ks → length ws ≡ widths ks → testRows s (cut ks ws) at ≡ accepted s′ ws′ → (s′ ≡ s) × (ws′ ≡ ws)
+unfolding testRows cut widths
+rows-tested [] s [] at m s′ ws′ b r l e = (cc, cc)
+rows-tested [] s (w ∷ ws) at m s′ ws′ b r l e = absurd (omega arith)
+rows-tested (k ∷ ks) s ws at m s′ ws′ b r l e =
+    let n = next-row s k ks ws at s′ ws′ e in
+    let ih = rows-tested ks s (drop (kind k .fields) ws) (suc at) k s′ (n .us) (omega (arith, r .0)) (r .2) (length-drop (kind k .fields) ws ∙ omega arith) (n .then) in
+    (ih .0, join-nums k (kind k .fields) ws ws′ (n .us) (omega (arith, r .0)) (r .1) (ih .1) (n .all))
+  where
+    join-nums : (k f : ℕ) (ws ws′ us : List ℤ) → first < k → k < last → us ≡ drop f ws → ws′ ≡ rowOf k (take f ws) ++ us → ws′ ≡ ws
+    join-nums k f ws ws′ us h g d a = a ∙ rw (row-nums k (take f ws) h g, d) (take-append-drop f ws)
+
+pub rows-writable : (ks : List ℕ) (s : Shape) (ws : List ℤ) (at m : ℕ) (s′ : Shape) (ws′ : List ℤ) → first < m → Rising m last ks → s .statements < 1000 → testRows s (cut ks ws) at ≡ accepted s′ ws′ → Every Writable (cut ks ws)
+unfolding cut
+rows-writable [] s ws at m s′ ws′ b r h e = tt
+rows-writable (k ∷ ks) s ws at m s′ ws′ b r h e =
+    let n = next-row s k ks ws at s′ ws′ e in
+    (record {
+      known = omega (arith, r .1);
+      short = all-short (fieldsOf (kind k)) (s .statements) (take (kind k .fields) ws) (take (kind k .fields) ws) h (n .passed .fields-pass);
+      wide = n .passed .wide ∙ width-is k (omega (arith, r .1));
+    },
+    rows-writable ks s (drop (kind k .fields) ws) (suc at) k s′ (n .us) (omega (arith, r .0)) (r .2) h (n .then))
+
+-- ---- how long the text is
+-- The bytes of lines of these kinds, with their line feeds.
+unfoldable pub bytesOf : List ℕ → ℕ
+bytesOf [] = 0
+bytesOf (k ∷ ks) = bytes (kind k) + bytesOf ks
+
+unfoldable pub places : List Row → List ℕ
+places [] = []
+places (r ∷ rs) = r .place ∷ places rs
+
+line-bytes : (k : ℕ) (vs : List ℤ) (bs : List ℕ) → length vs ≡ kind k .fields → length (lineOf k vs ++ (10 ∷ bs)) ≡ bytes (kind k) + length bs
+unfolding lineOf bytes
+line-bytes k vs bs e = simp length-append (omega (arith, fields-length vs, e))
+
+pub text-bytes : (rs : List Row) → Every Writable rs → length (unlines (rowLines rs)) ≡ bytesOf (places rs)
+unfolding rowLines unlines bytesOf places
+text-bytes [] w = refl
+text-bytes (r ∷ rs) w = line-bytes (r .place) (r .nums) (unlines (rowLines rs)) (w .0 .wide) ∙ ap (λ (m : ℕ). bytes (kind (r .place)) + m) (text-bytes rs (w .1))
+
+places-cut : (ks : List ℕ) (ws : List ℤ) (rs : List Row) → places (cut ks ws ++ rs) ≡ ks ++ places rs
+unfolding places cut
+places-cut [] ws rs = refl
+places-cut (k ∷ ks) ws rs = rw (places-cut ks (drop (kind k .fields) ws) rs)
+
+bytes-append : (ks js : List ℕ) → bytesOf (ks ++ js) ≡ bytesOf ks + bytesOf js
+unfolding bytesOf
+bytes-append [] js = omega arith
+bytes-append (k ∷ ks) js = rw (bytes-append ks js) (omega arith)
+
+bytes-repeat : (c k : ℕ) → bytesOf (replicate c k) ≡ c * bytes (kind k)
+unfolding bytesOf
+bytes-repeat zero k = omega arith
+bytes-repeat (suc c) k = rw (bytes-repeat c k, suc-mul) (omega arith)
+
+most-is : (x : Kind) (xs : List Kind) → most bytes (x ∷ xs) ≡ x .limit * bytes x + most bytes xs
+unfolding most
+most-is x xs = refl
+
+-- The kinds from place i on, each as often as it may.
+most-from : (i : ℕ) → i < none → most bytes (drop i kinds) ≡ kind i .limit * bytes (kind i) + most bytes (drop (suc i) kinds)
+unfolding kind
+most-from i h = rw (drop-cons kinds i unknown (rw many h)) (most-is (getD kinds i unknown) (drop (suc i) kinds))
+
+bytes-none : (m : ℕ) → bytesOf [] + m ≤ m
+unfolding bytesOf
+bytes-none m = omega arith
+
+long-first : longest ≡ bytes (kind first) + most bytes (drop 1 kinds)
+unfolding longest most bytes kind kinds
+long-first = refl
+
+long-last : most bytes (drop last kinds) ≡ bytes (kind last)
+unfolding most bytes kind kinds
+long-last = refl
+
+places-first : (n : ℕ) (rs : List Row) → places (firstRow n ∷ rs) ≡ first ∷ places rs
+unfolding places firstRow
+places-first n rs = refl
+
+places-last : (m : ℕ) → places (lastRow m ∷ []) ≡ last ∷ []
+unfolding places lastRow
+places-last m = refl
+
+all-bytes : (ks : List ℕ) → bytesOf (first ∷ (ks ++ (last ∷ []))) ≡ bytes (kind first) + bytesOf ks + bytes (kind last)
+unfolding bytesOf
+all-bytes ks = rw (bytes-append ks (last ∷ [])) (omega arith)
+
+layout-bytes : (cs : List ℕ) (i : ℕ) → i + length cs ≤ none → ((j : ℕ) → j < length cs → getD cs j 0 ≤ kind (i + j) .limit) → bytesOf (layout i cs) + most bytes (drop (i + length cs) kinds) ≤ most bytes (drop i kinds)
+unfolding layout
+layout-bytes [] i h u = rw (add-zero i) (bytes-none (most bytes (drop i kinds)))
+layout-bytes (c ∷ cs) i h u =
+    let a = bytes-append (replicate c i) (layout (suc i) cs) in
+    let b = bytes-repeat c i in
+    let q : c ≤ kind i .limit = rw (add-zero i) at (u 0 (omega arith)) in
+    let m = mul-le-mul-right (bytes (kind i)) q in
+    let e : i + suc (length cs) ≡ suc i + length cs = omega arith in
+    let ih = layout-bytes cs (suc i) (omega arith) (λ j g. let f : i + suc j ≡ suc i + j = omega arith in rw f at (u (suc j) (omega arith))) in
+    rw (e, a, b, most-from i (omega arith)) (omega (arith, ih, m))
+
+places-book : (s : Shape) (ws : List ℤ) → places (bookRows s ws) ≡ first ∷ (layout 1 (countsOf s) ++ (last ∷ []))
+unfolding bookRows rowsOf firstRow
+places-book s ws = rw (places-first (s .statements) (cut (layout 1 (countsOf s)) ws ++ (lastRow (total s) ∷ [])), places-cut (layout 1 (countsOf s)) ws (lastRow (total s) ∷ []), places-last (total s))
+
+-- The bytes of a book of this shape.
+pub book-bytes : (s : Shape) (ws : List ℤ) → Every Writable (bookRows s ws) → length (textOf s ws) ≡ bytes (kind first) + bytesOf (layout 1 (countsOf s)) + bytes (kind last)
+unfolding textOf
+book-bytes s ws w = text-bytes (bookRows s ws) w ∙ (rw (places-book s ws) (all-bytes (layout 1 (countsOf s))))
+
+pub text-fits : (s : Shape) (ws : List ℤ) → Within s → Every Writable (bookRows s ws) → length (textOf s ws) ≤ longest
+unfolding countsOf countOf
+text-fits s ws u w =
+    let b = layout-bytes (s .plain ∷ s .exceptions ∷ s .preferences ∷ []) 1 (omega arith) (λ j h. let q : 1 + j ≡ suc j = omega arith in rw q (u (suc j) (omega arith) (omega arith))) in
+    let t : longest ≡ bytes (kind first) + most bytes (drop 1 kinds) = long-first in
+    let z : most bytes (drop last kinds) ≡ bytes (kind last) = long-last in
+    omega (arith, book-bytes s ws w, b, t, z)
