@@ -1,5 +1,5 @@
 -- Words that P lines step through are the words of the preferences.
--- By induction on a chain of P lines: its first line gives a member, and that member leads on to the chain's end.
+-- By induction on a chain of P lines: its first line gives a member, and the sets are closed under the steps that follow.
 use mathlib.Core.Path.{_≡_, refl, sym}
 use mathlib.Core.List.{List}
 use Prim.Native.Nat.{ℕ, suc, _-_, _<_, _≤_}
