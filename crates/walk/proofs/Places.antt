@@ -28,7 +28,7 @@ earlier-before p q (fewer l) = order.fewer l
 earlier-before p q (smaller e l) = order.smaller e l
 
 -- A set at an earlier place.
-at-or-past : (j k : ℕ) → j ≤ k → k < sets → (p q : Pair) → Passed j p → setAt k ≡ q .taken → Before p q
+pub at-or-past : (j k : ℕ) → j ≤ k → k < sets → (p q : Pair) → Passed j p → setAt k ≡ q .taken → Before p q
 at-or-past zero k l h p q s e = absurd s
 at-or-past (suc j) k l h p q (inl s) e = at-or-past j k (omega arith) h p q s e
 at-or-past (suc j) k l h p q (inr d) e = earlier-before p q (rw (d, e) at (order-rule .rises j k (omega arith) h))

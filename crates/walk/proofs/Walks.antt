@@ -8,7 +8,7 @@ use native.Mathlib.Nat.{le-refl, le-trans}
 use native.Mathlib.Numerals.{add-one}
 use native.Mathlib.Omega.{arith}
 use borrow.Author.Tests.{not-true, not-false}
-use lib.ListN.{length}
+use lib.ListN.{length, getD, replicate, getD-replicate, List·getD-eq-default, length-replicate}
 use Rattle.logic.specs.Tests.{Decides}
 use Rattle.logic.proofs.Decide.{clash, reworded}
 use Rattle.sets.specs.declared.Pair.{Pair}
@@ -24,16 +24,18 @@ use Rattle.page.specs.Pages.{Page, Fits, Listed}
 use Rattle.page.proofs.Pages.{page-none, page-full, page-append}
 use Rattle.page.proofs.Listed.{views-listed, part-of-listing}
 use Rattle.meaning.specs.Books.{Book, Lawful}
-use Rattle.meaning.specs.Order.{Point, LawfulPoint, Later, AllLater}
+use Rattle.meaning.specs.Order as meaning
+use Rattle.meaning.specs.Order.{Before, Point, LawfulPoint, Later, AllLater}
 use Rattle.meaning.specs.Twins.Verdicts.{view}
 use Rattle.meaning.proofs.Twins.{decides-view}
+use Rattle.meaning.proofs.Ordered.{before-irreflexive, before-transitive}
 use Rattle.meaning.proofs.Parts.{Part, part-none, part-same}
 use Rattle.bridge.proofs.Views.{view-same}
 use Rattle.walk.specs.Marks.{RightMarks}
 use Rattle.walk.specs.Plans.{MarksRight, Admits}
 use Rattle.resolution.proofs.Resolutions.{resolution-same}
-use Rattle.walk.specs.Walks.{Passed, Serves, SetListed, Beyond, Walked}
-use Rattle.walk.proofs.Places.{one-more, all-places, cut-short}
+use Rattle.walk.specs.Walks.{Passed, Serves, SetListed, Beyond, Walked, FirstPage, PageAfter}
+use Rattle.walk.proofs.Places.{at-or-past, none-yet, one-more, all-places, cut-short}
 
 -- ---- one set
 module _ (ws ranks : List ℕ) (root : Bounds) (q : Task) (t : ℕ) (after : Bool) (at : ℕ) (m m′ : List ℕ) (z : Bool) (a : Admits ws (q .rules) ranks root t m m′ z) (o : List ℕ) where
@@ -129,3 +131,33 @@ last-place t j h e n =
     let k = order-rule .present t h in
     let l : k .0 ≡ j = ⊎-elim (λ x. absurd (n (k .0) x (k .2))) (λ x. omega (arith, k .1)) (lt-or-le (k .0) j) in
     (omega arith, rw l at (k .2))
+
+-- ---- whole pages
+-- Nothing is marked at first.
+pub none-marked : (b : Book) (k : ℕ) → RightMarks b (replicate k 0)
+none-marked b k = record {
+  right = λ t x. absurd (x (⊎-elim (λ h. getD-replicate k t 0 0 h) (λ h. List·getD-eq-default (replicate k 0) 0 (rw (length-replicate {A = ℕ} k 0) h)) (lt-or-le t k)));
+}
+
+module _ (ws ranks : List ℕ) (root : Bounds) (q : Task) (k : ℕ) (o : List ℕ) where
+  pub first-walked : (o′ : List ℕ) (r : ℕ) → Walked ws ranks root q 0 0 (replicate k 0) o o′ r → FirstPage ws ranks root q o o′ r
+  first-walked o′ r w = record {
+    page = λ b s. w .whole b meaning.start s (none-marked b k) tt (record { later = λ i h l p e. tt }) o [] (none-yet b meaning.start) (page-none (q .room) 0 o);
+  }
+
+  module _ (j : ℕ) (h : j < sets) (e : setAt j ≡ q .point .taken) where
+    -- Nothing that stands before the point's place is later than the point.
+    not-later : (b : Book) → Part b (meaning.at (q .point)) (Passed j) []
+    not-later b = part-none b (meaning.at (q .point)) (Passed j) (λ p r l s. before-irreflexive p (before-transitive p (q .point) p (at-or-past j j (le-refl j) h p (q .point) s e) l))
+
+    pub after-walked : (m : List ℕ) (o′ o″ : List ℕ) (r r′ : ℕ) → SetListed ws ranks root q (q .point .taken) true 0 (replicate k 0) m o o′ r
+        → Walked ws ranks root q (j + 1) r m o′ o″ r′ → PageAfter ws ranks root q o o″ r′
+    after-walked m o′ o″ r r′ s w = record { page = page }
+      where
+        page : (b : Book) → Serves b ws ranks root q → Lawful b (q .point) → (zs : List Pair) × AllLater b (meaning.at (q .point)) zs × Page (q .room) 0 o o″ zs r′
+        page b x l =
+            let from : Point = meaning.at (q .point) in
+            let d = s .part b from x (none-marked b k) (record { within = λ f. (refl, l, refl); before = λ f. absurd (clash (sym f)) }) in
+            let y = one-more b from j [] (d .0) h (not-later b) (part-same b from (λ i. i .taken ≡ q .point .taken) (λ i. setAt j ≡ i .taken) (d .0) (λ i a z. e ∙ sym z) (λ i a z. sym z ∙ e) (d .2)) in
+            w .whole b from x (s .marks .stay b (x .rooted) (none-marked b k)) l
+            (record { later = λ i n z p f. at-or-past (suc j) i (omega arith) z (q .point) p (inr e) f }) o (d .0) (rw (add-one j) y) (d .1)

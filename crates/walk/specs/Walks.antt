@@ -13,8 +13,8 @@ use Rattle.masks.specs.declared.Bounds.{Bounds}
 use Rattle.page.specs.declared.Task.{Task}
 use Rattle.page.specs.Orders.{Begins}
 use Rattle.page.specs.Pages.{Page}
-use Rattle.meaning.specs.Books.{Book}
-use Rattle.meaning.specs.Order.{Point, LawfulPoint, Later, AllLater}
+use Rattle.meaning.specs.Books.{Book, Lawful}
+use Rattle.meaning.specs.Order.{Point, start, at, LawfulPoint, Later, AllLater}
 use Rattle.meaning.proofs.Parts.{Part}
 use Rattle.walk.specs.Marks.{RightMarks}
 use Rattle.resolution.specs.Rooted.{Rooted}
@@ -32,18 +32,25 @@ pub record Serves (b : Book) (ws ranks : List ℕ) (root : Bounds) (q : Task) : 
   pub few : length (b .exceptions) ≤ exceptions
 
 -- One set of exceptions: the page of the resolutions that have it and are later than the point.
-pub record SetListed (ws ranks : List ℕ) (root : Bounds) (q : Task) (t : ℕ) (after : Bool) (at : ℕ) (m m′ o o′ : List ℕ) (r : ℕ) : Type 0 where
+pub record SetListed (ws ranks : List ℕ) (root : Bounds) (q : Task) (t : ℕ) (after : Bool) (k : ℕ) (m m′ o o′ : List ℕ) (r : ℕ) : Type 0 where
   pub most : r ≤ q .room
   pub marks : MarksRight ws (q .rules) ranks root m m′
   pub part : (b : Book) (from : Point) → Serves b ws ranks root q → RightMarks b m → Begins b from t after (q .point)
-      → (ys : List Pair) × Page (q .room) at o o′ ys r × Part b from (λ p. p .taken ≡ t) ys
+      → (ys : List Pair) × Page (q .room) k o o′ ys r × Part b from (λ p. p .taken ≡ t) ys
 
 -- From place j on every pair is later than the point.
 pub record Beyond (from : Point) (j : ℕ) : Type 0 where
   pub later : (i : ℕ) → j ≤ i → i < sets → (p : Pair) → setAt i ≡ p .taken → Later from p
 
 -- The walk from place j: with the page of all that stands at the places before it, it makes the page of all later resolutions.
-pub record Walked (ws ranks : List ℕ) (root : Bounds) (q : Task) (j at : ℕ) (m o o′ : List ℕ) (r : ℕ) : Type 0 where
+pub record Walked (ws ranks : List ℕ) (root : Bounds) (q : Task) (j k : ℕ) (m o o′ : List ℕ) (r : ℕ) : Type 0 where
   pub whole : (b : Book) (from : Point) → Serves b ws ranks root q → RightMarks b m → LawfulPoint b from → Beyond from j
-      → (start : List ℕ) (xs : List Pair) → Part b from (Passed j) xs → Page (q .room) 0 start o xs at
-      → (zs : List Pair) × AllLater b from zs × Page (q .room) 0 start o′ zs r
+      → (blank : List ℕ) (xs : List Pair) → Part b from (Passed j) xs → Page (q .room) 0 blank o xs k
+      → (zs : List Pair) × AllLater b from zs × Page (q .room) 0 blank o′ zs r
+
+-- The page of the first resolutions, and of the first after the task's point.
+pub record FirstPage (ws ranks : List ℕ) (root : Bounds) (q : Task) (o o′ : List ℕ) (r : ℕ) : Type 0 where
+  pub page : (b : Book) → Serves b ws ranks root q → (zs : List Pair) × AllLater b start zs × Page (q .room) 0 o o′ zs r
+
+pub record PageAfter (ws ranks : List ℕ) (root : Bounds) (q : Task) (o o′ : List ℕ) (r : ℕ) : Type 0 where
+  pub page : (b : Book) → Serves b ws ranks root q → Lawful b (q .point) → (zs : List Pair) × AllLater b (at (q .point)) zs × Page (q .room) 0 o o′ zs r

@@ -7,7 +7,7 @@ ghost use Rattle.book.specs.Kinds.{sets};
 ghost use Rattle.walk.specs.Marks.{Struck, Marked, Outranked, WithRank};
 ghost use Rattle.order.specs.Order.{setAt};
 ghost use Rattle.page.specs.Pages.{Fits};
-ghost use Rattle.walk.specs.Walks.{SetListed, Walked};
+ghost use Rattle.walk.specs.Walks.{SetListed, Walked, FirstPage, PageAfter};
 ghost use Rattle.walk.specs.Plans.{withSets, NoView, Wider, MarksRight, Admits};
 use book::Book;
 use masks::Bounds;
@@ -370,4 +370,61 @@ pub fn place_of(t: u64) -> usize
         j += 1;
     }
     j
+}
+
+// How much may be spent on marking ranges of sets that have no view.
+const CREDIT: u64 = 64;
+
+// The page of the first resolutions of a book, whose views are within root.
+pub fn first_page(
+    words: &[u64],
+    ranks: &[u64],
+    index: &Index,
+    root: Bounds,
+    task: Task,
+    out: &mut [u64],
+) -> usize
+    requires { ⌜ Fits (now words) (now ranks) (now out) task 0 ⌝ }
+    ensures { λ r. ⌜ FirstPage (now (words .entry)) (now (ranks .entry)) root task (now (out .entry)) (now (out .exit)) r ⌝ }
+{
+    let mut marks = [0u8; Book::SETS];
+    let filled = Filled {
+        at: 0,
+        credit: CREDIT,
+    };
+    walk(words, ranks, index, root, task, 0, filled, &mut marks, out)
+}
+
+// The page of the first resolutions later than the task's point.
+pub fn page_after(
+    words: &[u64],
+    ranks: &[u64],
+    index: &Index,
+    root: Bounds,
+    task: Task,
+    out: &mut [u64],
+) -> usize
+    requires { ⌜ Fits (now words) (now ranks) (now out) task 0 × (task .point .taken < sets) ⌝ }
+    ensures { λ r. ⌜ PageAfter (now (words .entry)) (now (ranks .entry)) root task (now (out .entry)) (now (out .exit)) r ⌝ }
+{
+    let mut marks = [0u8; Book::SETS];
+    let t = task.point.taken;
+    let filled = Filled {
+        at: 0,
+        credit: CREDIT,
+    };
+    let place = place_of(t);
+    let f = list_set(
+        words,
+        ranks,
+        index,
+        root,
+        task,
+        t,
+        true,
+        filled,
+        &mut marks,
+        out,
+    );
+    walk(words, ranks, index, root, task, place + 1, f, &mut marks, out)
 }

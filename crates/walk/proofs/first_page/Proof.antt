@@ -1,0 +1,17 @@
+use Rattle.book.specs.Kinds.{sets}
+use Rattle.walk.proofs.Walks.{first-walked}
+use borrow.Author.Needs.{needs}
+use Rattle.walk.proofs.first_page.Statement.{statement}
+use Rattle.walk.proofs.first_page.Tie as tie
+
+walk-requires : tie.Need-walk-requires
+walk-requires c κs = search needs
+
+same-length : tie.Need-same-length
+same-length c = search needs
+
+returns : tie.Need-returns
+returns c = first-walked _ _ _ _ sets _ _ _ (c .before .before .walk .ensures)
+
+pub first-page-spec : {M : Type 1} → statement M
+first-page-spec = tie.close (tie.spec walk-requires same-length returns)
