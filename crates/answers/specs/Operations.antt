@@ -94,11 +94,6 @@ unfoldable pub lineAnswer : List ℕ → Pair → ℕ → Told (List ℕ)
 lineAnswer bs p m = onText turned (λ b. unless turned (pairRefusal b p) (roomFor m (aLine (b .statements) p))) (readText bs)
 
 -- ---- lent slices
--- Pairs as numbers: taken, held, denied.
-unfoldable pub flat : List Pair → List ℕ
-flat [] = []
-flat (p ∷ ps) = p .taken ∷ p .held ∷ p .denied ∷ flat ps
-
 -- What an operation leaves in a lent slice: what it was told in front and the rest as it was; after a refusal all of it.
 unfoldable pub left : {A : Type 0} → (A → List ℕ) → List ℕ → Told A → List ℕ
 left f l (told x) = over l (f x)

@@ -8,7 +8,8 @@ use native.Mathlib.Omega.{arith}
 use lib.ListN.{length, take, set, length-append}
 use lib.Seq.{sets}
 use Rattle.sets.specs.declared.Pair.{Pair}
-use Rattle.page.specs.Pages.{flat, Page}
+use Rattle.sets.specs.Pairs.{flat}
+use Rattle.page.specs.Pages.{Page}
 
 sets-append : (a b l : List ℕ) (i : ℕ) → sets l i (a ++ b) ≡ sets (sets l i a) (i + length a) b
 sets-append [] b l i = rw add-zero

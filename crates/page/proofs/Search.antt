@@ -25,7 +25,8 @@ use Rattle.page.specs.declared.Node.{Node}
 use Rattle.page.specs.declared.Branch.{Branch}
 use Rattle.page.specs.declared.Branch.the-variants.{Cut, Open}
 use Rattle.page.specs.Orders.{bare, given, tried, allFrom, passes, listFrom}
-use Rattle.page.specs.Pages.{flat, Tests, Rooted, Fits, Ready, Settled, passing, triedFrom, Tried, branchFrom, BranchReady, Child, Branched, Listed}
+use Rattle.sets.specs.Pairs.{flat}
+use Rattle.page.specs.Pages.{Tests, Rooted, Fits, Ready, Settled, passing, triedFrom, Tried, branchFrom, BranchReady, Child, Branched, Listed}
 use Rattle.page.proofs.Pages.{page-none, page-full, page-append, page-one}
 use Rattle.page.proofs.Orders.{Extends, all-extend, all-below}
 use Rattle.page.proofs.General.{within-every, keep-append}

@@ -8,6 +8,7 @@ use lib.Seq.{sets}
 use Rattle.logic.specs.Lists.{Among}
 use Rattle.logic.specs.Tests.{Decides, keep}
 use Rattle.sets.specs.declared.Pair.{Pair}
+use Rattle.sets.specs.Pairs.{flat}
 use Rattle.sets.specs.Sets.{Apart}
 use Rattle.masks.specs.declared.Bounds.{Bounds}
 use Rattle.masks.specs.Views.{MaskView}
@@ -20,11 +21,6 @@ use Rattle.page.specs.declared.Branch.the-variants.{Cut, Open}
 use Rattle.page.specs.Orders.{bare, given, tried, allFrom, passes, listFrom}
 
 -- ---- pages
--- Pairs as the slice has them, three words each.
-unfoldable pub flat : List Pair → List ℕ
-flat [] = []
-flat (p ∷ ps) = p .taken ∷ p .held ∷ p .denied ∷ flat ps
-
 -- From place `at` on the slice has the first pairs of xs, as many as there is room for up to `cap`; the place after them is r, nothing else changes.
 pub record Page (cap at : ℕ) (o o′ : List ℕ) (xs : List Pair) (r : ℕ) : Type 0 where
   pub count : r ≡ at + length (take (cap - at) xs)

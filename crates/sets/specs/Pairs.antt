@@ -1,4 +1,6 @@
 -- Pairs (S, T) as three sets: the statements that S holds, those that it denies, the exceptions in T.
+use Prim.Native.Nat.{ℕ}
+use mathlib.Core.List.{List, [], _∷_}
 use mathlib.Core.Logic.{_⊎_}
 use lib.Bits.{bitAnd, bitOr}
 use Rattle.sets.specs.declared.Pair.{Pair}
@@ -31,3 +33,8 @@ minusOf a b = record { taken = without (a .taken) (b .taken); held = without (a 
 -- Every pair has m whole, or has nothing of it.
 abbrev pub Atom : Pair → Type 0
 Atom m = (v : Pair) → (Sub m v) ⊎ (Off m v)
+
+-- Pairs as numbers, three each: taken, held, denied.
+unfoldable pub flat : List Pair → List ℕ
+flat [] = []
+flat (p ∷ ps) = p .taken ∷ p .held ∷ p .denied ∷ flat ps
