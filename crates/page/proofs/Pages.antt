@@ -20,7 +20,7 @@ unfolding flat
 flat-append [] b = refl
 flat-append (x ∷ a) b = rw (flat-append a b)
 
-flat-length : (a : List Pair) → length (flat a) ≡ length a * 3
+pub flat-length : (a : List Pair) → length (flat a) ≡ length a * 3
 unfolding flat
 flat-length [] = refl
 flat-length (x ∷ a) = let ih = flat-length a in omega arith

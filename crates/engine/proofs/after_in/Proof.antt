@@ -1,0 +1,28 @@
+use mathlib.Core.Path.{refl}
+use Rattle.engine.proofs.Prepared.{after-is}
+use borrow.Author.Needs.{needs}
+use Rattle.engine.proofs.after_in.Statement.{statement}
+use Rattle.engine.proofs.after_in.Tie as tie
+
+add-rules : tie.Need-add-rules
+add-rules c = search needs
+
+fill-requires : tie.Need-fill-requires
+fill-requires c κs = search needs
+
+root-of-requires : tie.Need-root-of-requires
+root-of-requires c κs = search needs
+
+page-after-requires : tie.Need-page-after-requires
+page-after-requires c κs = search needs
+
+same-length : tie.Need-same-length
+same-length c = search needs
+
+returns : tie.Need-returns
+returns c = after-is _ _ _ _ _ (c .before .before .before .before .before .before .before .root-of .ensures) refl refl _ _ _ refl (c .before .before .page-after .ensures)
+
+pub after-in-spec : {M : Type 1} → statement M
+after-in-spec =
+    tie.close
+    (tie.spec add-rules fill-requires root-of-requires page-after-requires same-length returns)

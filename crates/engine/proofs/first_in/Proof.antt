@@ -1,0 +1,28 @@
+use mathlib.Core.Path.{refl}
+use Rattle.engine.proofs.Prepared.{first-is}
+use borrow.Author.Needs.{needs}
+use Rattle.engine.proofs.first_in.Statement.{statement}
+use Rattle.engine.proofs.first_in.Tie as tie
+
+add-rules : tie.Need-add-rules
+add-rules c = search needs
+
+fill-requires : tie.Need-fill-requires
+fill-requires c κs = search needs
+
+root-of-requires : tie.Need-root-of-requires
+root-of-requires c κs = search needs
+
+first-page-requires : tie.Need-first-page-requires
+first-page-requires c κs = search needs
+
+same-length : tie.Need-same-length
+same-length c = search needs
+
+returns : tie.Need-returns
+returns c = first-is _ _ _ _ _ (c .before .before .before .before .before .before .before .root-of .ensures) refl refl _ _ _ refl (c .before .before .first-page .ensures)
+
+pub first-in-spec : {M : Type 1} → statement M
+first-in-spec =
+    tie.close
+    (tie.spec add-rules fill-requires root-of-requires first-page-requires same-length returns)

@@ -1,0 +1,23 @@
+use Rattle.engine.proofs.Prepared.{root-is}
+use borrow.Author.Needs.{needs}
+use Rattle.engine.proofs.root_of.Statement.{statement}
+use Rattle.engine.proofs.root_of.Tie as tie
+
+add-n : tie.Need-add-n
+add-n c = search needs
+
+root-requires : tie.Need-root-requires
+root-requires c κs = search needs
+
+everything-requires : tie.Need-everything-requires
+everything-requires c κs = search needs
+
+propagate-requires : tie.Need-propagate-requires
+propagate-requires c κs = search needs
+
+returns : tie.Need-returns
+returns c = root-is _ _ _ _ _ (c .before .before .before .before .root .ensures) (c .propagate .ensures)
+
+pub root-of-spec : {M : Type 1} → statement M
+root-of-spec =
+    tie.close (tie.spec add-n root-requires everything-requires propagate-requires returns)

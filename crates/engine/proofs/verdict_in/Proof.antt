@@ -1,0 +1,23 @@
+use Rattle.engine.proofs.Prepared.{verdict-is}
+use borrow.Author.Needs.{needs}
+use Rattle.engine.proofs.verdict_in.Statement.{statement}
+use Rattle.engine.proofs.verdict_in.Tie as tie
+
+add-n : tie.Need-add-n
+add-n c = search needs
+
+fill-requires : tie.Need-fill-requires
+fill-requires c κs = search needs
+
+root-of-requires : tie.Need-root-of-requires
+root-of-requires c κs = search needs
+
+verdict-requires : tie.Need-verdict-requires
+verdict-requires c κs = search needs
+
+returns : tie.Need-returns
+returns c = verdict-is _ _ _ _ _ _ (c .before .before .before .before .root-of .ensures) (c .verdict .ensures)
+
+pub verdict-in-spec : {M : Type 1} → statement M
+verdict-in-spec =
+    tie.close (tie.spec add-n fill-requires root-of-requires verdict-requires returns)

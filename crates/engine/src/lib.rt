@@ -1,0 +1,81 @@
+// A prepared book: the verdict on a pair, and the pages of its resolutions.
+ghost use mathlib.Core.Path.{_≡_};
+ghost use Prim.Native.Nat.{_<_};
+ghost use Rattle.book.specs.Kinds.{sets as setsOf};
+ghost use Rattle.meaning.specs.Order.{start, at as atPair};
+ghost use Rattle.engine.specs.Loaded.{Small, RootIs, VerdictIs, PageIs};
+use book::Book;
+use book::Shape;
+use masks::Bounds;
+use page::Task;
+use queue::index;
+use queue::index::Index;
+use queue::waiting;
+use sets::Pair;
+
+// The words of a book's rules, and those of its ranks.
+pub type Words = [u64; Book::RULES * 8];
+
+pub type Ranks = [u64; Book::EXCEPTIONS];
+
+// The bounds of the book's views, where every search begins.
+pub fn root_of(words: &Words, ranks: &Ranks, index: &Index, s: Shape) -> Bounds
+    requires { ⌜ Small s ⌝ }
+    ensures { λ r. ⌜ RootIs s (now (words .entry)) (now (ranks .entry)) r ⌝ }
+{
+    let n = s.plain + s.exceptions;
+    let b = prepare::root(s);
+    queue::propagate(words, n, ranks, index, waiting::everything(), b)
+}
+
+// The verdict on a lawful pair of a prepared book.
+pub fn verdict_in(words: &Words, ranks: &Ranks, s: Shape, p: Pair) -> u32
+    requires { ⌜ Small s ⌝ }
+    ensures { λ r. ⌜ VerdictIs s (now (words .entry)) (now (ranks .entry)) p r ⌝ }
+{
+    let n = s.plain + s.exceptions;
+    let mut index = [0u64; 769];
+    index::fill(words, n, &mut index);
+    let root = root_of(words, ranks, &index, s);
+    judge::verdict(words, n, ranks, &index, root, p)
+}
+
+// The first resolutions of a prepared book, as many as the lent slice has room for.
+pub fn first_in(words: &Words, ranks: &Ranks, s: Shape, out: &mut [u64]) -> usize
+    requires { ⌜ Small s ⌝ }
+    ensures { λ r. ⌜ PageIs s (now (words .entry)) (now (ranks .entry)) start (now (out .entry)) (now (out .exit)) r ⌝ }
+{
+    let rules = s.plain + s.exceptions;
+    let mut index = [0u64; 769];
+    index::fill(words, rules, &mut index);
+    let root = root_of(words, ranks, &index, s);
+    let task = Task {
+        rules,
+        statements: s.statements as u64,
+        room: out.len() / 3,
+        point: Pair {
+            taken: 0,
+            held: 0,
+            denied: 0,
+        },
+    };
+    walk::first_page(words, ranks, &index, root, task, out)
+}
+
+// The first resolutions later than a pair that is lawful in the prepared book.
+pub fn after_in(words: &Words, ranks: &Ranks, s: Shape, p: Pair, out: &mut [u64]) -> usize
+    requires { ⌜ Small s × (p .taken < setsOf) ⌝ }
+    ensures { λ r. ⌜ PageIs s (now (words .entry)) (now (ranks .entry)) (atPair p) (now (out .entry)) (now (out .exit)) r ⌝ }
+{
+    let rules = s.plain + s.exceptions;
+    let mut index = [0u64; 769];
+    index::fill(words, rules, &mut index);
+    let root = root_of(words, ranks, &index, s);
+    let task = Task {
+        rules,
+        statements: s.statements as u64,
+        room: out.len() / 3,
+        point: p,
+    };
+    walk::page_after(words, ranks, &index, root, task, out)
+}
