@@ -1,0 +1,30 @@
+use native.Mathlib.Omega.{arith}
+use Rattle.fields.proofs.Numbers.{below-count, above-count, count-here}
+use borrow.Author.Needs.{needs}
+use Rattle.fields.proofs.is_count.Statement.{statement}
+use Rattle.fields.proofs.is_count.Tie as tie
+use Rattle.fields.proofs.is_count.Reads as reads
+use Rattle.fields.proofs.is_count.Lts as lts
+
+-- src/lib.rt:181:13
+cast-if1 : tie.Need-cast-if1
+cast-if1 c = search needs
+
+-- src/lib.rt:182:9
+returns : tie.Need-returns
+returns c = below-count _ _ (search needs) (search needs) (search needs)
+
+-- src/lib.rt:184:9
+cast-if2 : tie.Need-cast-if2
+cast-if2 c = search needs
+
+-- src/lib.rt:185:9
+returns-2 : tie.Need-returns-2
+returns-2 c = above-count _ _ (search needs) (search needs) (search needs) (search needs)
+
+-- src/lib.rt:177:1
+returns-3 : tie.Need-returns-3
+returns-3 c = count-here _ _ (search needs) (search needs) (search needs) (search needs)
+
+pub is-count-spec : {M : Type 1} → statement M
+is-count-spec = tie.close (tie.spec cast-if1 returns cast-if2 returns-2 returns-3)

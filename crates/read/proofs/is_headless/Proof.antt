@@ -1,0 +1,22 @@
+use Rattle.read.proofs.LineLaws.{headed-yes, headed-no}
+use borrow.Author.Needs.{needs}
+use Rattle.read.proofs.is_headless.Statement.{statement}
+use Rattle.read.proofs.is_headless.Tie as tie
+use Rattle.read.proofs.is_headless.Reads as reads
+use Rattle.read.proofs.is_headless.Lts as lts
+use Rattle.fields.proofs.is_count.Reads as is-count-reads
+
+-- src/lib.rt:105:9
+is-count-requires : tie.Need-is-count-requires
+is-count-requires c κs = search needs
+
+-- src/lib.rt:105:9
+returns : tie.Need-returns
+returns c = headed-yes (c .before .before .args .x) _ _ (search needs) (search needs) (search needs)
+
+-- src/lib.rt:101:1
+returns-2 : tie.Need-returns-2
+returns-2 c = headed-no (c .before .args .x) _ (search needs)
+
+pub is-headless-spec : {M : Type 1} → statement M
+is-headless-spec = tie.close (tie.spec is-count-requires returns returns-2)
