@@ -68,7 +68,6 @@ flip-fits n h = rw (flip-eq n h) (small-flip n h)
 pub flip-is : (n : ℕ) → n < 2147483648 → back (pos 0 -ℤ toZ w32 n) ≡ negℤ (pos n)
 flip-is n h = toZ-ofZ (flip-fits n h) ∙ flip-eq n h
 
-
 -- ---- a number against its content's range
 -- A number that a parameter holds, where the content is known.
 module _ (c d : Content) (n : ℕ) (v : ℤ) (y : Checked) (s : SFits w32 v) (e : c ≡ d) where

@@ -13,7 +13,9 @@ ghost use Rattle.text.specs.Reading.{toNat};
 ghost use Rattle.text.specs.Accepted.{rowNumbers};
 ghost use Rattle.fields.specs.Checks.{numberIs, range, seeOf};
 ghost use Rattle.fields.specs.Short.{isShort, allShort};
-use book::{Book, Content, Shape};
+use book::Book;
+use book::Content;
+use book::Shape;
 use text::Field;
 
 // ---- four columns read

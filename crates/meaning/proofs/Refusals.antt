@@ -3,6 +3,7 @@ use mathlib.Core.Path.{_≡_, refl}
 use mathlib.Core.Bool.{Bool, true, false}
 use mathlib.Core.Logic.{_⊎_, inl, inr, ⊎-elim, _↔_}
 use Prim.Native.Nat.{ℕ, _^_, _<_}
+use native.Mathlib.Omega.{arith}
 use lib.Dec.{ltb}
 use lib.ListN.{length}
 use Rattle.logic.specs.Tests.{Decides, both}
@@ -57,3 +58,12 @@ module _ (b : Book) (p : Pair) where
 
   pub unlawful-refused : (Lawful b p → ⊥) → PairRefused b p (pairRefusal b p)
   unlawful-refused n = ⊎-elim (λ l. absurd (n (l .0))) (λ r. r) lawful-or-refused
+
+  -- A pair that no refusal applies to is lawful.
+  never-zero : (k : ℕ) → PairRefused b p k → k ≡ 0 → ⊥
+  never-zero k (past-exceptions n) e = omega arith
+  never-zero k (past-statements t n) e = omega arith
+  never-zero k (shared t h d n) e = omega arith
+
+  pub none-lawful : pairRefusal b p ≡ 0 → Lawful b p
+  none-lawful e = ⊎-elim (λ l. l .0) (λ r. absurd (never-zero (pairRefusal b p) r e)) lawful-or-refused

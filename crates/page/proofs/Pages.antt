@@ -11,11 +11,11 @@ use Rattle.sets.specs.declared.Pair.{Pair}
 use Rattle.sets.specs.Pairs.{flat}
 use Rattle.page.specs.Pages.{Page}
 
-sets-append : (a b l : List ℕ) (i : ℕ) → sets l i (a ++ b) ≡ sets (sets l i a) (i + length a) b
+pub sets-append : (a b l : List ℕ) (i : ℕ) → sets l i (a ++ b) ≡ sets (sets l i a) (i + length a) b
 sets-append [] b l i = rw add-zero
 sets-append (x ∷ a) b l i = let e : i + suc (length a) ≡ suc i + length a = omega arith in rw e (sets-append a b (set l i x) (suc i))
 
-flat-append : (a b : List Pair) → flat (a ++ b) ≡ flat a ++ flat b
+pub flat-append : (a b : List Pair) → flat (a ++ b) ≡ flat a ++ flat b
 unfolding flat
 flat-append [] b = refl
 flat-append (x ∷ a) b = rw (flat-append a b)

@@ -79,4 +79,3 @@ module _ (text : List ℕ) (at len : ℕ) (h : at < length text) (e : lastByte t
       let p = first-line (drop at text) (last-drop text at h ∙ e) in
       let q : at + len + 1 ≡ at + suc (untilFeed (drop at text)) = omega (arith, el) in
       p .split ∙ rw (q, ← drop-drop (suc (untilFeed (drop at text))) at text, el)
-

@@ -176,7 +176,6 @@ getD-sets l vs to j d h g =
     (List·getD-append (take to l ++ vs) (drop (to + length vs) l) d (to + j) (simp length-append (omega arith))
     ∙ ap (λ (m : ℕ). getD (take to l ++ vs) (m + j) d) (sym e) ∙ getD-append-add (take to l) vs j d)
 
-
 module _ (st : State) (l₀ : List ℤ) (to : ℕ) where
   pub line-empty : (text : List ℕ) (at len : ℕ) (l : List ℤ) → len ≡ 0 → answerLine (Bad 3) l ≡ storeLine st l₀ to (readLine st (take len (drop at text)))
   unfolding answerLine storeLine readLine
@@ -233,8 +232,10 @@ whole-same : (st : State) (k : ℕ) (vs : List ℤ)
     → wholeIs (kind k) (getD (st .counts) k 0) (getD vs 0 (pos 0)) (seeAll (noneSeen (st .statements)) (fieldsOf (kind k)) (getD (st .counts) exception 0) (st .rows) vs) ≡ wholeOf st k vs
 unfolding wholeIs wholeOf headless missing miscounted noneSeen either
 whole-same st k vs =
-    rw (seen-missing (getD (st .counts) exception 0) (st .rows) (fieldsOf (kind k)) vs (record { statements = st .statements; missing = false; miscounted = false }),
-    seen-miscounted (getD (st .counts) exception 0) (st .rows) (fieldsOf (kind k)) vs (record { statements = st .statements; missing = false; miscounted = false }))
+    rw (
+      seen-missing (getD (st .counts) exception 0) (st .rows) (fieldsOf (kind k)) vs (record { statements = st .statements; missing = false; miscounted = false }),
+      seen-miscounted (getD (st .counts) exception 0) (st .rows) (fieldsOf (kind k)) vs (record { statements = st .statements; missing = false; miscounted = false }),
+    )
 
 n-same : (st : State) (k : ℕ) (vs : List ℤ) → seeAll (noneSeen (st .statements)) (fieldsOf (kind k)) (getD (st .counts) exception 0) (st .rows) vs .statements ≡ step st k vs .statements
 unfolding step noneSeen

@@ -12,9 +12,15 @@ ghost use Rattle.text.specs.Lines.{kindFor, between, readLine, lines};
 ghost use Rattle.text.specs.Reading.{start, lastByte, readLines, tableOf, over};
 ghost use Rattle.read.specs.Storing.{numberOf, noneSeen, answerFields, storeFields, wholeIs, answerLine, storeLine, stepWith, untilFeed, endOf, noReading, firstCursor, pastLine, room, outcomeOf};
 ghost use Rattle.read.specs.Parsing.{Parsing, Met};
-use book::{Book, Content, Kind, Shape};
+use book::Book;
+use book::Content;
+use book::Kind;
+use book::Shape;
 use fields::Seen;
-use text::{Field, Reading, Refusal, State};
+use text::Field;
+use text::Reading;
+use text::Refusal;
+use text::State;
 
 // The kind of a line with this letter, where the kinds before `next` may not come any more; KINDS if there is none.
 pub fn kind_for(next: usize, b: u8) -> usize

@@ -200,7 +200,7 @@ module _ (s : Shape) (ws : List ℤ) (e : testRows s (rowsOf s ws) 2 ≡ accepte
       let p = block-row s s preference [] (s .preferences) (drop (ruleNumbers s) ws) (preference-block .0) (2 + s .plain + s .exceptions) (i / preferenceFields) w (preference-block .1) in
       let a = named-in (s .exceptions) (s .statements) _ (i % preferenceFields) (p .fields-pass) (fault-parts (s .exceptions) preference _ (p .right) .1) (mod-lt i (omega arith)) in
       let n : getD (take (kind preference .fields) (drop (i / preferenceFields * kind preference .fields) (drop (ruleNumbers s) ws))) (i % preferenceFields) (pos 0) ≡ getD ws (ruleNumbers s + i) (pos 0) =
-          rw preference-fields (number-at (drop (ruleNumbers s) ws) preferenceFields i (omega arith) ∙ getD-drop (ruleNumbers s) ws i (pos 0)) in
+      rw preference-fields (number-at (drop (ruleNumbers s) ws) preferenceFields i (omega arith) ∙ getD-drop (ruleNumbers s) ws i (pos 0)) in
       record { number = a .0; is = sym n ∙ a .1; low = a .2; high = a .3 }
 
 -- ---- accepted books

@@ -53,11 +53,12 @@ text-ends s ws = last-unlines _ (rowLines (rowsOf s ws ++ (lastRow (total s) ∷
 module _ (s : Shape) (ws : List ℤ) (n : Sized (s .statements)) (w : Within s) (s′ : Shape) (ws′ : List ℤ) (e : testRows s (rowsOf s ws) 2 ≡ accepted s′ ws′) where
   pub book-writable : Every Writable (bookRows s ws)
   unfolding bookRows rowsOf
-  book-writable =
-      (first-writable (s .statements) (small-n (s .statements) n),
-      every-append Writable (cut (layout 1 (countsOf s)) ws) (lastRow (total s) ∷ [])
-      (rows-writable (layout 1 (countsOf s)) s ws 2 1 s′ ws′ (omega arith) (rows-rising s) (small-n (s .statements) n) e)
-      (last-writable (total s) (few-rows s w), tt))
+  book-writable = (
+    first-writable (s .statements) (small-n (s .statements) n),
+    every-append Writable (cut (layout 1 (countsOf s)) ws) (lastRow (total s) ∷ [])
+        (rows-writable (layout 1 (countsOf s)) s ws 2 1 s′ ws′ (omega arith) (rows-rising s) (small-n (s .statements) n) e)
+        (last-writable (total s) (few-rows s w), tt),
+  )
 
   text-lines : readLines (lines (textOf s ws)) start 1 ≡ testRows s (rowsOf s ws) 2
   unfolding textOf
@@ -79,8 +80,14 @@ count-in k m h = rw (le-leb 0 m (omega arith), le-leb m (kind k .limit) h)
 pub table-rows : (s : Shape) (ws : List ℤ) → Sized (s .statements) → Within s → length ws ≡ widths (layout 1 (countsOf s)) → testTable (tableOf s ws) ≡ testRows s (rowsOf s ws) 2
 unfolding testTable tableOf shapeIn toNat pick either countOf countsOf
 table-rows s ws n w l =
-    rw (le-ltb (suc (suc (suc (suc (length ws))))) 4 (omega arith), n, count-in plain (s .plain) (w plain (omega arith) (omega arith)), count-in exception (s .exceptions) (w exception (omega arith) (omega arith)), count-in preference (s .preferences) (w preference (omega arith) (omega arith)),
-    eq-eqb (suc (suc (suc (suc (length ws))))) (4 + widths (layout 1 (s .plain ∷ s .exceptions ∷ s .preferences ∷ []))) (omega arith))
+    rw (
+      le-ltb (suc (suc (suc (suc (length ws))))) 4 (omega arith),
+      n,
+      count-in plain (s .plain) (w plain (omega arith) (omega arith)),
+      count-in exception (s .exceptions) (w exception (omega arith) (omega arith)),
+      count-in preference (s .preferences) (w preference (omega arith) (omega arith)),
+      eq-eqb (suc (suc (suc (suc (length ws))))) (4 + widths (layout 1 (s .plain ∷ s .exceptions ∷ s .preferences ∷ []))) (omega arith),
+    )
 
 down-up : (q l : ℕ) (s : Shape) (ws : List ℤ) → refused q l ≡ accepted s ws → ⊥
 down-up q l s ws e = let z : _≡_ {A = ℕ} 0 1 = cc in omega arith

@@ -88,10 +88,11 @@ read-rows [] st at end ws e = ([], refl, e)
 read-rows (l ∷ ls) st at end ws e =
     let w = went (readLine st l) at (λ k vs. readLines ls (step st k vs) (suc at)) end ws e in
     let h = read-line st l (w .k) (w .vs) (w .is) in
-    let ih = read-rows ls (step st (w .k) (w .vs)) (suc at) end (w .us) (w .then) in
-    (record { place = w .k; nums = w .vs } ∷ ih .0,
-    rw (← ih .1, ← h .1),
-    gone (runRow st (w .k) (w .vs)) at (λ k vs. run (ih .0) (step st k vs) (suc at)) end ws (w .k) (w .vs) (w .us) (h .2) (ih .2) (w .all))
+    let ih = read-rows ls (step st (w .k) (w .vs)) (suc at) end (w .us) (w .then) in (
+      record { place = w .k; nums = w .vs } ∷ ih .0,
+      rw (← ih .1, ← h .1),
+      gone (runRow st (w .k) (w .vs)) at (λ k vs. run (ih .0) (step st k vs) (suc at)) end ws (w .k) (w .vs) (w .us) (h .2) (ih .2) (w .all),
+    )
 
 -- ---- lines and texts
 -- No line feed in a line.

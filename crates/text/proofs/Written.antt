@@ -121,13 +121,14 @@ pub rows-writable : (ks : List ℕ) (s : Shape) (ws : List ℤ) (at m : ℕ) (s�
 unfolding cut
 rows-writable [] s ws at m s′ ws′ b r h e = tt
 rows-writable (k ∷ ks) s ws at m s′ ws′ b r h e =
-    let n = next-row s k ks ws at s′ ws′ e in
-    (record {
-      known = omega (arith, r .1);
-      short = all-short (fieldsOf (kind k)) (s .statements) (take (kind k .fields) ws) (take (kind k .fields) ws) h (n .passed .fields-pass);
-      wide = n .passed .wide ∙ width-is k (omega (arith, r .1));
-    },
-    rows-writable ks s (drop (kind k .fields) ws) (suc at) k s′ (n .us) (omega (arith, r .0)) (r .2) h (n .then))
+    let n = next-row s k ks ws at s′ ws′ e in (
+      record {
+        known = omega (arith, r .1);
+        short = all-short (fieldsOf (kind k)) (s .statements) (take (kind k .fields) ws) (take (kind k .fields) ws) h (n .passed .fields-pass);
+        wide = n .passed .wide ∙ width-is k (omega (arith, r .1));
+      },
+      rows-writable ks s (drop (kind k .fields) ws) (suc at) k s′ (n .us) (omega (arith, r .0)) (r .2) h (n .then),
+    )
 
 -- ---- how long the text is
 -- The bytes of lines of these kinds, with their line feeds.

@@ -1,5 +1,6 @@
 // The text of a book and its number table: what is known between lines, and what Read and Write answer.
-use book::{Book, Shape};
+use book::Book;
+use book::Shape;
 
 // What four columns are: a number, or misspelt.
 pub enum Field {

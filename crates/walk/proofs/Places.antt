@@ -78,6 +78,6 @@ module _ (b : Book) (from : Point) where
       let t = part-there b from (λ p. (Passed j p → ⊥) × (p .taken < sets)) (rest-or-not j) l in (
         t .0,
         part-all b from (λ p. Passed j p ⊎ ((Passed j p → ⊥) × (p .taken < sets))) (xs ++ t .0)
-        (λ p r. ⊎-elim (λ x. inl x) (λ n. inr (n, lt-of-lt-of-le (r .view .lawful .exceptions) (pow-mono few))) (passed-or-not j p))
-        (part-join b from (Passed j) (λ p. (Passed j p → ⊥) × (p .taken < sets)) xs (t .0) s (t .1) (rest-after j)),
+            (λ p r. ⊎-elim (λ x. inl x) (λ n. inr (n, lt-of-lt-of-le (r .view .lawful .exceptions) (pow-mono few))) (passed-or-not j p))
+            (part-join b from (Passed j) (λ p. (Passed j p → ⊥) × (p .taken < sets)) xs (t .0) s (t .1) (rest-after j)),
       )

@@ -56,12 +56,12 @@ module _ (ws ranks : List ℕ) (root : Bounds) (q : Task) (t : ℕ) (after : Boo
           → (ys : List Pair) × Page (q .room) at o o′ ys r × Part b from (λ p. p .taken ≡ t) ys
       part b from s w g =
           let v = views-listed b from t (a .lawful yes b (s .rooted)) ws ranks q (s .statements) after g (view b)
-              (λ p k d. let i = view-same b ws (q .rules) (s .rooted .packs) p ranks (s .rooted .ranked) k in reworded (decides-view b p) (i .1) (i .0)) at r o o′ l in (
+          (λ p k d. let i = view-same b ws (q .rules) (s .rooted .packs) p ranks (s .rooted .ranked) k in reworded (decides-view b p) (i .1) (i .0)) at r o o′ l in (
             v .0,
             v .1,
             part-of-listing b from t (MaskView ws (q .rules) ranks) (v .0)
-            (λ p k d x. resolution-same b ws (q .rules) ranks root (s .rooted) p .0 (view-same b ws (q .rules) (s .rooted .packs) p ranks (s .rooted .ranked) k .0 x, rw d (a .accepts yes)))
-            (λ p x d. s .rooted .holds p (x .view) .0) (v .2),
+                (λ p k d x. resolution-same b ws (q .rules) ranks root (s .rooted) p .0 (view-same b ws (q .rules) (s .rooted .packs) p ranks (s .rooted .ranked) k .0 x, rw d (a .accepts yes)))
+                (λ p x d. s .rooted .holds p (x .view) .0) (v .2),
           )
 
 -- ---- all sets
@@ -98,8 +98,7 @@ module _ (ws ranks : List ℕ) (root : Bounds) (q : Task) (first at : ℕ) (m o 
       marks = record { stay = λ b x w. s .marks .stay b x (g .marks .stay b x w) };
       page = λ b from x w l y start xs u v.
           let c = g .page b from x w l y start xs u v in
-          let d = s .part b from x (g .marks .stay b (x .rooted) w) (record { within = λ f. absurd (clash f); before = λ f i z. y .later j (g .from) h i (sym et ∙ sym z) }) in
-          (
+          let d = s .part b from x (g .marks .stay b (x .rooted) w) (record { within = λ f. absurd (clash f); before = λ f i z. y .later j (g .from) h i (sym et ∙ sym z) }) in (
             c .0 ++ d .0,
             rw (add-one j) (one-more b from j (c .0) (d .0) h (c .1) (part-same b from (λ i. i .taken ≡ t) (λ i. setAt j ≡ i .taken) (d .0) (λ i a z. sym et ∙ sym z) (λ i a z. sym z ∙ sym et) (d .2))),
             page-append (q .room) 0 k r start p p′ (c .0) (d .0) (c .2) (d .1),

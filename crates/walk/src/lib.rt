@@ -156,14 +156,7 @@ pub fn wider(
 }
 
 // A range of sets without a view around one that has none.
-pub fn widened(
-    words: &[u64],
-    n: usize,
-    ranks: &[u64],
-    index: &Index,
-    root: Bounds,
-    t: u64,
-) -> Range
+pub fn widened(words: &[u64], n: usize, ranks: &[u64], index: &Index, root: Bounds, t: u64) -> Range
     requires { ⌜ (n * 8 ≤ length (now words)) × (length (now ranks) ≤ 64) ⌝ }
     ensures { λ r. ⌜ Wider (now (words .entry)) n (now (ranks .entry)) root (record { lo = t; hi = t }) r ⌝ }
 {
@@ -319,7 +312,16 @@ pub fn list_set(
     requires { ⌜ Fits (now words) (now ranks) (now out) task (filled .at) × (t < sets) ⌝ }
     ensures { λ r. ⌜ SetListed (now (words .entry)) (now (ranks .entry)) root task t after (filled .at) (now (marks .entry)) (now (marks .exit)) (now (out .entry)) (now (out .exit)) (r .at) ⌝ }
 {
-    let a = admits(words, task.rules, ranks, index, root, t, filled.credit, marks);
+    let a = admits(
+        words,
+        task.rules,
+        ranks,
+        index,
+        root,
+        t,
+        filled.credit,
+        marks,
+    );
     let credit = a.credit;
     let at = filled.at;
     if !a.ok {
@@ -351,7 +353,18 @@ pub fn walk(
         if task.room <= at {
             return at;
         }
-        f = list_set(words, ranks, index, root, task, order::set_at(j), false, f, marks, out);
+        f = list_set(
+            words,
+            ranks,
+            index,
+            root,
+            task,
+            order::set_at(j),
+            false,
+            f,
+            marks,
+            out,
+        );
         j += 1;
     }
     f.at
@@ -426,5 +439,15 @@ pub fn page_after(
         &mut marks,
         out,
     );
-    walk(words, ranks, index, root, task, place + 1, f, &mut marks, out)
+    walk(
+        words,
+        ranks,
+        index,
+        root,
+        task,
+        place + 1,
+        f,
+        &mut marks,
+        out,
+    )
 }

@@ -1,0 +1,117 @@
+-- What the operations answer: the text's refusal, the pair's, or what the prepared book gives. A page of one pair is the next answer.
+use mathlib.Core.Path.{_≡_, refl, sym, ap, _∙_}
+use mathlib.Core.List.{List, [], _∷_, _++_}
+use Prim.Native.Nat.{ℕ, zero, suc, _/_, _^_, _<_, _≤_}
+use native.Mathlib.Nat.{lt-of-lt-of-le}
+use native.Mathlib.Omega.{arith}
+use lib.IntN.{ℤ}
+use lib.ListN.{length, getD, drop}
+use lib.Pow.{pow-mono}
+use Rattle.sets.specs.declared.Pair.{Pair}
+use Rattle.sets.specs.Pairs.{flat}
+use Rattle.book.specs.declared.Shape.{Shape}
+use Rattle.book.specs.Limits as limit
+use Rattle.book.specs.Kinds.{sets}
+use Rattle.text.specs.declared.Refusal.{Refusal}
+use Rattle.text.specs.Reading.{readText, over}
+use Rattle.text.specs.Reading.Outcome.{accepted, refused as unread}
+use Rattle.answers.specs.declared.Found.{Found}
+use Rattle.answers.specs.declared.Found.the-variants.{Resolution, End, Refused}
+use Rattle.answers.specs.declared.Judged.{Judged}
+use Rattle.answers.specs.declared.Judged.the-variants.{Verdict, Refused as NotJudged}
+use Rattle.answers.specs.Operations.{Told, told, turned, answerOf, verdictOf, onText, unless, firstAnswer, afterAnswer, judgeAnswer}
+use Rattle.lawful.specs.Refusals.{Refuses}
+use Rattle.meaning.specs.Books.{Book, Lawful}
+use Rattle.meaning.specs.Meant.{bookOf}
+use Rattle.meaning.specs.Order.{Point, start, at, LawfulPoint}
+use Rattle.meaning.specs.Listings.{Answer, found, end, refused, FirstLater}
+use Rattle.meaning.specs.Twins.Verdicts.{pairRefusal, verdict}
+use Rattle.meaning.specs.Twins.Next.{nextFrom, onwardFrom, pageFrom}
+use Rattle.meaning.proofs.Next.{next-is}
+use Rattle.meaning.proofs.Refusals.{none-lawful}
+use Rattle.bridge.proofs.Rows.{exceptions-count}
+use Rattle.engine.specs.Loaded.{Loaded, VerdictIs, PageIs}
+use Rattle.operations.specs.Loads.{foundIn}
+
+-- ---- a page of one pair
+pub found-end : (k : ℕ) (o : List ℕ) → k ≡ 0 → End ≡ foundIn k o
+unfolding foundIn
+found-end k o e = rw e refl
+
+pub found-some : (k : ℕ) (o : List ℕ) → (k ≡ 0 → ⊥) → Resolution (record { taken = getD o 0 0; held = getD o 1 0; denied = getD o 2 0 }) ≡ foundIn k o
+unfolding foundIn
+found-some zero o n = absurd (n refl)
+found-some (suc k) o n = refl
+
+one-found : (b : Book) (from : Point) (x : Answer) (o o′ : List ℕ) (r : ℕ) → FirstLater b from x → r ≡ length (onwardFrom x (λ p. pageFrom b 0 (at p)))
+    → o′ ≡ over o (flat (onwardFrom x (λ p. pageFrom b 0 (at p)))) → answerOf (foundIn r o′) ≡ x
+unfolding onwardFrom pageFrom foundIn answerOf over flat
+one-found b from (found p) o o′ r f e g = rw (e, g) refl
+one-found b from end o o′ r f e g = rw e refl
+one-found b from (refused k l) o o′ r f e g = absurd f
+
+pub next-found : (b : Book) (from : Point) (o o′ : List ℕ) (r : ℕ) → LawfulPoint b from → length o ≡ 3 → r ≡ length (pageFrom b (length o / 3) from)
+    → o′ ≡ over o (flat (pageFrom b (length o / 3) from)) → answerOf (foundIn r o′) ≡ nextFrom b from
+unfolding pageFrom
+next-found b from o o′ r l n e g = one-found b from (nextFrom b from) o o′ r (next-is b from l) (rw n at e) (rw n at g)
+
+-- ---- refusals
+unless-other : {A : Type 0} (down : ℕ → ℕ → A) (k : ℕ) (x : A) → (k ≡ 0 → ⊥) → unless down k x ≡ down k 0
+unfolding unless
+unless-other down zero x n = absurd (n refl)
+unless-other down (suc k) x n = refl
+
+unless-none : {A : Type 0} (down : ℕ → ℕ → A) (k : ℕ) (x : A) → k ≡ 0 → unless down k x ≡ x
+unfolding unless
+unless-none down k x e = rw e refl
+
+module _ (bs : List ℕ) (q : Refusal) (e : readText bs ≡ unread (q .number) (q .line)) where
+  pub first-down : answerOf (Refused q) ≡ firstAnswer bs
+  unfolding answerOf firstAnswer onText
+  first-down = rw e refl
+
+  pub after-down : (p : Pair) → answerOf (Refused q) ≡ afterAnswer bs p
+  unfolding answerOf afterAnswer onText
+  after-down p = rw e refl
+
+  pub judge-down : (p : Pair) → verdictOf (NotJudged q) ≡ judgeAnswer bs p
+  unfolding verdictOf judgeAnswer onText
+  judge-down p = rw e refl
+
+-- ---- the accepted text
+module _ (bs : List ℕ) (s : Shape) (ws ranks : List ℕ) (d : (rows : List ℤ) × (readText bs ≡ accepted s rows) × Loaded s rows ws ranks) where
+  book : Book
+  book = bookOf s (d .0)
+
+  pub first-accepted : (o o′ : List ℕ) (r : ℕ) → length o ≡ 3 → PageIs s ws ranks start o o′ r → answerOf (foundIn r o′) ≡ firstAnswer bs
+  unfolding firstAnswer onText
+  first-accepted o o′ r n f = rw (d .1) (next-found (bookOf s (d .0)) start o o′ r tt n (f .count (d .0) (d .2) tt) (f .filled (d .0) (d .2) tt))
+
+  module _ (p : Pair) (k : ℕ) (c : Refuses (s .statements) (s .exceptions) p k) where
+    same : k ≡ pairRefusal (bookOf s (d .0)) p
+    unfolding bookOf
+    same = c .refusal (bookOf s (d .0)) refl (exceptions-count s (d .0))
+
+    pub lawful-was : k ≡ 0 → Lawful (bookOf s (d .0)) p
+    lawful-was e = none-lawful (bookOf s (d .0)) p (sym same ∙ e)
+
+    pub few-taken : k ≡ 0 → p .taken < sets
+    few-taken e = let h : length (bookOf s (d .0) .exceptions) ≤ limit.exceptions = rw (exceptions-count s (d .0)) (d .2 .exceptions) in lt-of-lt-of-le (lawful-was e .exceptions) (pow-mono h)
+
+    pub after-refused : (k ≡ 0 → ⊥) → answerOf (Refused (record { number = k; line = 0 })) ≡ afterAnswer bs p
+    unfolding answerOf afterAnswer onText
+    after-refused n = rw (d .1, ← same) (sym (unless-other refused k _ n))
+
+    pub after-accepted : k ≡ 0 → (o o′ : List ℕ) (r : ℕ) → length o ≡ 3 → PageIs s ws ranks (at p) o o′ r → answerOf (foundIn r o′) ≡ afterAnswer bs p
+    unfolding afterAnswer onText
+    after-accepted e o o′ r n f =
+        let l = lawful-was e in
+        rw (d .1, ← same) (next-found (bookOf s (d .0)) (at p) o o′ r l n (f .count (d .0) (d .2) l) (f .filled (d .0) (d .2) l) ∙ sym (unless-none refused k _ e))
+
+    pub judge-refused : (k ≡ 0 → ⊥) → verdictOf (NotJudged (record { number = k; line = 0 })) ≡ judgeAnswer bs p
+    unfolding verdictOf judgeAnswer onText
+    judge-refused n = rw (d .1, ← same) (sym (unless-other turned k _ n))
+
+    pub judge-accepted : k ≡ 0 → (r : ℕ) → VerdictIs s ws ranks p r → verdictOf (Verdict r) ≡ judgeAnswer bs p
+    unfolding verdictOf judgeAnswer onText
+    judge-accepted e r f = rw (d .1, ← same, f .is (d .0) (d .2) (lawful-was e)) (sym (unless-none turned k _ e))
