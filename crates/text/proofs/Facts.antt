@@ -135,7 +135,7 @@ named-in m n (v ∷ w ∷ vs) (suc zero) e f h = bounded m n w (inside-at (Excep
 named-in m n (v ∷ w ∷ vs) (suc (suc j)) e f h = absurd (omega arith)
 
 -- ---- the three blocks of a book
-widths-repeat : (c k : ℕ) (ks : List ℕ) → widths (replicate c k ++ ks) ≡ c * kind k .fields + widths ks
+pub widths-repeat : (c k : ℕ) (ks : List ℕ) → widths (replicate c k ++ ks) ≡ c * kind k .fields + widths ks
 unfolding widths
 widths-repeat zero k ks = omega arith
 widths-repeat (suc c) k ks = rw (widths-repeat c k ks, suc-mul) (omega arith)

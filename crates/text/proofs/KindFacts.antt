@@ -121,6 +121,11 @@ pub some-field : (k : ℕ) → k < none → 0 < kind k .fields
 unfolding kinds kind unknown
 some-field k h = ltb-true 0 (kind k .fields) (all-at (λ (j : ℕ). ltb 0 (kind j .fields)) none k refl h)
 
+-- Its limit is small.
+pub limit-small : (k : ℕ) → k < none → kind k .limit < 1000000
+unfolding kinds kind unknown
+limit-small k h = ltb-true (kind k .limit) 1000000 (all-at (λ (j : ℕ). ltb (kind j .limit) 1000000) none k refl h)
+
 -- Its contents stand in the list of contents.
 pub contents-in : (k : ℕ) → k < none → kind k .from + kind k .fields ≤ length contents
 unfolding kinds kind unknown contents

@@ -1,0 +1,3 @@
+pub mod Testing
+pub mod Lengths
+pub mod Promise
