@@ -2,11 +2,13 @@
 -- then that of the lent buffer, then the answer.
 use Prim.Native.Nat.{ℕ, zero, suc, _*_, _/_}
 use mathlib.Core.Bool.{Bool, true, false}
+use mathlib.Core.Path.{_≡_}
 use mathlib.Core.List.{List, [], _∷_}
 use lib.Dec.{ltb}
 use lib.ListN.{length}
 use Rattle.logic.specs.Tests.{pick}
 use Rattle.sets.specs.declared.Pair.{Pair}
+use Rattle.sets.specs.Pairs.{flat}
 use Rattle.text.specs.Reading.{Outcome, readText, over}
 use Rattle.text.specs.Reading.Outcome.{accepted, refused as unread}
 use Rattle.text.specs.ALines.{aLine}
@@ -98,6 +100,11 @@ lineAnswer bs p m = onText turned (λ b. unless turned (pairRefusal b p) (roomFo
 unfoldable pub left : {A : Type 0} → (A → List ℕ) → List ℕ → Told A → List ℕ
 left f l (told x) = over l (f x)
 left f l (turned q line) = l
+
+-- What a page answers and leaves: how many pairs, and the pairs in front of the lent slice.
+pub record PageMet (t : Told (List Pair)) (o o′ : List ℕ) (r : Paged) : Type 0 where
+  pub count : countOf r ≡ counted t
+  pub filled : o′ ≡ left flat o t
 
 -- ---- a listing
 -- What First and After answer for a text, as a listing asks them; they lend no buffer, so the room does not matter.

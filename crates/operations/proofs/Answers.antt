@@ -19,7 +19,9 @@ use Rattle.answers.specs.declared.Found.{Found}
 use Rattle.answers.specs.declared.Found.the-variants.{Resolution, End, Refused}
 use Rattle.answers.specs.declared.Judged.{Judged}
 use Rattle.answers.specs.declared.Judged.the-variants.{Verdict, Refused as NotJudged}
-use Rattle.answers.specs.Operations.{Told, told, turned, answerOf, verdictOf, onText, unless, firstAnswer, afterAnswer, judgeAnswer}
+use Rattle.answers.specs.declared.Paged.{Paged}
+use Rattle.answers.specs.declared.Paged.the-variants.{Pairs, Refused as NotPaged}
+use Rattle.answers.specs.Operations.{Told, told, turned, answerOf, verdictOf, countOf, counted, left, onText, unless, firstAnswer, afterAnswer, judgeAnswer, firstPage, pageAfter, PageMet}
 use Rattle.lawful.specs.Refusals.{Refuses}
 use Rattle.meaning.specs.Books.{Book, Lawful}
 use Rattle.meaning.specs.Meant.{bookOf}
@@ -78,6 +80,14 @@ module _ (bs : List ℕ) (q : Refusal) (e : readText bs ≡ unread (q .number) (
   unfolding verdictOf judgeAnswer onText
   judge-down p = rw e refl
 
+  pub first-page-down : (m : ℕ) (o : List ℕ) → PageMet (firstPage bs m) o o (NotPaged q)
+  unfolding countOf counted left firstPage onText
+  first-page-down m o = rw e (record { count = refl; filled = refl })
+
+  pub page-after-down : (p : Pair) (m : ℕ) (o : List ℕ) → PageMet (pageAfter bs p m) o o (NotPaged q)
+  unfolding countOf counted left pageAfter onText
+  page-after-down p m o = rw e (record { count = refl; filled = refl })
+
 -- ---- the accepted text
 module _ (bs : List ℕ) (s : Shape) (ws ranks : List ℕ) (d : (rows : List ℤ) × (readText bs ≡ accepted s rows) × Loaded s rows ws ranks) where
   book : Book
@@ -86,6 +96,10 @@ module _ (bs : List ℕ) (s : Shape) (ws ranks : List ℕ) (d : (rows : List ℤ
   pub first-accepted : (o o′ : List ℕ) (r : ℕ) → length o ≡ 3 → PageIs s ws ranks start o o′ r → answerOf (foundIn r o′) ≡ firstAnswer bs
   unfolding firstAnswer onText
   first-accepted o o′ r n f = rw (d .1) (next-found (bookOf s (d .0)) start o o′ r tt n (f .count (d .0) (d .2) tt) (f .filled (d .0) (d .2) tt))
+
+  pub first-page-accepted : (o o′ : List ℕ) (r : ℕ) → PageIs s ws ranks start o o′ r → PageMet (firstPage bs (length o)) o o′ (Pairs r)
+  unfolding countOf counted left firstPage onText
+  first-page-accepted o o′ r f = rw (d .1) (record { count = ap told (f .count (d .0) (d .2) tt); filled = f .filled (d .0) (d .2) tt })
 
   module _ (p : Pair) (k : ℕ) (c : Refuses (s .statements) (s .exceptions) p k) where
     same : k ≡ pairRefusal (bookOf s (d .0)) p
@@ -115,3 +129,13 @@ module _ (bs : List ℕ) (s : Shape) (ws ranks : List ℕ) (d : (rows : List ℤ
     pub judge-accepted : k ≡ 0 → (r : ℕ) → VerdictIs s ws ranks p r → verdictOf (Verdict r) ≡ judgeAnswer bs p
     unfolding verdictOf judgeAnswer onText
     judge-accepted e r f = rw (d .1, ← same, f .is (d .0) (d .2) (lawful-was e)) (sym (unless-none turned k _ e))
+
+    pub page-after-refused : (k ≡ 0 → ⊥) → (m : ℕ) (o : List ℕ) → PageMet (pageAfter bs p m) o o (NotPaged (record { number = k; line = 0 }))
+    unfolding countOf counted left pageAfter onText
+    page-after-refused n m o = rw (d .1, ← same, unless-other turned k (told (pageFrom (bookOf s (d .0)) (m / 3) (at p))) n) (record { count = refl; filled = refl })
+
+    pub page-after-accepted : k ≡ 0 → (o o′ : List ℕ) (r : ℕ) → PageIs s ws ranks (at p) o o′ r → PageMet (pageAfter bs p (length o)) o o′ (Pairs r)
+    unfolding countOf counted left pageAfter onText
+    page-after-accepted e o o′ r f =
+        let l = lawful-was e in
+        rw (d .1, ← same, unless-none turned k (told (pageFrom (bookOf s (d .0)) (length o / 3) (at p))) e) (record { count = ap told (f .count (d .0) (d .2) l); filled = f .filled (d .0) (d .2) l })

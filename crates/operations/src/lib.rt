@@ -1,7 +1,6 @@
 // The operations on texts: Judge, First, After and pages. Each reads the text once and prepares its book.
 ghost use mathlib.Core.Path.{_≡_};
-ghost use Rattle.sets.specs.Pairs.{flat};
-ghost use Rattle.answers.specs.Operations.{answerOf, verdictOf, countOf, counted, firstAnswer, afterAnswer, judgeAnswer, firstPage, pageAfter, left, asks};
+ghost use Rattle.answers.specs.Operations.{answerOf, verdictOf, firstAnswer, afterAnswer, judgeAnswer, firstPage, pageAfter, PageMet, asks};
 ghost use lib.ListN.{length, take};
 ghost use Prim.Native.Nat.{_+_, _*_, _/_, _≤_, min};
 ghost use Rattle.meaning.specs.Books.{Book as MeantBook};
@@ -120,6 +119,38 @@ pub fn after(text: &[u8], p: Pair) -> Found
             let mut out = [0u64; 3];
             let count = engine::after_in(&words, &ranks, s, p, &mut out);
             found(count, &out)
+        }
+    }
+}
+
+// A page: the first resolutions, as many as the lent slice has room for, or the refusal of the text.
+pub fn first_page(text: &[u8], out: &mut [u64]) -> Paged
+    ensures { λ r. ⌜ PageMet (firstPage (now (text .entry)) (length (now (out .entry)))) (now (out .entry)) (now (out .exit)) r ⌝ }
+{
+    let mut words = [0u64; Book::RULES * 8];
+    let mut ranks = [0u64; Book::EXCEPTIONS];
+    let got = load(text, &mut words, &mut ranks);
+    match got {
+        Reading::Refused(q) => Paged::Refused(q),
+        Reading::Accepted(s) => Paged::Pairs(engine::first_in(&words, &ranks, s, out)),
+    }
+}
+
+// A page: the first resolutions later than the pair, or the refusal of the text, then of the pair.
+pub fn page_after(text: &[u8], p: Pair, out: &mut [u64]) -> Paged
+    ensures { λ r. ⌜ PageMet (pageAfter (now (text .entry)) p (length (now (out .entry)))) (now (out .entry)) (now (out .exit)) r ⌝ }
+{
+    let mut words = [0u64; Book::RULES * 8];
+    let mut ranks = [0u64; Book::EXCEPTIONS];
+    let got = load(text, &mut words, &mut ranks);
+    match got {
+        Reading::Refused(q) => Paged::Refused(q),
+        Reading::Accepted(s) => {
+            let k = lawful::refusal(s.statements, s.exceptions, p);
+            if k != 0 {
+                return Paged::Refused(Refusal { number: k, line: 0 });
+            }
+            Paged::Pairs(engine::after_in(&words, &ranks, s, p, out))
         }
     }
 }

@@ -1,0 +1,25 @@
+use mathlib.Core.Path.{_≡_, ap, _∙_}
+use Rattle.bantameasel.specs.Across.{answerIn, pairOf}
+use borrow.Author.Needs.{needs}
+use Rattle.bantameasel.proofs.bantameasel_after.Statement.{statement}
+use Rattle.bantameasel.proofs.bantameasel_after.Tie as tie
+use Rattle.bantameasel.proofs.bantameasel_after.Reads as reads
+use Rattle.bantameasel.proofs.bantameasel_after.Lts as lts
+use Rattle.bantameasel.proofs.pair_in.Reads as pair-in-reads
+use Rattle.operations.proofs.after.Reads as after-reads
+
+-- src/lib.rt:213:13
+after-requires : tie.Need-after-requires
+after-requires c κs = search needs
+
+-- src/lib.rt:213:5
+pair-in-requires : tie.Need-pair-in-requires
+pair-in-requires c κs = search needs
+
+-- src/lib.rt:204:1
+returns : tie.Need-returns
+unfolding pairOf
+returns c = c .pair-in .ensures ∙ ap answerIn (c .before .after .ensures)
+
+pub bantameasel-after-spec : {M : Type 1} → statement M
+bantameasel-after-spec = tie.close (tie.spec after-requires pair-in-requires returns)

@@ -1,0 +1,24 @@
+use mathlib.Core.Path.{_≡_, ap, _∙_}
+use Rattle.bantameasel.specs.Across.{answerIn, pairOf}
+use borrow.Author.Needs.{needs}
+use Rattle.bantameasel.proofs.bantameasel_first.Statement.{statement}
+use Rattle.bantameasel.proofs.bantameasel_first.Tie as tie
+use Rattle.bantameasel.proofs.bantameasel_first.Reads as reads
+use Rattle.bantameasel.proofs.bantameasel_first.Lts as lts
+use Rattle.bantameasel.proofs.pair_in.Reads as pair-in-reads
+use Rattle.operations.proofs.first.Reads as first-reads
+
+-- src/lib.rt:200:13
+first-requires : tie.Need-first-requires
+first-requires c κs = search needs
+
+-- src/lib.rt:200:5
+pair-in-requires : tie.Need-pair-in-requires
+pair-in-requires c κs = search needs
+
+-- src/lib.rt:196:1
+returns : tie.Need-returns
+returns c = c .pair-in .ensures ∙ ap answerIn (c .before .first .ensures)
+
+pub bantameasel-first-spec : {M : Type 1} → statement M
+bantameasel-first-spec = tie.close (tie.spec first-requires pair-in-requires returns)

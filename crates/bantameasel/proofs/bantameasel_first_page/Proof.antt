@@ -1,0 +1,29 @@
+use mathlib.Core.Path.{_≡_, ap, _∙_}
+use Rattle.bantameasel.specs.Across.{amountIn, pairOf}
+use borrow.Author.Needs.{needs}
+use Rattle.bantameasel.proofs.bantameasel_first_page.Statement.{statement}
+use Rattle.bantameasel.proofs.bantameasel_first_page.Tie as tie
+use Rattle.bantameasel.proofs.bantameasel_first_page.Reads as reads
+use Rattle.bantameasel.proofs.bantameasel_first_page.Lts as lts
+use Rattle.bantameasel.proofs.count_in.Reads as count-in-reads
+use Rattle.operations.proofs.first_page.Reads as first-page-reads
+
+-- src/lib.rt:222:14
+first-page-requires : tie.Need-first-page-requires
+first-page-requires c κs = search needs
+
+-- src/lib.rt:222:5
+count-in-requires : tie.Need-count-in-requires
+count-in-requires c κs = search needs
+
+-- src/lib.rt:217:1
+same-length : tie.Need-same-length
+same-length c = search needs
+
+-- src/lib.rt:217:1
+returns : tie.Need-returns
+returns c = (c .count-in .ensures ∙ ap amountIn (c .before .before .before .first-page .ensures .count), c .before .before .before .first-page .ensures .filled)
+
+pub bantameasel-first-page-spec : {M : Type 1} → statement M
+bantameasel-first-page-spec =
+    tie.close (tie.spec first-page-requires count-in-requires same-length returns)

@@ -1,0 +1,25 @@
+use mathlib.Core.Path.{_≡_, ap, _∙_}
+use Rattle.bantameasel.specs.Across.{verdictIn, pairOf}
+use borrow.Author.Needs.{needs}
+use Rattle.bantameasel.proofs.bantameasel_judge.Statement.{statement}
+use Rattle.bantameasel.proofs.bantameasel_judge.Tie as tie
+use Rattle.bantameasel.proofs.bantameasel_judge.Reads as reads
+use Rattle.bantameasel.proofs.bantameasel_judge.Lts as lts
+use Rattle.bantameasel.proofs.verdict_in.Reads as verdict-in-reads
+use Rattle.operations.proofs.judge.Reads as judge-reads
+
+-- src/lib.rt:192:16
+judge-requires : tie.Need-judge-requires
+judge-requires c κs = search needs
+
+-- src/lib.rt:192:5
+verdict-in-requires : tie.Need-verdict-in-requires
+verdict-in-requires c κs = search needs
+
+-- src/lib.rt:183:1
+returns : tie.Need-returns
+unfolding pairOf
+returns c = c .verdict-in .ensures ∙ ap verdictIn (c .before .judge .ensures)
+
+pub bantameasel-judge-spec : {M : Type 1} → statement M
+bantameasel-judge-spec = tie.close (tie.spec judge-requires verdict-in-requires returns)

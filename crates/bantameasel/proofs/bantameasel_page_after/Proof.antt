@@ -1,0 +1,30 @@
+use mathlib.Core.Path.{_≡_, ap, _∙_}
+use Rattle.bantameasel.specs.Across.{amountIn, pairOf}
+use borrow.Author.Needs.{needs}
+use Rattle.bantameasel.proofs.bantameasel_page_after.Statement.{statement}
+use Rattle.bantameasel.proofs.bantameasel_page_after.Tie as tie
+use Rattle.bantameasel.proofs.bantameasel_page_after.Reads as reads
+use Rattle.bantameasel.proofs.bantameasel_page_after.Lts as lts
+use Rattle.bantameasel.proofs.count_in.Reads as count-in-reads
+use Rattle.operations.proofs.page_after.Reads as page-after-reads
+
+-- src/lib.rt:242:14
+page-after-requires : tie.Need-page-after-requires
+page-after-requires c κs = search needs
+
+-- src/lib.rt:242:5
+count-in-requires : tie.Need-count-in-requires
+count-in-requires c κs = search needs
+
+-- src/lib.rt:226:1
+same-length : tie.Need-same-length
+same-length c = search needs
+
+-- src/lib.rt:226:1
+returns : tie.Need-returns
+unfolding pairOf
+returns c = (c .count-in .ensures ∙ ap amountIn (c .before .before .before .page-after .ensures .count), c .before .before .before .page-after .ensures .filled)
+
+pub bantameasel-page-after-spec : {M : Type 1} → statement M
+bantameasel-page-after-spec =
+    tie.close (tie.spec page-after-requires count-in-requires same-length returns)

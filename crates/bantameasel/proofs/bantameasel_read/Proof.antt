@@ -1,0 +1,28 @@
+use mathlib.Core.Path.{_≡_, ap, _∙_}
+use Rattle.bantameasel.specs.Across.{bookIn}
+use borrow.Author.Needs.{needs}
+use Rattle.bantameasel.proofs.bantameasel_read.Statement.{statement}
+use Rattle.bantameasel.proofs.bantameasel_read.Tie as tie
+use Rattle.bantameasel.proofs.bantameasel_read.Reads as reads
+use Rattle.bantameasel.proofs.bantameasel_read.Lts as lts
+use Rattle.bantameasel.proofs.book_in.Reads as book-in-reads
+use Rattle.read.proofs.read.Reads as read-reads
+
+-- src/lib.rt:170:13
+read-requires : tie.Need-read-requires
+read-requires c κs = search needs
+
+-- src/lib.rt:170:5
+book-in-requires : tie.Need-book-in-requires
+book-in-requires c κs = search needs
+
+-- src/lib.rt:165:1
+same-length : tie.Need-same-length
+same-length c = search needs
+
+-- src/lib.rt:165:1
+returns : tie.Need-returns
+returns c = (c .book-in .ensures ∙ ap bookIn (c .before .before .read .ensures .answer), c .before .before .read .ensures .slice)
+
+pub bantameasel-read-spec : {M : Type 1} → statement M
+bantameasel-read-spec = tie.close (tie.spec read-requires book-in-requires same-length returns)

@@ -1,0 +1,29 @@
+use mathlib.Core.Path.{_≡_, ap, _∙_}
+use Rattle.answers.specs.Operations.{lengthOf}
+use Rattle.bantameasel.specs.Across.{amountIn}
+use borrow.Author.Needs.{needs}
+use Rattle.bantameasel.proofs.bantameasel_write.Statement.{statement}
+use Rattle.bantameasel.proofs.bantameasel_write.Tie as tie
+use Rattle.bantameasel.proofs.bantameasel_write.Reads as reads
+use Rattle.bantameasel.proofs.bantameasel_write.Lts as lts
+use Rattle.bantameasel.proofs.length_in.Reads as length-in-reads
+use Rattle.write.proofs.write.Reads as write-reads
+
+-- src/lib.rt:179:15
+write-requires : tie.Need-write-requires
+write-requires c κs = search needs
+
+-- src/lib.rt:179:5
+length-in-requires : tie.Need-length-in-requires
+length-in-requires c κs = search needs
+
+-- src/lib.rt:174:1
+same-length : tie.Need-same-length
+same-length c = search needs
+
+-- src/lib.rt:174:1
+returns : tie.Need-returns
+returns c = (c .length-in .ensures ∙ ap (λ w. amountIn (lengthOf w)) (c .before .before .before .write .ensures .answer), c .before .before .before .write .ensures .slice)
+
+pub bantameasel-write-spec : {M : Type 1} → statement M
+bantameasel-write-spec = tie.close (tie.spec write-requires length-in-requires same-length returns)

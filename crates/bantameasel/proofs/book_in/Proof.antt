@@ -1,0 +1,28 @@
+use Rattle.bantameasel.proofs.Across.{book-is, book-not}
+use Rattle.bantameasel.specs.Across.{bookIn}
+use borrow.Author.Needs.{needs}
+use Rattle.bantameasel.proofs.book_in.Statement.{statement}
+use Rattle.bantameasel.proofs.book_in.Tie as tie
+use Rattle.bantameasel.proofs.book_in.Reads as reads
+use Rattle.bantameasel.proofs.book_in.Lts as lts
+
+-- src/lib.rt:61:27
+enum-known-r : tie.Need-enum-known-r
+enum-known-r c = search needs
+
+-- src/lib.rt:69:26
+enum-known-r-2 : tie.Need-enum-known-r-2
+enum-known-r-2 c = search needs
+
+-- src/lib.rt:57:1
+returns : tie.Need-returns
+unfolding bookIn
+returns c = book-is (c .before .before .before .args .r) _ (search needs)
+
+-- src/lib.rt:57:1
+returns-2 : tie.Need-returns-2
+unfolding bookIn
+returns-2 c = book-not (c .before .before .before .args .r) _ (search needs)
+
+pub book-in-spec : {M : Type 1} → statement M
+book-in-spec = tie.close (tie.spec enum-known-r enum-known-r-2 returns returns-2)

@@ -1,0 +1,28 @@
+use Rattle.bantameasel.proofs.Across.{count-is, count-not}
+use Rattle.bantameasel.specs.Across.{amountIn}
+use borrow.Author.Needs.{needs}
+use Rattle.bantameasel.proofs.count_in.Statement.{statement}
+use Rattle.bantameasel.proofs.count_in.Tie as tie
+use Rattle.bantameasel.proofs.count_in.Reads as reads
+use Rattle.bantameasel.proofs.count_in.Lts as lts
+
+-- src/lib.rt:101:22
+enum-known-p : tie.Need-enum-known-p
+enum-known-p c = search needs
+
+-- src/lib.rt:106:24
+enum-known-p-2 : tie.Need-enum-known-p-2
+enum-known-p-2 c = search needs
+
+-- src/lib.rt:97:1
+returns : tie.Need-returns
+unfolding amountIn
+returns c = count-is _ _ (search needs)
+
+-- src/lib.rt:97:1
+returns-2 : tie.Need-returns-2
+unfolding amountIn
+returns-2 c = count-not _ _ (search needs)
+
+pub count-in-spec : {M : Type 1} → statement M
+count-in-spec = tie.close (tie.spec enum-known-p enum-known-p-2 returns returns-2)

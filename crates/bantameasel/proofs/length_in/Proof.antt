@@ -1,0 +1,28 @@
+use Rattle.bantameasel.proofs.Across.{length-is, length-not}
+use Rattle.bantameasel.specs.Across.{amountIn}
+use borrow.Author.Needs.{needs}
+use Rattle.bantameasel.proofs.length_in.Statement.{statement}
+use Rattle.bantameasel.proofs.length_in.Tie as tie
+use Rattle.bantameasel.proofs.length_in.Reads as reads
+use Rattle.bantameasel.proofs.length_in.Lts as lts
+
+-- src/lib.rt:84:26
+enum-known-w : tie.Need-enum-known-w
+enum-known-w c = search needs
+
+-- src/lib.rt:89:26
+enum-known-w-2 : tie.Need-enum-known-w-2
+enum-known-w-2 c = search needs
+
+-- src/lib.rt:80:1
+returns : tie.Need-returns
+unfolding amountIn
+returns c = length-is _ _ (search needs)
+
+-- src/lib.rt:80:1
+returns-2 : tie.Need-returns-2
+unfolding amountIn
+returns-2 c = length-not _ _ (search needs)
+
+pub length-in-spec : {M : Type 1} → statement M
+length-in-spec = tie.close (tie.spec enum-known-w enum-known-w-2 returns returns-2)

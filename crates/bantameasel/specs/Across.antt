@@ -1,0 +1,37 @@
+-- The answers of the operations as a program in C has them: the refusal and its line first, 0 and 0 where there is none; then the answer, or
+-- zeros where it was refused.
+use Prim.Native.Nat.{ℕ}
+use Rattle.sets.specs.declared.Pair.{Pair}
+use Rattle.text.specs.declared.Reading.{Reading}
+use Rattle.text.specs.declared.Reading.the-variants.{Accepted, Refused}
+use Rattle.meaning.specs.Listings.{Answer, found, end, refused}
+use Rattle.answers.specs.Operations.{Told, told, turned}
+use Rattle.bantameasel.specs.declared.BookAnswer.{BookAnswer}
+use Rattle.bantameasel.specs.declared.Amount.{Amount}
+use Rattle.bantameasel.specs.declared.VerdictAnswer.{VerdictAnswer}
+use Rattle.bantameasel.specs.declared.PairAnswer.{PairAnswer}
+
+-- The pair of three numbers.
+unfoldable pub pairOf : ℕ → ℕ → ℕ → Pair
+pairOf t h d = record { taken = t; held = h; denied = d }
+
+-- Of Read: n and the three counts.
+unfoldable pub bookIn : Reading → BookAnswer
+bookIn (Accepted s) = record { refusal = 0; line = 0; statements = s .statements; plain = s .plain; exceptions = s .exceptions; preferences = s .preferences }
+bookIn (Refused q) = record { refusal = q .number; line = q .line; statements = 0; plain = 0; exceptions = 0; preferences = 0 }
+
+-- Of Write, Line and pages: how many.
+unfoldable pub amountIn : Told ℕ → Amount
+amountIn (told k) = record { refusal = 0; line = 0; amount = k }
+amountIn (turned q l) = record { refusal = q; line = l; amount = 0 }
+
+-- Of Judge: the verdict.
+unfoldable pub verdictIn : Told ℕ → VerdictAnswer
+verdictIn (told k) = record { refusal = 0; line = 0; verdict = k }
+verdictIn (turned q l) = record { refusal = q; line = l; verdict = 0 }
+
+-- Of First and After: found 1 and the pair, or found 0 at the End.
+unfoldable pub answerIn : Answer → PairAnswer
+answerIn (found p) = record { refusal = 0; line = 0; found = 1; taken = p .taken; held = p .held; denied = p .denied }
+answerIn end = record { refusal = 0; line = 0; found = 0; taken = 0; held = 0; denied = 0 }
+answerIn (refused q l) = record { refusal = q; line = l; found = 0; taken = 0; held = 0; denied = 0 }

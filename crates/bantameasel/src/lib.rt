@@ -1,0 +1,248 @@
+// The operations for programs in C: numbers and slices only across the border. Each answer begins with the refusal, 0 where there is none,
+// and its line; what stands after them is 0 where it was refused.
+ghost use mathlib.Core.Path.{_≡_};
+ghost use lib.ListN.{length};
+ghost use Rattle.text.specs.Reading.{readAnswer, readWith, readInto};
+ghost use Rattle.text.specs.Writing.{writeAnswer, writeWith, writeInto};
+ghost use Rattle.sets.specs.Pairs.{flat};
+ghost use Rattle.answers.specs.Operations.{answerOf, verdictOf, countOf, lengthOf, counted, left, firstAnswer, afterAnswer, judgeAnswer, firstPage, pageAfter};
+ghost use Rattle.bantameasel.specs.Across.{bookIn, amountIn, verdictIn, answerIn, pairOf};
+use answers::Found;
+use answers::Judged;
+use answers::Paged;
+use sets::Pair;
+use text::Reading;
+use text::Writing;
+
+// What Read answers: n and the numbers of R, X and P lines.
+#[repr(C)]
+pub struct BookAnswer {
+    pub refusal: u32,
+    pub line: u64,
+    pub statements: u64,
+    pub plain: u64,
+    pub exceptions: u64,
+    pub preferences: u64,
+}
+
+// What Write, Line and a page answer: how many bytes, how many pairs.
+#[repr(C)]
+pub struct Amount {
+    pub refusal: u32,
+    pub line: u64,
+    pub amount: u64,
+}
+
+// What Judge answers: the verdict, 0 to 5.
+#[repr(C)]
+pub struct VerdictAnswer {
+    pub refusal: u32,
+    pub line: u64,
+    pub verdict: u32,
+}
+
+// What First and After answer: found 1 and the resolution, or found 0 at the End.
+#[repr(C)]
+pub struct PairAnswer {
+    pub refusal: u32,
+    pub line: u64,
+    pub found: u32,
+    pub taken: u64,
+    pub held: u64,
+    pub denied: u64,
+}
+
+// ---- the answers as C has them
+
+pub fn book_in(r: Reading) -> BookAnswer
+    ensures { λ a. ⌜ a ≡ bookIn r ⌝ }
+{
+    match r {
+        Reading::Accepted(s) => BookAnswer {
+            refusal: 0,
+            line: 0,
+            statements: s.statements as u64,
+            plain: s.plain as u64,
+            exceptions: s.exceptions as u64,
+            preferences: s.preferences as u64,
+        },
+        Reading::Refused(q) => BookAnswer {
+            refusal: q.number,
+            line: q.line as u64,
+            statements: 0,
+            plain: 0,
+            exceptions: 0,
+            preferences: 0,
+        },
+    }
+}
+
+pub fn length_in(w: Writing) -> Amount
+    ensures { λ a. ⌜ a ≡ amountIn (lengthOf w) ⌝ }
+{
+    match w {
+        Writing::Written(k) => Amount {
+            refusal: 0,
+            line: 0,
+            amount: k as u64,
+        },
+        Writing::Refused(q) => Amount {
+            refusal: q.number,
+            line: q.line as u64,
+            amount: 0,
+        },
+    }
+}
+
+pub fn count_in(p: Paged) -> Amount
+    ensures { λ a. ⌜ a ≡ amountIn (countOf p) ⌝ }
+{
+    match p {
+        Paged::Pairs(k) => Amount {
+            refusal: 0,
+            line: 0,
+            amount: k as u64,
+        },
+        Paged::Refused(q) => Amount {
+            refusal: q.number,
+            line: q.line as u64,
+            amount: 0,
+        },
+    }
+}
+
+pub fn verdict_in(j: Judged) -> VerdictAnswer
+    ensures { λ a. ⌜ a ≡ verdictIn (verdictOf j) ⌝ }
+{
+    match j {
+        Judged::Verdict(verdict) => VerdictAnswer {
+            refusal: 0,
+            line: 0,
+            verdict,
+        },
+        Judged::Refused(q) => VerdictAnswer {
+            refusal: q.number,
+            line: q.line as u64,
+            verdict: 0,
+        },
+    }
+}
+
+pub fn pair_in(f: Found) -> PairAnswer
+    ensures { λ a. ⌜ a ≡ answerIn (answerOf f) ⌝ }
+{
+    match f {
+        Found::Resolution(p) => PairAnswer {
+            refusal: 0,
+            line: 0,
+            found: 1,
+            taken: p.taken,
+            held: p.held,
+            denied: p.denied,
+        },
+        Found::End => PairAnswer {
+            refusal: 0,
+            line: 0,
+            found: 0,
+            taken: 0,
+            held: 0,
+            denied: 0,
+        },
+        Found::Refused(q) => PairAnswer {
+            refusal: q.number,
+            line: q.line as u64,
+            found: 0,
+            taken: 0,
+            held: 0,
+            denied: 0,
+        },
+    }
+}
+
+// ---- the operations
+
+// Read: the text to the number table in front of the lent slice.
+#[no_mangle]
+pub extern "C" fn bantameasel_read(text: &[u8], table: &mut [i32]) -> BookAnswer
+    ensures { λ r. ⌜ r ≡ bookIn (readAnswer (readWith (now (table .entry)) (now (text .entry)))) ⌝ }
+    ensures { λ r. ⌜ now (table .exit) ≡ readInto (now (table .entry)) (readWith (now (table .entry)) (now (text .entry))) ⌝ }
+{
+    book_in(read::read(text, table))
+}
+
+// Write: the number table to the text in front of the lent slice.
+#[no_mangle]
+pub extern "C" fn bantameasel_write(table: &[i32], text: &mut [u8]) -> Amount
+    ensures { λ r. ⌜ r ≡ amountIn (lengthOf (writeAnswer (writeWith (now (text .entry)) (now (table .entry))))) ⌝ }
+    ensures { λ r. ⌜ now (text .exit) ≡ writeInto (now (text .entry)) (writeWith (now (text .entry)) (now (table .entry))) ⌝ }
+{
+    length_in(write::write(table, text))
+}
+
+// Judge: the verdict on a pair.
+#[no_mangle]
+pub extern "C" fn bantameasel_judge(
+    text: &[u8],
+    taken: u64,
+    held: u64,
+    denied: u64,
+) -> VerdictAnswer
+    ensures { λ r. ⌜ r ≡ verdictIn (judgeAnswer (now (text .entry)) (pairOf taken held denied)) ⌝ }
+{
+    let p = Pair {
+        taken,
+        held,
+        denied,
+    };
+    verdict_in(operations::judge(text, p))
+}
+
+// First: the first resolution, or End.
+#[no_mangle]
+pub extern "C" fn bantameasel_first(text: &[u8]) -> PairAnswer
+    ensures { λ r. ⌜ r ≡ answerIn (firstAnswer (now (text .entry))) ⌝ }
+{
+    pair_in(operations::first(text))
+}
+
+// After: the first resolution later than a pair, or End.
+#[no_mangle]
+pub extern "C" fn bantameasel_after(text: &[u8], taken: u64, held: u64, denied: u64) -> PairAnswer
+    ensures { λ r. ⌜ r ≡ answerIn (afterAnswer (now (text .entry)) (pairOf taken held denied)) ⌝ }
+{
+    let p = Pair {
+        taken,
+        held,
+        denied,
+    };
+    pair_in(operations::after(text, p))
+}
+
+// A page of the first resolutions.
+#[no_mangle]
+pub extern "C" fn bantameasel_first_page(text: &[u8], pairs: &mut [u64]) -> Amount
+    ensures { λ r. ⌜ r ≡ amountIn (counted (firstPage (now (text .entry)) (length (now (pairs .entry))))) ⌝ }
+    ensures { λ r. ⌜ now (pairs .exit) ≡ left flat (now (pairs .entry)) (firstPage (now (text .entry)) (length (now (pairs .entry)))) ⌝ }
+{
+    count_in(operations::first_page(text, pairs))
+}
+
+// A page of the first resolutions later than a pair.
+#[no_mangle]
+pub extern "C" fn bantameasel_page_after(
+    text: &[u8],
+    taken: u64,
+    held: u64,
+    denied: u64,
+    pairs: &mut [u64],
+) -> Amount
+    ensures { λ r. ⌜ r ≡ amountIn (counted (pageAfter (now (text .entry)) (pairOf taken held denied) (length (now (pairs .entry))))) ⌝ }
+    ensures { λ r. ⌜ now (pairs .exit) ≡ left flat (now (pairs .entry)) (pageAfter (now (text .entry)) (pairOf taken held denied) (length (now (pairs .entry)))) ⌝ }
+{
+    let p = Pair {
+        taken,
+        held,
+        denied,
+    };
+    count_in(operations::page_after(text, p, pairs))
+}
