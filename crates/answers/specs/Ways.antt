@@ -11,7 +11,7 @@ use Rattle.text.specs.Fields.{writtenAll}
 use Rattle.text.specs.Reading.{readText}
 use Rattle.text.specs.ALines.{aLine}
 use Rattle.meaning.specs.Books.{Book}
-use Rattle.meaning.specs.Order.{start}
+use Rattle.meaning.specs.Order.{Point, start}
 use Rattle.meaning.specs.Twins.Next.{pageFrom}
 use Rattle.answers.specs.Operations.{onText}
 
@@ -19,13 +19,21 @@ use Rattle.answers.specs.Operations.{onText}
 abbrev pub mostLines : ℕ
 mostLines = 9999
 
--- `E` and a line feed; `M` instead if more lines remain than may be printed.
-unfoldable pub closing : List Pair → List ℕ
-closing ps = pick (ltb mostLines (length ps)) 77 69 ∷ 10 ∷ []
+-- The lines of some pairs, by Line.
+unfoldable pub linesOf : ℕ → List Pair → List ℕ
+linesOf n ps = concatMap (λ p. aLine n p) ps
 
--- The resolutions by Line, no more than may be printed, then the closing line. The pairs given are one more than may be printed, if so many are there.
-unfoldable pub printed : ℕ → List Pair → List ℕ
-printed n ps = concatMap (λ p. aLine n p) (take mostLines ps) ++ closing ps
+-- `E` and a line feed; `M` instead if there are more than the m that may be printed.
+unfoldable pub closing : ℕ → List Pair → List ℕ
+closing m ps = pick (ltb m (length ps)) 77 69 ∷ 10 ∷ []
+
+-- Resolutions by Line, no more than m, then the closing line. The pairs given are one more than may be printed, if so many are there.
+unfoldable pub printed : ℕ → ℕ → List Pair → List ℕ
+printed m n ps = linesOf n (take m ps) ++ closing m ps
+
+-- What is printed of a book from a point on, where m lines may be printed.
+unfoldable pub listed : Book → ℕ → Point → List ℕ
+listed b m from = printed m (b .statements) (pageFrom b (suc m) from)
 
 -- "A refusal prints only `F`, two fields (number, line) and a line feed."
 unfoldable pub failed : ℕ → ℕ → List ℕ
@@ -33,4 +41,4 @@ failed number line = 70 ∷ (writtenAll (pos number ∷ pos line ∷ []) ++ (10 
 
 -- All that is printed.
 unfoldable pub waysOf : List ℕ → List ℕ
-waysOf bs = onText failed (λ b. printed (b .statements) (pageFrom b (suc mostLines) start)) (readText bs)
+waysOf bs = onText failed (λ b. listed b mostLines start) (readText bs)

@@ -1,11 +1,13 @@
 // The operations for programs in C: numbers and slices only across the border. Each answer begins with the refusal, 0 where there is none,
 // and its line; what stands after them is 0 where it was refused.
 ghost use mathlib.Core.Path.{_≡_};
+ghost use mathlib.Core.List.{List};
+ghost use Prim.Native.Nat.{ℕ};
 ghost use lib.ListN.{length};
 ghost use Rattle.text.specs.Reading.{readAnswer, readWith, readInto};
 ghost use Rattle.text.specs.Writing.{writeAnswer, writeWith, writeInto};
 ghost use Rattle.sets.specs.Pairs.{flat};
-ghost use Rattle.answers.specs.Operations.{answerOf, verdictOf, countOf, lengthOf, counted, left, firstAnswer, afterAnswer, judgeAnswer, firstPage, pageAfter};
+ghost use Rattle.answers.specs.Operations.{answerOf, verdictOf, countOf, lengthOf, counted, left, firstAnswer, afterAnswer, judgeAnswer, lineAnswer, firstPage, pageAfter};
 ghost use Rattle.bantameasel.specs.Across.{bookIn, amountIn, verdictIn, answerIn, pairOf};
 use answers::Found;
 use answers::Judged;
@@ -216,6 +218,26 @@ pub extern "C" fn bantameasel_after(text: &[u8], taken: u64, held: u64, denied: 
         denied,
     };
     pair_in(operations::after(text, p))
+}
+
+// Line: the line of a pair in front of the lent slice.
+#[no_mangle]
+pub extern "C" fn bantameasel_line(
+    text: &[u8],
+    taken: u64,
+    held: u64,
+    denied: u64,
+    line: &mut [u8],
+) -> Amount
+    ensures { λ r. ⌜ r ≡ amountIn (counted (lineAnswer (now (text .entry)) (pairOf taken held denied) (length (now (line .entry))))) ⌝ }
+    ensures { λ r. ⌜ now (line .exit) ≡ left (λ (l : List ℕ). l) (now (line .entry)) (lineAnswer (now (text .entry)) (pairOf taken held denied) (length (now (line .entry)))) ⌝ }
+{
+    let p = Pair {
+        taken,
+        held,
+        denied,
+    };
+    length_in(line::line(text, p, line))
 }
 
 // A page of the first resolutions.

@@ -1,0 +1,134 @@
+-- The refusals of a text: the number is never 0 and has two digits at most, and the line is one of the text's lines, or the line after the
+-- last. So an answer that carries number 0 is not a refusal, and both numbers fit their fields.
+use Prim.Native.Nat.{ℕ, zero, suc, _+_, _<_, _≤_}
+use mathlib.Core.Path.{_≡_, refl}
+use mathlib.Core.Bool.{Bool, true, false}
+use mathlib.Core.List.{List, [], _∷_, _++_}
+use native.Mathlib.Omega.{arith}
+use lib.Dec.{eqb, ltb, leb}
+use borrow.Author.Tests.{ltb-false}
+use lib.IntN.{ℤ, pos}
+use lib.ListN.{length, getD, drop}
+use Rattle.logic.specs.Tests.{pick}
+use Rattle.book.specs.declared.Content.{Content}
+use Rattle.book.specs.declared.Content.the-variants.{Edition, Statements, Literal, Exception, Total}
+use Rattle.book.specs.Kinds.{kind, fieldsOf, bytes, none, exception, Range, rangeOf, longest}
+use Rattle.text.specs.declared.State.{State}
+use Rattle.text.specs.declared.Field.{Field}
+use Rattle.text.specs.declared.Field.the-variants.{Value, Misspelt}
+use Rattle.text.specs.Fields.{firstField}
+use Rattle.text.specs.Lines.{Numbers, numbers, fault, andThen, inside, testField, readFields, headless, missing, miscounted, wholeOf, Line, line, wrong, unless, judged, readRest, readKind, kindFor, readLine, lines, toFirst}
+use Rattle.text.specs.Reading.{Outcome, prepend, onLine, readEnd, readLines, step, rowOf, start, lastByte, readText, shapeOf}
+use Rattle.text.specs.Reading.Outcome.{accepted, refused}
+
+-- The number of a refusal.
+pub record Fault (q : ℕ) : Type 0 where
+  pub low : 0 < q
+  pub high : q < 100
+
+either-way : {A : Type 0} (P : A → Type 0) (b : Bool) (x y : A) → P x → P y → P (pick b x y)
+unfolding pick
+either-way P true x y p q = p
+either-way P false x y p q = q
+
+-- ---- a line
+abbrev Faulted : Numbers → Type 0
+Faulted (numbers vs) = Unit {0}
+Faulted (fault q) = Fault q
+
+abbrev Wronged : Line → Type 0
+Wronged (line k vs) = Unit {0}
+Wronged (wrong q) = Fault q
+
+range-fault : (c : Content) (n : ℕ) → Fault (rangeOf c n .fault)
+unfolding rangeOf
+range-fault Edition n = record { low = omega arith; high = omega arith }
+range-fault Statements n = record { low = omega arith; high = omega arith }
+range-fault Literal n = record { low = omega arith; high = omega arith }
+range-fault Exception n = record { low = omega arith; high = omega arith }
+range-fault Total n = record { low = omega arith; high = omega arith }
+
+then-faulted : (v : ℤ) (ns : Numbers) → Faulted ns → Faulted (andThen v ns)
+unfolding andThen
+then-faulted v (numbers vs) f = tt
+then-faulted v (fault q) f = f
+
+field-faulted : (f : Field) (r : Range) (ns : Numbers) → Fault (r .fault) → Faulted ns → Faulted (testField f r ns)
+unfolding testField
+field-faulted Misspelt r ns g h = record { low = omega arith; high = omega arith }
+field-faulted (Value v) r ns g h = either-way Faulted (inside r v) (andThen v ns) (fault (r .fault)) (then-faulted v ns h) g
+
+fields-faulted : (cs : List Content) (n : ℕ) (bs : List ℕ) → Faulted (readFields cs n bs)
+unfolding readFields
+fields-faulted [] n bs = tt
+fields-faulted (c ∷ cs) n bs = field-faulted (firstField bs) (rangeOf c n) (readFields cs n (drop 4 bs)) (range-fault c n) (fields-faulted cs n (drop 4 bs))
+
+whole-small : (st : State) (k : ℕ) (vs : List ℤ) → wholeOf st k vs < 100
+unfolding wholeOf
+whole-small st k vs =
+    let small : ℕ → Type 0 = λ q. q < 100 in
+    either-way small (leb (kind k .limit) (getD (st .counts) k 0)) 8 _ (omega arith)
+    (either-way small (headless (kind k) vs) 9 _ (omega arith)
+    (either-way small (missing (getD (st .counts) exception 0) (kind k) vs) 10 _ (omega arith)
+    (either-way small (miscounted (st .rows) (kind k) vs) 11 0 (omega arith) (omega arith))))
+
+unless-wronged : (q : ℕ) (l : Line) → q < 100 → Wronged l → Wronged (unless q l)
+unfolding unless
+unless-wronged zero l h w = w
+unless-wronged (suc q) l h w = record { low = omega arith; high = h }
+
+judged-wronged : (st : State) (k : ℕ) (ns : Numbers) → Faulted ns → Wronged (judged (wholeOf st k) k ns)
+unfolding judged
+judged-wronged st k (numbers vs) f = unless-wronged (wholeOf st k vs) (line k vs) (whole-small st k vs) tt
+judged-wronged st k (fault q) f = f
+
+rest-wronged : (st : State) (k : ℕ) (bs : List ℕ) → Wronged (readRest st k bs)
+unfolding readRest
+rest-wronged st k bs = either-way Wronged (eqb (2 + length bs) (bytes (kind k))) _ (wrong 4) (judged-wronged st k _ (fields-faulted (fieldsOf (kind k)) (st .statements) bs)) (record { low = omega arith; high = omega arith })
+
+line-wronged : (st : State) (l : List ℕ) → Wronged (readLine st l)
+unfolding readLine readKind
+line-wronged st [] = record { low = omega arith; high = omega arith }
+line-wronged st (b ∷ bs) = either-way Wronged (ltb (kindFor (st .next) b) none) (readRest st (kindFor (st .next) b) bs) (wrong 3) (rest-wronged st (kindFor (st .next) b) bs) (record { low = omega arith; high = omega arith })
+
+-- ---- the text
+-- A refusal is known: its number, and a line up to m.
+abbrev pub Known : ℕ → Outcome → Type 0
+Known m (accepted s ws) = Unit {0}
+Known m (refused q l) = Fault q × (l ≤ m)
+
+prepend-known : (m : ℕ) (vs : List ℤ) (o : Outcome) → Known m o → Known m (prepend vs o)
+unfolding prepend
+prepend-known m vs (accepted s ws) k = tt
+prepend-known m vs (refused q l) k = k
+
+on-known : (m : ℕ) (x : Line) (i : ℕ) (rest : ℕ → List ℤ → Outcome) → Wronged x → i ≤ m → ((k : ℕ) (vs : List ℤ) → Known m (rest k vs)) → Known m (onLine x i rest)
+unfolding onLine
+on-known m (line k vs) i rest w h f = prepend-known m (rowOf k vs) (rest k vs) (f k vs)
+on-known m (wrong q) i rest w h f = (w, h)
+
+lines-known : (m : ℕ) (ls : List (List ℕ)) (st : State) (i : ℕ) → i + length ls ≤ m → Known m (readLines ls st i)
+unfolding readLines readEnd
+lines-known m [] st i h = either-way (Known m) (eqb (st .next) none) (accepted (shapeOf st) []) (refused 3 i) tt (record { low = omega arith; high = omega arith }, omega arith)
+lines-known m (l ∷ ls) st i h = on-known m (readLine st l) i (λ k vs. readLines ls (step st k vs) (suc i)) (line-wronged st l) (omega arith) (λ k vs. lines-known m ls (step st k vs) (suc i) (omega arith))
+
+first-length : (b : ℕ) (ls : List (List ℕ)) → length (toFirst b ls) ≤ suc (length ls)
+unfolding toFirst
+first-length b [] = omega arith
+first-length b (l ∷ ls) = omega arith
+
+pub lines-length : (bs : List ℕ) → length (lines bs) ≤ length bs
+unfolding lines
+lines-length [] = omega arith
+lines-length (b ∷ bs) =
+    let h = lines-length bs in let g = first-length b (lines bs) in
+    either-way (λ (ls : List (List ℕ)). length ls ≤ suc (length bs)) (eqb b 10) ([] ∷ lines bs) (toFirst b (lines bs)) (omega arith) (omega arith)
+
+-- Every text's refusal.
+pub text-known : (bs : List ℕ) → Known (suc longest) (readText bs)
+unfolding readText lastByte readLines pick
+text-known bs = go (ltb longest (length bs)) refl
+  where
+    go : (b : Bool) → ltb longest (length bs) ≡ b → Known (suc longest) (pick b (refused 1 0) (pick (eqb (lastByte bs) 10) (readLines (lines bs) start 1) (refused 2 0)))
+    go true e = (record { low = omega arith; high = omega arith }, omega arith)
+    go false e = let h = lines-length bs in either-way (Known (suc longest)) (eqb (lastByte bs) 10) (readLines (lines bs) start 1) (refused 2 0) (lines-known (suc longest) (lines bs) start 1 (let g = ltb-false longest (length bs) e in omega arith)) (record { low = omega arith; high = omega arith }, omega arith)

@@ -1,0 +1,29 @@
+use mathlib.Core.Path.{_≡_, ap, _∙_}
+use Rattle.bantameasel.specs.Across.{amountIn, pairOf}
+use borrow.Author.Needs.{needs}
+use Rattle.bantameasel.proofs.bantameasel_line.Statement.{statement}
+use Rattle.bantameasel.proofs.bantameasel_line.Tie as tie
+use Rattle.bantameasel.proofs.bantameasel_line.Reads as reads
+use Rattle.bantameasel.proofs.bantameasel_line.Lts as lts
+use Rattle.bantameasel.proofs.length_in.Reads as length-in-reads
+use Rattle.line.proofs.line.Reads as line-reads
+
+-- src/lib.rt:240:15
+line-requires : tie.Need-line-requires
+line-requires c κs = search needs
+
+-- src/lib.rt:240:5
+length-in-requires : tie.Need-length-in-requires
+length-in-requires c κs = search needs
+
+-- src/lib.rt:224:1
+same-length : tie.Need-same-length
+same-length c = search needs
+
+-- src/lib.rt:224:1
+returns : tie.Need-returns
+unfolding pairOf
+returns c = (c .length-in .ensures ∙ ap amountIn (c .before .before .before .line .ensures .answer), c .before .before .before .line .ensures .slice)
+
+pub bantameasel-line-spec : {M : Type 1} → statement M
+bantameasel-line-spec = tie.close (tie.spec line-requires length-in-requires same-length returns)

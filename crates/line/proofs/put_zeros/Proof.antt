@@ -1,0 +1,63 @@
+use Prim.Native.Nat.{_≤_, _-_}
+use mathlib.Core.Path.{_≡_, refl}
+use native.Mathlib.Omega.{arith}
+use borrow.Author.Needs.{needs}
+use lib.ListN.{length}
+use Rattle.line.proofs.PutLaws.{ZerosLeft, zeros-start, zeros-next, zeros-end}
+use Rattle.line.proofs.put_zeros.Statement.{statement}
+use Rattle.line.proofs.put_zeros.Tie as tie
+
+abbrev Inv-loop : tie.InvT-loop
+Inv-loop buf₀ at w i₀ buf i = (i ≤ w) × (length buf ≡ length buf₀) × ZerosLeft buf₀ at w buf i
+
+abbrev μ-loop : tie.MeasureT-loop
+μ-loop buf₀ at w i₀ buf i = w - i
+
+loop-holds : tie.Need-loop-holds Inv-loop μ-loop
+loop-holds c = (omega arith, refl, zeros-start _ _ _)
+
+mul-put-columns : tie.Need-mul-put-columns Inv-loop μ-loop
+mul-put-columns c = omega arith
+
+add-put-columns : tie.Need-add-put-columns Inv-loop μ-loop
+add-put-columns c = omega arith
+
+put-columns-requires : tie.Need-put-columns-requires Inv-loop μ-loop
+put-columns-requires c κs = (omega arith, omega arith)
+
+add-i : tie.Need-add-i Inv-loop μ-loop
+add-i c = omega arith
+
+loop-less : tie.Need-loop-less Inv-loop μ-loop
+loop-less c = omega arith
+
+loop-again : tie.Need-loop-again Inv-loop μ-loop
+loop-again c =
+    let put-columns = c .before .before .put-columns in
+    let loop = c .before .before .before .before .before .loop in
+    (omega arith, omega (arith, put-columns .kept .0), zeros-next _ _ _ (loop .buf) _ (loop .i) (omega arith) (put-columns .ensures) (search needs))
+
+same-length : tie.Need-same-length Inv-loop μ-loop
+same-length c = search needs
+
+returns : tie.Need-returns Inv-loop μ-loop
+returns c =
+    let loop = c .before .loop in
+    let args = c .before .before .before .args in
+    zeros-end _ _ (args .w) _ (loop .i) (omega arith) (search needs)
+
+pub put-zeros-spec : {M : Type 1} → statement M
+put-zeros-spec =
+    tie.close
+    (tie.spec
+    Inv-loop
+    μ-loop
+    loop-holds
+    mul-put-columns
+    add-put-columns
+    put-columns-requires
+    add-i
+    loop-less
+    loop-again
+    same-length
+    returns)

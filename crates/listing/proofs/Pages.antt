@@ -1,0 +1,99 @@
+-- Pages one after another: a full page goes on from its last pair, and a page that is not full is all there is.
+use Prim.Native.Nat.{ℕ, zero, suc, _+_, _*_, _<_, _≤_}
+use mathlib.Core.Path.{_≡_, refl, sym, ap, _∙_}
+use mathlib.Core.List.{List, [], _∷_, _++_}
+use native.Mathlib.Nat.{zero-add, suc-add, add-zero}
+use native.Mathlib.Omega.{arith}
+use lib.ListN.{length, take, getD}
+use Rattle.sets.specs.declared.Pair.{Pair}
+use Rattle.sets.specs.Pairs.{flat}
+use Rattle.meaning.specs.Books.{Book}
+use Rattle.meaning.specs.Order.{Point, start, at, LawfulPoint}
+use Rattle.meaning.specs.Listings.{Answer, found, end, refused, FirstLater}
+use Rattle.meaning.specs.Twins.Next.{nextFrom, onwardFrom, pageFrom}
+use Rattle.meaning.proofs.Next.{next-is}
+use Rattle.listing.specs.Parts.{pairAt, pairsIn}
+
+-- The point that some pairs lead to.
+abbrev pub lastPoint : Point → List Pair → Point
+lastPoint from [] = from
+lastPoint from (p ∷ ps) = lastPoint (at p) ps
+
+module _ (b : Book) (m : ℕ) where
+  pub page-full : (k : ℕ) (from : Point) → length (pageFrom b k from) ≡ k → pageFrom b (k + m) from ≡ pageFrom b k from ++ pageFrom b m (lastPoint from (pageFrom b k from))
+  unfolding pageFrom onwardFrom
+  page-full zero from e = rw (zero-add m) refl
+  page-full (suc k) from e = rw (suc-add k m) (go (nextFrom b from) e (λ p. page-full k (at p)))
+    where
+      go : (x : Answer) → length (onwardFrom x (λ p. pageFrom b k (at p))) ≡ suc k
+          → ((p : Pair) → length (pageFrom b k (at p)) ≡ k → pageFrom b (k + m) (at p) ≡ pageFrom b k (at p) ++ pageFrom b m (lastPoint (at p) (pageFrom b k (at p))))
+          → onwardFrom x (λ p. pageFrom b (k + m) (at p)) ≡ onwardFrom x (λ p. pageFrom b k (at p)) ++ pageFrom b m (lastPoint from (onwardFrom x (λ p. pageFrom b k (at p))))
+      go (found p) h ih = ap (λ (ps : List Pair). p ∷ ps) (ih p (omega (arith, h)))
+      go end h ih = absurd (omega (arith, h))
+      go (refused q l) h ih = absurd (omega (arith, h))
+
+  pub page-short : (k : ℕ) (from : Point) → length (pageFrom b k from) < k → pageFrom b (k + m) from ≡ pageFrom b k from
+  unfolding pageFrom onwardFrom
+  page-short zero from h = absurd (omega arith)
+  page-short (suc k) from h = rw (suc-add k m) (go (nextFrom b from) h (λ p. page-short k (at p)))
+    where
+      go : (x : Answer) → length (onwardFrom x (λ p. pageFrom b k (at p))) < suc k → ((p : Pair) → length (pageFrom b k (at p)) < k → pageFrom b (k + m) (at p) ≡ pageFrom b k (at p))
+          → onwardFrom x (λ p. pageFrom b (k + m) (at p)) ≡ onwardFrom x (λ p. pageFrom b k (at p))
+      go (found p) h ih = ap (λ (ps : List Pair). p ∷ ps) (ih p (omega (arith, h)))
+      go end h ih = refl
+      go (refused q l) h ih = refl
+
+-- A page has no more pairs than were asked for.
+pub page-length : (b : Book) (k : ℕ) (from : Point) → length (pageFrom b k from) ≤ k
+unfolding pageFrom onwardFrom
+page-length b zero from = omega arith
+page-length b (suc k) from = go (nextFrom b from) (λ p. page-length b k (at p))
+  where
+    go : (x : Answer) → ((p : Pair) → length (pageFrom b k (at p)) ≤ k) → length (onwardFrom x (λ p. pageFrom b k (at p))) ≤ suc k
+    go (found p) ih = let h = ih p in omega arith
+    go end ih = omega arith
+    go (refused q l) ih = omega arith
+
+-- A pair that is answered is lawful, and so is the point that a page leads to.
+pub page-lawful : (b : Book) (k : ℕ) (from : Point) → LawfulPoint b from → LawfulPoint b (lastPoint from (pageFrom b k from))
+unfolding pageFrom onwardFrom
+page-lawful b zero from l = l
+page-lawful b (suc k) from l = go (nextFrom b from) (next-is b from l) (λ p. page-lawful b k (at p))
+  where
+    go : (x : Answer) → FirstLater b from x → ((p : Pair) → LawfulPoint b (at p) → LawfulPoint b (lastPoint (at p) (pageFrom b k (at p)))) → LawfulPoint b (lastPoint from (onwardFrom x (λ p. pageFrom b k (at p))))
+    go (found p) f ih = ih p (f .0 .view .lawful)
+    go end f ih = l
+    go (refused q i) f ih = l
+
+-- ---- pairs as numbers
+shift : (a b c : ℕ) (l : List ℕ) (i : ℕ) → pairAt (a ∷ b ∷ c ∷ l) (suc i) ≡ pairAt l i
+unfolding pairAt
+shift a b c l i k =
+    let e : suc i * 3 ≡ suc (suc (suc (i * 3))) = omega arith in
+    let f : suc i * 3 + 1 ≡ suc (suc (suc (i * 3 + 1))) = omega arith in
+    let g : suc i * 3 + 2 ≡ suc (suc (suc (i * 3 + 2))) = omega arith in
+    let at : ℕ → ℕ = λ j. getD (a ∷ b ∷ c ∷ l) j 0 in
+    record { taken = ap at e k; held = ap at f k; denied = ap at g k }
+
+pairs-shift : (a b c : ℕ) (l : List ℕ) (k i : ℕ) → pairsIn (a ∷ b ∷ c ∷ l) (suc i) k ≡ pairsIn l i k
+unfolding pairsIn
+pairs-shift a b c l zero i = refl
+pairs-shift a b c l (suc k) i = rw (shift a b c l i, pairs-shift a b c l k (suc i))
+
+-- The pairs at the front of a slice that holds them.
+pub pairs-front : (k : ℕ) (ps : List Pair) (l : List ℕ) → k ≤ length ps → pairsIn (flat ps ++ l) 0 k ≡ take k ps
+unfolding pairsIn flat pairAt
+pairs-front zero ps l h = refl
+pairs-front (suc k) [] l h = absurd (omega arith)
+pairs-front (suc k) (p ∷ ps) l h = ap (λ (qs : List Pair). p ∷ qs) (pairs-shift (p .taken) (p .held) (p .denied) (flat ps ++ l) k 0 ∙ pairs-front k ps l (omega arith))
+
+pub pairs-length : (l : List ℕ) (k i : ℕ) → length (pairsIn l i k) ≡ k
+unfolding pairsIn
+pairs-length l zero i = refl
+pairs-length l (suc k) i = ap suc (pairs-length l k (suc i))
+
+-- The last of them.
+pub last-point : (k i : ℕ) (from : Point) (l : List ℕ) → lastPoint from (pairsIn l i (suc k)) ≡ at (pairAt l (i + k))
+unfolding pairsIn
+last-point zero i from l = rw (add-zero i) refl
+last-point (suc k) i from l = let e : i + suc k ≡ suc i + k = omega arith in rw e (last-point k (suc i) (at (pairAt l i)) l)
