@@ -2,11 +2,14 @@
 ghost use mathlib.Core.Path.{_≡_};
 ghost use Prim.Native.Nat.{_<_};
 ghost use Rattle.book.specs.Kinds.{sets};
-ghost use Rattle.order.specs.Order.{setAt};
+ghost use Rattle.order.specs.Order.{order, setAt};
 use book::Book;
 
+// All sets of exceptions in their order.
+pub type Table = [u16; Book::SETS];
+
 // The sets with fewer exceptions first, then the smaller number. The rule is `Ordered` in specs/Order.antt, and `order-rule` in proofs/Rule.antt is its proof.
-const ORDER: [u16; Book::SETS] = [
+const ORDER: Table = [
     0,
     1,
     2,
@@ -4105,10 +4108,17 @@ const ORDER: [u16; Book::SETS] = [
     4095,
 ];
 
-// The set at a place of the order, counted from 0.
-pub fn set_at(place: usize) -> u64
-    requires { ⌜ place < sets ⌝ }
+// The table, to be made once and lent from then on: a constant is made anew wherever it is named.
+pub fn table() -> Table
+    ensures { λ r. ⌜ r ≡ order ⌝ }
+{
+    ORDER
+}
+
+// The set at a place of the lent table, counted from 0.
+pub fn set_in(table: &Table, place: usize) -> u64
+    requires { ⌜ (now table ≡ order) × (place < sets) ⌝ }
     ensures { λ r. ⌜ r ≡ setAt place ⌝ }
 {
-    ORDER[place] as u64
+    table[place] as u64
 }

@@ -5,12 +5,13 @@ ghost use Prim.Native.Nat.{_*_, _<_, _≤_};
 ghost use lib.ListN.{length};
 ghost use Rattle.book.specs.Kinds.{sets};
 ghost use Rattle.walk.specs.Marks.{Struck, Marked, Outranked, WithRank};
-ghost use Rattle.order.specs.Order.{setAt};
+ghost use Rattle.order.specs.Order.{order, setAt};
 ghost use Rattle.page.specs.Pages.{Fits};
 ghost use Rattle.walk.specs.Walks.{SetListed, Walked, FirstPage, PageAfter};
 ghost use Rattle.walk.specs.Plans.{withSets, NoView, Wider, MarksRight, Admits};
 use book::Book;
 use masks::Bounds;
+use order::Table;
 use page::Task;
 use probe::Answer;
 use queue::index;
@@ -331,19 +332,20 @@ pub fn list_set(
     Filled { at: r, credit }
 }
 
-// Puts the resolutions with the sets from place `from` on on the page, until it is full.
+// Puts the resolutions with the sets from place `from` on on the page, until it is full. The table is the order of the sets.
 pub fn walk(
     words: &[u64],
     ranks: &[u64],
     index: &Index,
     root: Bounds,
     task: Task,
+    table: &Table,
     from: usize,
     filled: Filled,
     marks: &mut Marks,
     out: &mut [u64],
 ) -> usize
-    requires { ⌜ Fits (now words) (now ranks) (now out) task (filled .at) × (from ≤ sets) ⌝ }
+    requires { ⌜ Fits (now words) (now ranks) (now out) task (filled .at) × (from ≤ sets) × (now table ≡ order) ⌝ }
     ensures { λ r. ⌜ Walked (now (words .entry)) (now (ranks .entry)) root task from (filled .at) (now (marks .entry)) (now (out .entry)) (now (out .exit)) r ⌝ }
 {
     let mut f = filled;
@@ -359,7 +361,7 @@ pub fn walk(
             index,
             root,
             task,
-            order::set_at(j),
+            order::set_in(table, j),
             false,
             f,
             marks,
@@ -370,14 +372,14 @@ pub fn walk(
     f.at
 }
 
-// The place of a set in the order.
-pub fn place_of(t: u64) -> usize
-    requires { ⌜ t < sets ⌝ }
+// The place of a set in the order, which is the table.
+pub fn place_of(table: &Table, t: u64) -> usize
+    requires { ⌜ (t < sets) × (now table ≡ order) ⌝ }
     ensures { λ r. ⌜ (r < sets) × (setAt r ≡ t) ⌝ }
 {
     let mut j: usize = 0;
     while j < Book::SETS - 1 {
-        if order::set_at(j) == t {
+        if order::set_in(table, j) == t {
             return j;
         }
         j += 1;
@@ -405,7 +407,19 @@ pub fn first_page(
         at: 0,
         credit: CREDIT,
     };
-    walk(words, ranks, index, root, task, 0, filled, &mut marks, out)
+    let table = order::table();
+    walk(
+        words,
+        ranks,
+        index,
+        root,
+        task,
+        &table,
+        0,
+        filled,
+        &mut marks,
+        out,
+    )
 }
 
 // The page of the first resolutions later than the task's point.
@@ -426,7 +440,8 @@ pub fn page_after(
         at: 0,
         credit: CREDIT,
     };
-    let place = place_of(t);
+    let table = order::table();
+    let place = place_of(&table, t);
     let f = list_set(
         words,
         ranks,
@@ -445,6 +460,7 @@ pub fn page_after(
         index,
         root,
         task,
+        &table,
         place + 1,
         f,
         &mut marks,

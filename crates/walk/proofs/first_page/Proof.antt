@@ -4,6 +4,9 @@ use borrow.Author.Needs.{needs}
 use Rattle.walk.proofs.first_page.Statement.{statement}
 use Rattle.walk.proofs.first_page.Tie as tie
 
+table-requires : tie.Need-table-requires
+table-requires c κs = search needs
+
 walk-requires : tie.Need-walk-requires
 walk-requires c κs = search needs
 
@@ -14,4 +17,4 @@ returns : tie.Need-returns
 returns c = first-walked _ _ _ _ sets _ _ _ (c .before .before .walk .ensures)
 
 pub first-page-spec : {M : Type 1} → statement M
-first-page-spec = tie.close (tie.spec walk-requires same-length returns)
+first-page-spec = tie.close (tie.spec table-requires walk-requires same-length returns)

@@ -10,10 +10,10 @@ use Rattle.walk.proofs.place_of.Statement.{statement}
 use Rattle.walk.proofs.place_of.Tie as tie
 
 abbrev Inv-loop : tie.InvT-loop
-Inv-loop t j₀ j = (suc j ≤ sets) × ((i : ℕ) → i < j → setAt i ≡ t → ⊥)
+Inv-loop table t j₀ j = (suc j ≤ sets) × ((i : ℕ) → i < j → setAt i ≡ t → ⊥)
 
 abbrev μ-loop : tie.MeasureT-loop
-μ-loop t j₀ j = sets - j
+μ-loop table t j₀ j = sets - j
 
 loop-holds : tie.Need-loop-holds Inv-loop μ-loop
 loop-holds c = (omega arith, λ i h. absurd (omega arith))
@@ -21,11 +21,11 @@ loop-holds c = (omega arith, λ i h. absurd (omega arith))
 sub-loop : tie.Need-sub-loop Inv-loop μ-loop
 sub-loop c = omega arith
 
-set-at-requires : tie.Need-set-at-requires Inv-loop μ-loop
-set-at-requires c κs = omega arith
+set-in-requires : tie.Need-set-in-requires Inv-loop μ-loop
+set-in-requires c κs = (search needs, omega arith)
 
 returns : tie.Need-returns Inv-loop μ-loop
-returns c = (omega arith, sym (c .before .set-at .ensures) ∙ search needs)
+returns c = (omega arith, sym (c .before .set-in .ensures) ∙ search needs)
 
 add-j : tie.Need-add-j Inv-loop μ-loop
 add-j c = search needs
@@ -34,10 +34,10 @@ loop-less : tie.Need-loop-less Inv-loop μ-loop
 loop-less c = omega arith
 
 loop-again : tie.Need-loop-again Inv-loop μ-loop
-loop-again c = (omega arith, below-more (λ i. setAt i ≡ _ → ⊥) _ (c .before .before .before .loop .inv .1) (λ e. (c .if1 .left) (c .before .set-at .ensures ∙ e)))
+loop-again c = (omega arith, below-more (λ i. setAt i ≡ _ → ⊥) _ (c .before .before .before .loop .inv .1) (λ e. (c .if1 .left) (c .before .set-in .ensures ∙ e)))
 
 returns-2 : tie.Need-returns-2 Inv-loop μ-loop
-returns-2 c = last-place _ _ (c .before .before .pre) (omega arith) (c .before .loop .inv .1)
+returns-2 c = last-place _ _ (c .before .before .pre .0) (omega arith) (c .before .loop .inv .1)
 
 pub place-of-spec : {M : Type 1} → statement M
 place-of-spec =
@@ -47,7 +47,7 @@ place-of-spec =
     μ-loop
     loop-holds
     sub-loop
-    set-at-requires
+    set-in-requires
     returns
     add-j
     loop-less

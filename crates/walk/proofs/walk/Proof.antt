@@ -10,10 +10,10 @@ use Rattle.walk.proofs.walk.Statement.{statement}
 use Rattle.walk.proofs.walk.Tie as tie
 
 abbrev Inv-loop : tie.InvT-loop
-Inv-loop words ranks index root task from marks₀ out₀ f₀ j₀ marks out f j = Going words ranks root task from (f₀ .at) marks₀ out₀ j (f .at) marks out × (length out ≡ length out₀)
+Inv-loop words ranks index root task table from marks₀ out₀ f₀ j₀ marks out f j = Going words ranks root task from (f₀ .at) marks₀ out₀ j (f .at) marks out × (length out ≡ length out₀)
 
 abbrev μ-loop : tie.MeasureT-loop
-μ-loop words ranks index root task from marks₀ out₀ f₀ j₀ marks out f j = sets - j
+μ-loop words ranks index root task table from marks₀ out₀ f₀ j₀ marks out f j = sets - j
 
 loop-holds : tie.Need-loop-holds Inv-loop μ-loop
 loop-holds c = (going-first _ _ _ _ _ _ _ _ (c .before .before .before .pre .0) (c .before .before .before .pre .1), refl)
@@ -24,11 +24,11 @@ same-length c = c .before .before .before .loop .inv .1
 returns : tie.Need-returns Inv-loop μ-loop
 returns c = walked-full _ _ _ _ _ _ _ _ _ _ _ _ (c .before .before .before .loop .inv .0) (search needs)
 
-set-at-requires : tie.Need-set-at-requires Inv-loop μ-loop
-set-at-requires c κs = omega arith
+set-in-requires : tie.Need-set-in-requires Inv-loop μ-loop
+set-in-requires c κs = (search needs, omega arith)
 
 list-set-requires : tie.Need-list-set-requires Inv-loop μ-loop
-list-set-requires c κs = (c .before .before .before .before .before .before .loop .inv .0 .fits, rw (c .before .before .set-at .ensures) (order-rule .below _ (omega arith)))
+list-set-requires c κs = (c .before .before .before .before .before .before .loop .inv .0 .fits, rw (c .before .before .set-in .ensures) (order-rule .below _ (omega arith)))
 
 add-j : tie.Need-add-j Inv-loop μ-loop
 add-j c = search needs
@@ -37,7 +37,7 @@ loop-less : tie.Need-loop-less Inv-loop μ-loop
 loop-less c = omega arith
 
 loop-again : tie.Need-loop-again Inv-loop μ-loop
-loop-again c = (going-next _ _ _ _ _ _ _ _ _ _ _ _ (c .before .before .before .before .before .before .before .before .before .loop .inv .0) (omega arith) _ (c .before .before .before .before .before .set-at .ensures) _ _ _ (c .before .before .list-set .ensures) (c .before .before .list-set .kept .1 .1 .1 .1 .1 .1 .1 .1 .1 .0), (c .before .before .list-set .kept .1 .1 .1 .1 .1 .1 .1 .1 .1 .0) ∙ c .before .before .before .before .before .before .before .before .before .loop .inv .1)
+loop-again c = (going-next _ _ _ _ _ _ _ _ _ _ _ _ (c .before .before .before .before .before .before .before .before .before .loop .inv .0) (omega arith) _ (c .before .before .before .before .before .set-in .ensures) _ _ _ (c .before .before .list-set .ensures) (c .before .before .list-set .kept .1 .1 .1 .1 .1 .1 .1 .1 .1 .0), (c .before .before .list-set .kept .1 .1 .1 .1 .1 .1 .1 .1 .1 .0) ∙ c .before .before .before .before .before .before .before .before .before .loop .inv .1)
 
 same-length-2 : tie.Need-same-length-2 Inv-loop μ-loop
 same-length-2 c = c .before .loop .inv .1
@@ -54,7 +54,7 @@ walk-spec =
     loop-holds
     same-length
     returns
-    set-at-requires
+    set-in-requires
     list-set-requires
     add-j
     loop-less
