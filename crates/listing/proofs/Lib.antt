@@ -4,3 +4,4 @@ pub mod Stores
 pub mod Listed
 pub mod Promised
 pub mod Whole
+pub mod Reached

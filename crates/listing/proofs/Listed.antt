@@ -7,7 +7,7 @@ use native.Mathlib.Nat.{le-trans, mul-le-mul-right, mul-le-mul-left}
 use native.Mathlib.Omega.{arith}
 use lib.IntN.{ℤ}
 use lib.ListN.{length, take, drop, length-append}
-use lib.Seq.{sets, take-all}
+use lib.Seq.{sets, take-all, take-take, length-take-le}
 use Rattle.sets.specs.declared.Pair.{Pair}
 use Rattle.sets.specs.Pairs.{flat}
 use Rattle.book.specs.declared.Shape.{Shape}
@@ -20,25 +20,36 @@ use Rattle.fields.proofs.Puts.{sets-append}
 use Rattle.answers.specs.Ways.{linesOf, listed, printed, mostLines}
 use Rattle.line.specs.Parts.{lineBytes}
 use Rattle.engine.specs.Loaded.{Loaded, PageIs}
-use Rattle.listing.specs.declared.Opened.{Opened}
-use Rattle.listing.specs.Parts.{pairAt, pairsIn, openingLines, leftLines, Opens, Rests, Prepared, Ready}
-use Rattle.listing.proofs.Pages.{lastPoint, page-full, page-short, page-lawful, page-length, pairs-front, pairs-length, last-point}
+use Rattle.listing.specs.Parts.{pairsIn}
+use Rattle.listing.proofs.Pages.{lastPoint, page-full, page-same, page-take, page-length, pairs-front, pairs-length}
 use Rattle.listing.proofs.Printed.{lines-length, printed-past, printed-ended, printed-cut, front-is}
 
 -- ---- what is listed, by pages
-module _ (b : Book) (k m : ℕ) where
-  pub front-listed : (p : Pair) → length (pageFrom b k start) ≡ k → lastPoint start (pageFrom b k start) ≡ at p
-      → linesOf (b .statements) (pageFrom b k start) ++ listed b m (at p) ≡ listed b (k + m) start
+module _ (b : Book) (k m : ℕ) (from : Point) where
+  pub front-listed : (p : Pair) → length (pageFrom b k from) ≡ k → lastPoint from (pageFrom b k from) ≡ at p → k ≤ m
+      → linesOf (b .statements) (pageFrom b k from) ++ listed b (m - k) (at p) ≡ listed b m from
   unfolding listed
-  front-listed p e l =
-      let a : suc (k + m) ≡ k + suc m = omega arith in
-      rw (a, page-full b (suc m) k start e, printed-past k m (b .statements) (pageFrom b k start) (pageFrom b (suc m) (lastPoint start (pageFrom b k start))) e, l) refl
+  front-listed p e l h =
+      let a : suc m ≡ k + suc (m - k) = omega arith in
+      let c : m ≡ k + (m - k) = omega arith in
+      sym (ap (λ j. printed m (b .statements) (pageFrom b j from)) a
+      ∙ ap (λ (ps : List Pair). printed m (b .statements) ps) (page-full b (suc (m - k)) k from e)
+      ∙ ap (λ j. printed j (b .statements) (pageFrom b k from ++ pageFrom b (suc (m - k)) (lastPoint from (pageFrom b k from)))) c
+      ∙ printed-past k (m - k) (b .statements) (pageFrom b k from) (pageFrom b (suc (m - k)) (lastPoint from (pageFrom b k from))) e
+      ∙ ap (λ x. linesOf (b .statements) (pageFrom b k from) ++ printed (m - k) (b .statements) (pageFrom b (suc (m - k)) x)) l)
 
-  pub whole-listed : length (pageFrom b k start) < k → linesOf (b .statements) (pageFrom b k start) ++ (69 ∷ 10 ∷ []) ≡ listed b (k + m) start
+  pub ended-listed : length (pageFrom b k from) < k → length (pageFrom b k from) ≤ m → linesOf (b .statements) (pageFrom b k from) ++ (69 ∷ 10 ∷ []) ≡ listed b m from
   unfolding listed
-  whole-listed h =
-      let a : suc (k + m) ≡ k + suc m = omega arith in
-      rw (a, page-short b (suc m) k start h, printed-ended (k + m) (b .statements) (pageFrom b k start) (omega arith)) refl
+  ended-listed h g = rw (page-same b k (suc m) from h (omega arith)) (sym (printed-ended m (b .statements) (pageFrom b k from) g))
+
+  pub cut-listed : m < length (pageFrom b k from) → linesOf (b .statements) (take m (pageFrom b k from)) ++ (77 ∷ 10 ∷ []) ≡ listed b m from
+  unfolding listed
+  cut-listed h =
+      let g = page-length b k from in
+      let t : pageFrom b (suc m) from ≡ take (suc m) (pageFrom b k from) = page-take b (suc m) k from (omega arith) in
+      let n : length (take (suc m) (pageFrom b k from)) ≡ suc m = length-take-le (suc m) (pageFrom b k from) h in
+      rw t (ap (λ (ps : List Pair). linesOf (b .statements) ps ++ (77 ∷ 10 ∷ [])) (sym (take-take m (suc m) (pageFrom b k from) (omega arith)))
+      ∙ sym (printed-cut m (b .statements) (take (suc m) (pageFrom b k from)) (omega (arith, n))))
 
 -- ---- buffers
 pub at-most : (k m n : ℕ) → k ≤ m → n ≤ 48 → k * lineBytes n ≤ m * 102
@@ -54,9 +65,20 @@ shown-closed l l₁ l₂ xs i x e f g h =
     let s : l₂ ≡ sets l 0 (xs ++ (x ∷ 10 ∷ [])) = g ∙ ap (λ (y : List ℕ). sets y i (x ∷ 10 ∷ [])) e ∙ sym (rw z at (sets-append xs (x ∷ 10 ∷ []) l 0)) in
     shown l l₂ (xs ++ (x ∷ 10 ∷ [])) (i + 2) s (omega (arith, f, n)) (rw n h)
 
+-- The lines of k pairs of a page, and a closing line after them.
+module _ (n : ℕ) (ns : List ℕ) (k : ℕ) (out out₁ : List ℕ) (i : ℕ) (e : out₁ ≡ sets out 0 (linesOf n (pairsIn ns 0 k))) (ei : i ≡ k * lineBytes n) where
+  place-is : i ≡ length (linesOf n (pairsIn ns 0 k))
+  place-is = ei ∙ sym (lines-length n (pairsIn ns 0 k) ∙ ap (λ m. m * lineBytes n) (pairs-length ns k 0))
+
+  pub lines-shown : i ≤ length out → take i out₁ ≡ linesOf n (pairsIn ns 0 k)
+  lines-shown h = shown out out₁ (linesOf n (pairsIn ns 0 k)) i e place-is (rw place-is at h)
+
+  pub closed-shown : (x : ℕ) (out₂ : List ℕ) → out₂ ≡ sets out₁ i (x ∷ 10 ∷ []) → i + 2 ≤ length out → take (i + 2) out₂ ≡ linesOf n (pairsIn ns 0 k) ++ (x ∷ 10 ∷ [])
+  closed-shown x out₂ g h = shown-closed out out₁ out₂ (linesOf n (pairsIn ns 0 k)) i x e place-is g (let p = place-is in omega arith)
+
 -- ---- a page in a slice
 module _ (s : Shape) (rows : List ℤ) where
-  statements-same : bookOf s rows .statements ≡ s .statements
+  pub statements-same : bookOf s rows .statements ≡ s .statements
   unfolding bookOf
   statements-same = refl
 
@@ -67,22 +89,9 @@ module _ (s : Shape) (ws ranks : List ℕ) (from : Point) (room : ℕ) (o o′ :
   pub page-few : k ≤ room
   page-few = rw page-count (page-length (bookOf s rows) room from)
 
-  page-pairs : (j : ℕ) → j ≤ k → pairsIn o′ 0 j ≡ take j (pageFrom (bookOf s rows) room from)
+  pub page-pairs : (j : ℕ) → j ≤ k → pairsIn o′ 0 j ≡ take j (pageFrom (bookOf s rows) room from)
   unfolding over
   page-pairs j h = rw (rw eo at (f .filled rows d l)) (pairs-front j (pageFrom (bookOf s rows) room from) _ (rw page-count at h))
 
   pub page-all : pairsIn o′ 0 k ≡ pageFrom (bookOf s rows) room from
   page-all = page-pairs k (omega arith) ∙ take-all k (pageFrom (bookOf s rows) room from) (let e = page-count in omega arith)
-
-  module _ (out out₁ : List ℕ) (j i : ℕ) (hj : j ≤ k) (e : out₁ ≡ sets out 0 (linesOf (s .statements) (pairsIn o′ 0 j))) (ei : i ≡ j * lineBytes (s .statements)) where
-    lines-are : linesOf (s .statements) (pairsIn o′ 0 j) ≡ linesOf (bookOf s rows .statements) (take j (pageFrom (bookOf s rows) room from))
-    lines-are = rw (page-pairs j hj, statements-same s rows) refl
-
-    place-is : i ≡ length (linesOf (s .statements) (pairsIn o′ 0 j))
-    place-is = ei ∙ sym (lines-length (s .statements) (pairsIn o′ 0 j) ∙ ap (λ m. m * lineBytes (s .statements)) (pairs-length o′ j 0))
-
-    pub lines-shown : i ≤ length out → take i out₁ ≡ linesOf (bookOf s rows .statements) (take j (pageFrom (bookOf s rows) room from))
-    lines-shown h = shown out out₁ (linesOf (s .statements) (pairsIn o′ 0 j)) i e place-is (rw place-is at h) ∙ lines-are
-
-    pub closed-shown : (x : ℕ) (out₂ : List ℕ) → out₂ ≡ sets out₁ i (x ∷ 10 ∷ []) → i + 2 ≤ length out → take (i + 2) out₂ ≡ linesOf (bookOf s rows .statements) (take j (pageFrom (bookOf s rows) room from)) ++ (x ∷ 10 ∷ [])
-    closed-shown x out₂ g h = shown-closed out out₁ out₂ (linesOf (s .statements) (pairsIn o′ 0 j)) i x e place-is g (let p = place-is in omega arith) ∙ ap (λ (l : List ℕ). l ++ (x ∷ 10 ∷ [])) lines-are

@@ -32,16 +32,31 @@ module _ (b : Book) (m : ℕ) where
       go end h ih = absurd (omega (arith, h))
       go (refused q l) h ih = absurd (omega (arith, h))
 
-  pub page-short : (k : ℕ) (from : Point) → length (pageFrom b k from) < k → pageFrom b (k + m) from ≡ pageFrom b k from
-  unfolding pageFrom onwardFrom
-  page-short zero from h = absurd (omega arith)
-  page-short (suc k) from h = rw (suc-add k m) (go (nextFrom b from) h (λ p. page-short k (at p)))
-    where
-      go : (x : Answer) → length (onwardFrom x (λ p. pageFrom b k (at p))) < suc k → ((p : Pair) → length (pageFrom b k (at p)) < k → pageFrom b (k + m) (at p) ≡ pageFrom b k (at p))
-          → onwardFrom x (λ p. pageFrom b (k + m) (at p)) ≡ onwardFrom x (λ p. pageFrom b k (at p))
-      go (found p) h ih = ap (λ (ps : List Pair). p ∷ ps) (ih p (omega (arith, h)))
-      go end h ih = refl
-      go (refused q l) h ih = refl
+-- A page that is not full is all there is, whatever more is asked for.
+pub page-same : (b : Book) (k j : ℕ) (from : Point) → length (pageFrom b k from) < k → length (pageFrom b k from) < j → pageFrom b j from ≡ pageFrom b k from
+unfolding pageFrom onwardFrom
+page-same b zero j from h g = absurd (omega arith)
+page-same b (suc k) zero from h g = absurd (omega arith)
+page-same b (suc k) (suc j) from h g = go (nextFrom b from) h g (λ p. page-same b k j (at p))
+  where
+    go : (x : Answer) → length (onwardFrom x (λ p. pageFrom b k (at p))) < suc k → length (onwardFrom x (λ p. pageFrom b k (at p))) < suc j
+        → ((p : Pair) → length (pageFrom b k (at p)) < k → length (pageFrom b k (at p)) < j → pageFrom b j (at p) ≡ pageFrom b k (at p))
+        → onwardFrom x (λ p. pageFrom b j (at p)) ≡ onwardFrom x (λ p. pageFrom b k (at p))
+    go (found p) h g ih = ap (λ (ps : List Pair). p ∷ ps) (ih p (omega (arith, h)) (omega (arith, g)))
+    go end h g ih = refl
+    go (refused q l) h g ih = refl
+
+-- A smaller page is the front of a larger one.
+pub page-take : (b : Book) (j k : ℕ) (from : Point) → j ≤ k → pageFrom b j from ≡ take j (pageFrom b k from)
+unfolding pageFrom onwardFrom
+page-take b zero k from h = refl
+page-take b (suc j) zero from h = absurd (omega arith)
+page-take b (suc j) (suc k) from h = go (nextFrom b from) (λ p. page-take b j k (at p) (omega arith))
+  where
+    go : (x : Answer) → ((p : Pair) → pageFrom b j (at p) ≡ take j (pageFrom b k (at p))) → onwardFrom x (λ p. pageFrom b j (at p)) ≡ take (suc j) (onwardFrom x (λ p. pageFrom b k (at p)))
+    go (found p) ih = ap (λ (ps : List Pair). p ∷ ps) (ih p)
+    go end ih = refl
+    go (refused q l) ih = refl
 
 -- A page has no more pairs than were asked for.
 pub page-length : (b : Book) (k : ℕ) (from : Point) → length (pageFrom b k from) ≤ k

@@ -3,6 +3,7 @@ use Prim.Native.Nat.{ℕ, zero, suc, _+_, _-_, _*_, _/_, _^_, _<_, _≤_}
 use mathlib.Core.Path.{_≡_, refl, sym, ap, _∙_}
 use mathlib.Core.Bool.{Bool, true, false}
 use mathlib.Core.List.{List, [], _∷_, _++_}
+use mathlib.Core.Logic.{_⊎_, inl, inr, ⊎-elim}
 use native.Mathlib.Nat.{lt-of-lt-of-le}
 use native.Mathlib.Omega.{arith}
 use lib.IntN.{ℤ}
@@ -11,6 +12,7 @@ use lib.Pow.{pow-mono}
 use lib.Seq.{sets, take-all}
 use Rattle.logic.proofs.Decide.{clash}
 use Rattle.sets.specs.declared.Pair.{Pair}
+use Rattle.sets.proofs.Digits.{lt-or-le}
 use Rattle.book.specs.declared.Shape.{Shape}
 use Rattle.book.specs.Limits as limit
 use Rattle.book.specs.Kinds.{sets as setsOf, longest, most, bytes, kinds}
@@ -20,7 +22,7 @@ use Rattle.text.specs.Reading.{readText}
 use Rattle.text.specs.Reading.Outcome.{accepted, refused}
 use Rattle.meaning.specs.Books.{Book, Lawful}
 use Rattle.meaning.specs.Meant.{bookOf}
-use Rattle.meaning.specs.Order.{start, at, LawfulPoint}
+use Rattle.meaning.specs.Order.{Point, start, at, LawfulPoint}
 use Rattle.meaning.specs.Twins.Next.{pageFrom}
 use Rattle.bridge.proofs.Rows.{exceptions-count}
 use Rattle.answers.specs.Operations.{onText}
@@ -28,99 +30,105 @@ use Rattle.answers.specs.Ways.{linesOf, listed, mostLines, failed, waysOf}
 use Rattle.answers.proofs.Refused.{Known, text-known}
 use Rattle.line.specs.Parts.{lineBytes}
 use Rattle.engine.specs.Loaded.{Loaded, PageIs}
-use Rattle.listing.specs.declared.Opened.{Opened}
+use Rattle.listing.specs.declared.Part.{Part}
 use Rattle.listing.specs.declared.Begun.{Begun}
-use Rattle.listing.specs.Parts.{pairAt, pairsIn, openingLines, leftLines, Opens, Rests, Prepared, Ready, Begins, GoesOn}
+use Rattle.listing.specs.Parts.{pairAt, pairsIn, partLines, Closes, Fills, Prints, Lists, Prepared, Ready, Begins, GoesOn}
 use Rattle.listing.proofs.Pages.{lastPoint, page-lawful, last-point}
-use Rattle.listing.proofs.Printed.{printed-ended, printed-cut, front-is}
-use Rattle.listing.proofs.Listed.{front-listed, whole-listed, at-most, page-count, page-few, page-all, lines-shown, closed-shown}
+use Rattle.listing.proofs.Printed.{front-is}
+use Rattle.listing.proofs.Listed.{front-listed, ended-listed, cut-listed, at-most, statements-same, page-count, page-few, page-pairs, page-all, lines-shown, closed-shown}
 
--- ---- the opening
-module _ (s : Shape) (ws ranks o o′ : List ℕ) (k : ℕ) (eo : length o ≡ 192) (f : PageIs s ws ranks start o o′ k) where
-  sixty-four : length o / 3 ≡ 64
-  sixty-four = rw eo refl
+-- ---- a page in lines
+module _ (n : ℕ) (ns : List ℕ) (k : ℕ) (out out₁ : List ℕ) (i : ℕ) (e : out₁ ≡ sets out 0 (linesOf n (pairsIn ns 0 k))) (ei : i ≡ k * lineBytes n)
+    (hn : n ≤ 48) (hk : k ≤ 512) (ho : length out ≡ 52226) where
+  room : i ≤ 52224
+  room = rw ei (at-most k 512 n hk hn)
 
-  pub opening-few : Prepared s ws ranks → k ≤ 64
-  opening-few d = page-few s ws ranks start 64 o o′ k sixty-four f (d .rows) (d .loaded) tt
+  pub closes : (x : ℕ) (out₂ : List ℕ) (p : Pair) → out₂ ≡ sets out₁ i (x ∷ 10 ∷ []) → length out₂ ≡ length out → Closes n ns k x out₂ (record { bytes = i + 2; full = false; last = p })
+  closes x out₂ p g h = record {
+    fits = let r = room in omega arith;
+    not-full = refl;
+    is = closed-shown n ns k out out₁ i e ei x out₂ g (let r = room in omega arith);
+  }
 
-  pub opening-room : Prepared s ws ranks → k * lineBytes (s .statements) ≤ 6528
-  opening-room d = at-most k 64 (s .statements) (opening-few d) (d .loaded .statements)
+  pub fills : (p : Pair) → length out₁ ≡ length out → p ≡ pairAt ns 511 → Fills n ns k out₁ (record { bytes = i; full = true; last = p })
+  fills p h ep = record {
+    fits = let r = room in omega arith;
+    is-full = refl;
+    last = ep;
+    is = lines-shown n ns k out out₁ i e ei (let r = room in omega arith);
+  }
 
-  module _ (out out₁ : List ℕ) (i : ℕ) (n : length out ≡ 6530) (e : out₁ ≡ sets out 0 (linesOf (s .statements) (pairsIn o′ 0 k))) (ei : i ≡ k * lineBytes (s .statements)) (d : Prepared s ws ranks) where
-    room : i ≤ 6528
-    room = rw ei (opening-room d)
+module _ (n : ℕ) (ns : List ℕ) (k m : ℕ) (o : List ℕ) (r : Part) where
+  pub prints-ended : k < 512 → k ≤ m → Closes n ns k 69 o r → Prints n ns k m o r
+  prints-ended h g c = record { ended = λ _ _. c; cut = λ a _. absurd (omega arith); filled = λ a _. absurd (omega arith) }
 
-    pub opens-full : length out₁ ≡ length out → k ≡ 64 → (p : Pair) → p ≡ pairAt o′ 63 → Opens s ws ranks out₁ (record { bytes = i; full = true; last = p })
-    opens-full n₁ ek p ep = record {
-      fits = let h = room in omega arith;
-      whole = λ rows l c. absurd (clash (sym c));
-      lawful = λ rows l c. let h = page-lawful (bookOf s rows) 64 start tt in rw (leads rows l) at h;
-      front = λ rows l c. rw (shows rows l) (front-listed (bookOf s rows) 64 9935 p (sym (page-count s ws ranks start 64 o o′ k sixty-four f rows l tt) ∙ ek) (leads rows l));
+  pub prints-cut : m < k → m < 512 → Closes n ns m 77 o r → Prints n ns k m o r
+  prints-cut h g c = record { ended = λ _ d. absurd (omega arith); cut = λ _ _. c; filled = λ _ d. absurd (omega arith) }
+
+  pub prints-filled : 512 ≤ k → 512 ≤ m → Fills n ns 512 o r → Prints n ns k m o r
+  prints-filled h g f = record { ended = λ a _. absurd (omega arith); cut = λ _ d. absurd (omega arith); filled = λ e _. rw e f }
+
+  -- Which of the three a page is.
+  pub three-ways : k ≤ 512 → (k < 512 × k ≤ m) ⊎ ((m < k × m < 512) ⊎ (k ≡ 512 × 512 ≤ m))
+  three-ways h =
+      ⊎-elim (λ a. ⊎-elim (λ c. inl (c, omega arith)) (λ c. inr (inr (omega arith, omega arith))) (lt-or-le k 512))
+      (λ a. ⊎-elim (λ c. inr (inl (omega arith, c))) (λ c. inr (inr (omega arith, c))) (lt-or-le m 512)) (lt-or-le k (suc m))
+
+-- ---- a part of a book
+module _ (s : Shape) (ws ranks : List ℕ) (from : Point) (m : ℕ) (o o′ : List ℕ) (k : ℕ) (eo : length o ≡ 1536) (f : PageIs s ws ranks from o o′ k) where
+  room-is : length o / 3 ≡ 512
+  room-is = rw eo refl
+
+  pub part-few : (rows : List ℤ) → Loaded s rows ws ranks → LawfulPoint (bookOf s rows) from → k ≤ 512
+  part-few rows d l = page-few s ws ranks from 512 o o′ k room-is f rows d l
+
+  module _ (out : List ℕ) (r : Part) (p : Prints (s .statements) o′ k m out r) (few : k ≤ 512) where
+    module _ (rows : List ℤ) (d : Loaded s rows ws ranks) (l : LawfulPoint (bookOf s rows) from) where
+      count : k ≡ length (pageFrom (bookOf s rows) 512 from)
+      count = page-count s ws ranks from 512 o o′ k room-is f rows d l
+
+      pairs-all : linesOf (s .statements) (pairsIn o′ 0 k) ≡ linesOf (bookOf s rows .statements) (pageFrom (bookOf s rows) 512 from)
+      pairs-all = rw (page-all s ws ranks from 512 o o′ k room-is f rows d l, statements-same s rows) refl
+
+    ended : k < 512 → k ≤ m → Lists s ws ranks from m out r
+    ended h g = let c = p .ended h g in record {
+      fits = c .fits;
+      fewer = λ t. absurd (clash (sym (c .not-full) ∙ t));
+      whole = λ rows d l t. c .is ∙ ap (λ (x : List ℕ). x ++ (69 ∷ 10 ∷ [])) (pairs-all rows d l) ∙ ended-listed (bookOf s rows) 512 m from (let e = count rows d l in omega arith) (let e = count rows d l in omega arith);
+      lawful = λ rows d l t. absurd (clash (sym (c .not-full) ∙ t));
+      front = λ rows d l t. absurd (clash (sym (c .not-full) ∙ t));
+    }
+
+    cut : m < k → m < 512 → Lists s ws ranks from m out r
+    cut h g = let c = p .cut h g in record {
+      fits = c .fits;
+      fewer = λ t. absurd (clash (sym (c .not-full) ∙ t));
+      whole = λ rows d l t.
+          let q : linesOf (s .statements) (pairsIn o′ 0 m) ≡ linesOf (bookOf s rows .statements) (take m (pageFrom (bookOf s rows) 512 from)) = rw (page-pairs s ws ranks from 512 o o′ k room-is f rows d l m (omega arith), statements-same s rows) refl in
+          c .is ∙ ap (λ (x : List ℕ). x ++ (77 ∷ 10 ∷ [])) q ∙ cut-listed (bookOf s rows) 512 m from (let e = count rows d l in omega arith);
+      lawful = λ rows d l t. absurd (clash (sym (c .not-full) ∙ t));
+      front = λ rows d l t. absurd (clash (sym (c .not-full) ∙ t));
+    }
+
+    filled : k ≡ 512 → 512 ≤ m → Lists s ws ranks from m out r
+    filled h g = let c = p .filled h g in record {
+      fits = c .fits;
+      fewer = λ t. g;
+      whole = λ rows d l t. absurd (clash (sym t ∙ c .is-full));
+      lawful = λ rows d l t. rw (leads rows d l) at (page-lawful (bookOf s rows) 512 from l);
+      front = λ rows d l t. rw (c .is ∙ pairs-all rows d l) (front-listed (bookOf s rows) 512 m from (r .last) (sym (count rows d l) ∙ h) (leads rows d l) g);
     }
       where
-        leads : (rows : List ℤ) → Loaded s rows ws ranks → lastPoint start (pageFrom (bookOf s rows) 64 start) ≡ at p
-        leads rows l = ap (lastPoint start) (sym (rw ek at (page-all s ws ranks start 64 o o′ k sixty-four f rows l tt))) ∙ last-point 63 0 start o′ ∙ ap at (sym ep)
+        leads : (rows : List ℤ) → Loaded s rows ws ranks → LawfulPoint (bookOf s rows) from → lastPoint from (pageFrom (bookOf s rows) 512 from) ≡ at (r .last)
+        leads rows d l = ap (lastPoint from) (sym (rw h at (page-all s ws ranks from 512 o o′ k room-is f rows d l))) ∙ last-point 511 0 from o′ ∙ ap at (sym (p .filled h g .last))
 
-        shows : (rows : List ℤ) → Loaded s rows ws ranks → take i out₁ ≡ linesOf (bookOf s rows .statements) (pageFrom (bookOf s rows) 64 start)
-        shows rows l =
-            lines-shown s ws ranks start 64 o o′ k sixty-four f rows l tt out out₁ k i (omega arith) e ei (let h = room in omega arith)
-            ∙ ap (linesOf (bookOf s rows .statements)) (take-all k (pageFrom (bookOf s rows) 64 start) (let c = page-count s ws ranks start 64 o o′ k sixty-four f rows l tt in omega arith))
+    pub lists : Lists s ws ranks from m out r
+    lists = ⊎-elim (λ a. ended (a .0) (a .1)) (λ a. ⊎-elim (λ c. cut (c .0) (c .1)) (λ c. filled (c .0) (c .1)) a) (three-ways (s .statements) o′ k m out r few)
 
-    pub opens-ended : (out₂ : List ℕ) (p : Pair) → out₂ ≡ sets out₁ i (69 ∷ 10 ∷ []) → length out₂ ≡ length out → (k ≡ 64 → ⊥) → Opens s ws ranks out₂ (record { bytes = i + 2; full = false; last = p })
-    opens-ended out₂ p g n₂ ne = record {
-      fits = let h = room in omega arith;
-      whole = λ rows l c. shows rows l ∙ whole-listed (bookOf s rows) 64 9935 (short rows l);
-      lawful = λ rows l c. absurd (clash c);
-      front = λ rows l c. absurd (clash c);
-    }
-      where
-        short : (rows : List ℤ) → Loaded s rows ws ranks → length (pageFrom (bookOf s rows) 64 start) < 64
-        short rows l = let c = page-count s ws ranks start 64 o o′ k sixty-four f rows l tt in let h = opening-few d in omega arith
-
-        shows : (rows : List ℤ) → Loaded s rows ws ranks → take (i + 2) out₂ ≡ linesOf (bookOf s rows .statements) (pageFrom (bookOf s rows) 64 start) ++ (69 ∷ 10 ∷ [])
-        shows rows l =
-            closed-shown s ws ranks start 64 o o′ k sixty-four f rows l tt out out₁ k i (omega arith) e ei 69 out₂ g (let h = room in omega arith)
-            ∙ ap (λ (x : List Pair). linesOf (bookOf s rows .statements) x ++ (69 ∷ 10 ∷ [])) (take-all k (pageFrom (bookOf s rows) 64 start) (let c = page-count s ws ranks start 64 o o′ k sixty-four f rows l tt in omega arith))
-
--- ---- what is left
 pub few-taken : (s : Shape) (ws ranks : List ℕ) (p : Pair) → Ready s ws ranks p → p .taken < setsOf
 few-taken s ws ranks p d =
     let h : length (bookOf s (d .rows) .exceptions) ≤ limit.exceptions = rw (exceptions-count s (d .rows)) (d .loaded .exceptions) in
     lt-of-lt-of-le (d .lawful .exceptions) (pow-mono h)
-
-module _ (s : Shape) (ws ranks : List ℕ) (p : Pair) (o o′ : List ℕ) (k : ℕ) (eo : length o ≡ 29808) (f : PageIs s ws ranks (at p) o o′ k) where
-  all-left : length o / 3 ≡ 9936
-  all-left = rw eo refl
-
-  pub left-few : Ready s ws ranks p → k ≤ 9936
-  left-few d = page-few s ws ranks (at p) 9936 o o′ k all-left f (d .rows) (d .loaded) (d .lawful)
-
-  module _ (out out₁ out₂ : List ℕ) (j i : ℕ) (n : length out ≡ 1013372) (n₂ : length out₂ ≡ length out) (few : j ≤ 9935)
-      (e : out₁ ≡ sets out 0 (linesOf (s .statements) (pairsIn o′ 0 j))) (ei : i ≡ j * lineBytes (s .statements)) (d : Ready s ws ranks p) where
-    left-room : i ≤ 1013370
-    left-room = rw ei (at-most j 9935 (s .statements) few (d .loaded .statements))
-
-    pub rests-cut : out₂ ≡ sets out₁ i (77 ∷ 10 ∷ []) → j ≡ 9935 → 9935 < k → Rests s ws ranks p out₂ (i + 2)
-    unfolding listed
-    rests-cut g ej h = record {
-      fits = let r = left-room in omega arith;
-      is = λ rows l w.
-          let c = page-count s ws ranks (at p) 9936 o o′ k all-left f rows l w in
-          closed-shown s ws ranks (at p) 9936 o o′ k all-left f rows l w out out₁ j i (omega arith) e ei 77 out₂ g (let r = left-room in omega arith)
-          ∙ ap (λ m. linesOf (bookOf s rows .statements) (take m (pageFrom (bookOf s rows) 9936 (at p))) ++ (77 ∷ 10 ∷ [])) ej
-          ∙ sym (printed-cut 9935 (bookOf s rows .statements) (pageFrom (bookOf s rows) 9936 (at p)) (omega arith));
-    }
-
-    pub rests-ended : out₂ ≡ sets out₁ i (69 ∷ 10 ∷ []) → j ≡ k → Rests s ws ranks p out₂ (i + 2)
-    unfolding listed
-    rests-ended g ej = record {
-      fits = let r = left-room in omega arith;
-      is = λ rows l w.
-          let c = page-count s ws ranks (at p) 9936 o o′ k all-left f rows l w in
-          closed-shown s ws ranks (at p) 9936 o o′ k all-left f rows l w out out₁ j i (omega arith) e ei 69 out₂ g (let r = left-room in omega arith)
-          ∙ ap (λ (x : List Pair). linesOf (bookOf s rows .statements) x ++ (69 ∷ 10 ∷ [])) (take-all j (pageFrom (bookOf s rows) 9936 (at p)) (omega arith))
-          ∙ sym (printed-ended 9935 (bookOf s rows .statements) (pageFrom (bookOf s rows) 9936 (at p)) (omega arith));
-    }
 
 -- ---- from the text
 module _ (bs : List ℕ) (q : Refusal) (r : readText bs ≡ refused (q .number) (q .line)) where
@@ -144,10 +152,10 @@ module _ (bs : List ℕ) (s : Shape) (ws ranks : List ℕ) (d : (rows : List ℤ
   pub prepared-was : Prepared s ws ranks
   prepared-was = record { rows = d .0; loaded = d .2 }
 
-  pub begins-accepted : (out : List ℕ) (r : Opened) → Opens s ws ranks out r → Begins bs ws ranks out (record { part = r; shape = s })
+  pub begins-accepted : (out : List ℕ) (r : Part) → Lists s ws ranks start mostLines out r → Begins bs ws ranks out (record { part = r; shape = s })
   unfolding waysOf onText
   begins-accepted out r o = record {
     fits = o .fits;
-    whole = λ c. rw (d .1) (o .whole (d .0) (d .2) c);
-    more = λ c. record { ready = record { rows = d .0; loaded = d .2; lawful = o .lawful (d .0) (d .2) c }; rest = rw (d .1) (o .front (d .0) (d .2) c) };
+    whole = λ c. rw (d .1) (o .whole (d .0) (d .2) tt c);
+    more = λ c. record { ready = record { rows = d .0; loaded = d .2; lawful = o .lawful (d .0) (d .2) tt c }; rest = rw (d .1) (o .front (d .0) (d .2) tt c) };
   }

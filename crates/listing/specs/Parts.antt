@@ -1,5 +1,5 @@
--- What `ways` prints, in two parts: the opening from the text, and what is left from the prepared book and the opening's last pair.
-use Prim.Native.Nat.{ℕ, zero, suc, _+_, _*_, _≤_}
+-- What `ways` prints, part by part: the first from the text, each other from the prepared book, the point and the lines that are left.
+use Prim.Native.Nat.{ℕ, zero, suc, _+_, _-_, _*_, _<_, _≤_}
 use mathlib.Core.Bool.{true, false}
 use mathlib.Core.Path.{_≡_}
 use mathlib.Core.List.{List, [], _∷_, _++_}
@@ -9,18 +9,18 @@ use Rattle.sets.specs.declared.Pair.{Pair}
 use Rattle.book.specs.declared.Shape.{Shape}
 use Rattle.meaning.specs.Books.{Lawful}
 use Rattle.meaning.specs.Meant.{bookOf}
-use Rattle.meaning.specs.Order.{start, at}
-use Rattle.answers.specs.Ways.{listed, mostLines, waysOf}
+use Rattle.meaning.specs.Order.{Point, start, at, LawfulPoint}
+use Rattle.answers.specs.Ways.{linesOf, listed, mostLines, waysOf}
 use Rattle.engine.specs.Loaded.{Loaded}
-use Rattle.listing.specs.declared.Opened.{Opened}
+use Rattle.listing.specs.declared.Part.{Part}
 use Rattle.listing.specs.declared.Begun.{Begun}
 
--- How many lines the opening has, and how many may be left.
-abbrev pub openingLines : ℕ
-openingLines = 64
+-- The most lines that a part has, and the bytes that it may need: so many of the longest lines, and the closing line.
+abbrev pub partLines : ℕ
+partLines = 512
 
-abbrev pub leftLines : ℕ
-leftLines = 9935
+abbrev pub partBytes : ℕ
+partBytes = 52226
 
 -- The pair at a place of a page, and the k pairs from there on.
 unfoldable pub pairAt : List ℕ → ℕ → Pair
@@ -30,6 +30,27 @@ unfoldable pub pairsIn : List ℕ → ℕ → ℕ → List Pair
 pairsIn l i zero = []
 pairsIn l i (suc k) = pairAt l i ∷ pairsIn l (suc i) k
 
+-- ---- a page in lines
+-- The lines of the first k pairs and a closing line with this letter.
+pub record Closes (n : ℕ) (ns : List ℕ) (k letter : ℕ) (o′ : List ℕ) (r : Part) : Type 0 where
+  pub fits : r .bytes ≤ length o′
+  pub not-full : r .full ≡ false
+  pub is : take (r .bytes) o′ ≡ linesOf n (pairsIn ns 0 k) ++ (letter ∷ 10 ∷ [])
+
+-- The lines of all k pairs, and the last of them.
+pub record Fills (n : ℕ) (ns : List ℕ) (k : ℕ) (o′ : List ℕ) (r : Part) : Type 0 where
+  pub fits : r .bytes ≤ length o′
+  pub is-full : r .full ≡ true
+  pub last : r .last ≡ pairAt ns 511
+  pub is : take (r .bytes) o′ ≡ linesOf n (pairsIn ns 0 k)
+
+-- A page of k pairs where m lines are left: `E` where that is all, `M` where it is more than may be printed, else the listing goes on.
+pub record Prints (n : ℕ) (ns : List ℕ) (k m : ℕ) (o′ : List ℕ) (r : Part) : Type 0 where
+  pub ended : k < partLines → k ≤ m → Closes n ns k 69 o′ r
+  pub cut : m < k → m < partLines → Closes n ns m 77 o′ r
+  pub filled : k ≡ partLines → partLines ≤ m → Fills n ns k o′ r
+
+-- ---- of a book
 -- The words and ranks are those of some book of this shape, and the pair is lawful in it.
 pub record Prepared (s : Shape) (ws ranks : List ℕ) : Type 0 where
   pub rows : List ℤ
@@ -40,25 +61,27 @@ pub record Ready (s : Shape) (ws ranks : List ℕ) (p : Pair) : Type 0 where
   pub loaded : Loaded s rows ws ranks
   pub lawful : Lawful (bookOf s rows) p
 
--- The opening of a prepared book: all that is printed; or its front, and the rest is what is listed from the last pair on.
-pub record Opens (s : Shape) (ws ranks o′ : List ℕ) (r : Opened) : Type 0 where
+-- The part from a point on, where m lines are left: all that is listed; or its front, and the rest is what is listed from the last pair on.
+pub record Lists (s : Shape) (ws ranks : List ℕ) (from : Point) (m : ℕ) (o′ : List ℕ) (r : Part) : Type 0 where
   pub fits : r .bytes ≤ length o′
-  pub whole : (rows : List ℤ) → Loaded s rows ws ranks → r .full ≡ false → take (r .bytes) o′ ≡ listed (bookOf s rows) mostLines start
-  pub lawful : (rows : List ℤ) → Loaded s rows ws ranks → r .full ≡ true → Lawful (bookOf s rows) (r .last)
-  pub front : (rows : List ℤ) → Loaded s rows ws ranks → r .full ≡ true → take (r .bytes) o′ ++ listed (bookOf s rows) leftLines (at (r .last)) ≡ listed (bookOf s rows) mostLines start
+  pub fewer : r .full ≡ true → partLines ≤ m
+  pub whole : (rows : List ℤ) → Loaded s rows ws ranks → LawfulPoint (bookOf s rows) from → r .full ≡ false → take (r .bytes) o′ ≡ listed (bookOf s rows) m from
+  pub lawful : (rows : List ℤ) → Loaded s rows ws ranks → LawfulPoint (bookOf s rows) from → r .full ≡ true → Lawful (bookOf s rows) (r .last)
+  pub front : (rows : List ℤ) → Loaded s rows ws ranks → LawfulPoint (bookOf s rows) from → r .full ≡ true → take (r .bytes) o′ ++ listed (bookOf s rows) (m - partLines) (at (r .last)) ≡ listed (bookOf s rows) m from
 
--- What is left.
-pub record Rests (s : Shape) (ws ranks : List ℕ) (p : Pair) (o′ : List ℕ) (r : ℕ) : Type 0 where
-  pub fits : r ≤ length o′
-  pub is : (rows : List ℤ) → Loaded s rows ws ranks → Lawful (bookOf s rows) p → take r o′ ≡ listed (bookOf s rows) leftLines (at p)
+-- Where the listing goes on after a part, m lines having been left before it, a part's lines fewer are left, and the book is ready for its last pair.
+pub record Reaches (s : Shape) (ws ranks : List ℕ) (m : ℕ) (r : Part) : Type 0 where
+  pub fewer : r .full ≡ true → partLines ≤ m
+  pub ready : r .full ≡ true → Ready s ws ranks (r .last)
 
--- What was printed, with what is listed from the pair on, is all that `ways` prints.
-pub record GoesOn (bs : List ℕ) (ws ranks done : List ℕ) (s : Shape) (p : Pair) : Type 0 where
+-- ---- of a text
+-- What was printed, with what is listed from the pair on, m lines being left, is all that `ways` prints.
+pub record GoesOn (bs : List ℕ) (ws ranks done : List ℕ) (s : Shape) (p : Pair) (m : ℕ) : Type 0 where
   pub ready : Ready s ws ranks p
-  pub rest : done ++ listed (bookOf s (ready .rows)) leftLines (at p) ≡ waysOf bs
+  pub rest : done ++ listed (bookOf s (ready .rows)) m (at p) ≡ waysOf bs
 
--- The opening of a text.
+-- The first part of a text.
 pub record Begins (bs ws ranks o′ : List ℕ) (r : Begun) : Type 0 where
   pub fits : r .part .bytes ≤ length o′
   pub whole : r .part .full ≡ false → take (r .part .bytes) o′ ≡ waysOf bs
-  pub more : r .part .full ≡ true → GoesOn bs ws ranks (take (r .part .bytes) o′) (r .shape) (r .part .last)
+  pub more : r .part .full ≡ true → GoesOn bs ws ranks (take (r .part .bytes) o′) (r .shape) (r .part .last) (mostLines - partLines)

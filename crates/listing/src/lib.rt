@@ -1,12 +1,13 @@
-// What `ways` prints: the first lines from a text, the lines that are left from a prepared book. The two together are document 01's listing.
+// What `ways` prints, part by part: the first part from a text, each other from the prepared book, the point and the lines that are left.
 ghost use mathlib.Core.Path.{_≡_};
 ghost use mathlib.Core.List.{[], _∷_};
 ghost use Prim.Native.Nat.{_+_, _*_, _<_, _≤_};
 ghost use lib.ListN.{length};
 ghost use lib.Seq.{sets};
-ghost use Rattle.answers.specs.Ways.{linesOf, failed as failedOf};
+ghost use Rattle.meaning.specs.Order.{start, at};
+ghost use Rattle.answers.specs.Ways.{linesOf, mostLines, failed as failedOf};
 ghost use Rattle.line.specs.Parts.{lineBytes};
-ghost use Rattle.listing.specs.Parts.{pairAt, pairsIn, Prepared, Ready, Opens, Begins, Rests};
+ghost use Rattle.listing.specs.Parts.{pairAt, pairsIn, partLines, partBytes, Prepared, Ready, Closes, Prints, Lists, Begins};
 use book::Book;
 use book::Shape;
 use engine::Ranks;
@@ -15,22 +16,18 @@ use sets::Pair;
 use text::Reading;
 use text::Refusal;
 
-// The most lines that are printed; how many of them the opening has, and how many are left.
+// The most lines that are printed, and the most that a part has.
 pub const MOST: usize = 9999;
 
-pub const OPENING: usize = 64;
-
-pub const LEFT: usize = MOST - OPENING;
+pub const PART: usize = 512;
 
 // The bytes of the longest line, and of the closing line.
 pub const LONGEST: usize = 1 + (1 + Book::EXCEPTIONS) * Book::COLUMNS + Book::STATEMENTS + 1;
 
 pub const CLOSING: usize = 2;
 
-// Room for the opening, and for what is left.
-pub type OpeningText = [u8; OPENING * LONGEST + CLOSING];
-
-pub type LeftText = [u8; LEFT * LONGEST + CLOSING];
+// Room for a part.
+pub type Text = [u8; PART * LONGEST + CLOSING];
 
 // The pair at a place of a page.
 pub fn pair_at(pairs: &[u64], k: usize) -> Pair
@@ -71,30 +68,21 @@ pub fn put_closing(out: &mut [u8], at: usize, letter: u8)
     out[at + 1] = b'\n';
 }
 
-// What has been printed: how many bytes, whether lines may be left, and the last pair then.
-pub struct Opened {
+// A part: how many bytes it has, whether the listing goes on after it, and its last pair then.
+pub struct Part {
     pub bytes: usize,
     pub full: bool,
     pub last: Pair,
 }
 
-// The first lines of a prepared book, and the closing line if these are all.
-pub fn opening(words: &Words, ranks: &Ranks, s: Shape, out: &mut OpeningText) -> Opened
-    requires { ⌜ Prepared s (now words) (now ranks) ⌝ }
-    ensures { λ r. ⌜ Opens s (now (words .entry)) (now (ranks .entry)) (now (out .exit)) r ⌝ }
+// The first k pairs of a page in lines, and a closing line: no part follows.
+pub fn close_part(out: &mut [u8], n: usize, pairs: &[u64], k: usize, letter: u8) -> Part
+    requires { ⌜ (n ≤ 48) × (k ≤ partLines) × (k * 3 ≤ length (now pairs)) × (length (now out) ≡ partBytes) ⌝ }
+    ensures { λ r. ⌜ Closes n (now (pairs .entry)) k letter (now (out .exit)) r ⌝ }
 {
-    let mut pairs = [0u64; OPENING * 3];
-    let k = engine::first_in(words, ranks, s, &mut pairs);
-    let at = put_lines(out, s.statements, &pairs, k);
-    if k == OPENING {
-        return Opened {
-            bytes: at,
-            full: true,
-            last: pair_at(&pairs, OPENING - 1),
-        };
-    }
-    put_closing(out, at, b'E');
-    Opened {
+    let at = put_lines(out, n, pairs, k);
+    put_closing(out, at, letter);
+    Part {
         bytes: at + CLOSING,
         full: false,
         last: Pair {
@@ -105,21 +93,45 @@ pub fn opening(words: &Words, ranks: &Ranks, s: Shape, out: &mut OpeningText) ->
     }
 }
 
-// The lines that are left after the opening's last pair, and the closing line; how many bytes.
-pub fn go_on(words: &Words, ranks: &Ranks, s: Shape, p: Pair, out: &mut LeftText) -> usize
-    requires { ⌜ Ready s (now words) (now ranks) p ⌝ }
-    ensures { λ r. ⌜ Rests s (now (words .entry)) (now (ranks .entry)) p (now (out .exit)) r ⌝ }
+// The lines of a page of k pairs, where m lines are left to be printed: the closing line too, unless the page is full and more may come.
+pub fn put_part(out: &mut [u8], n: usize, pairs: &[u64], k: usize, m: usize) -> Part
+    requires { ⌜ (n ≤ 48) × (k ≤ partLines) × (length (now pairs) ≡ partLines * 3) × (length (now out) ≡ partBytes) ⌝ }
+    ensures { λ r. ⌜ Prints n (now (pairs .entry)) k m (now (out .exit)) r ⌝ }
 {
-    let mut pairs = [0u64; (LEFT + 1) * 3];
-    let k = engine::after_in(words, ranks, s, p, &mut pairs);
-    if LEFT < k {
-        let at = put_lines(out, s.statements, &pairs, LEFT);
-        put_closing(out, at, b'M');
-        return at + CLOSING;
+    if k < PART {
+        if k <= m {
+            return close_part(out, n, pairs, k, b'E');
+        }
+        return close_part(out, n, pairs, m, b'M');
     }
-    let at = put_lines(out, s.statements, &pairs, k);
-    put_closing(out, at, b'E');
-    at + CLOSING
+    if m < PART {
+        return close_part(out, n, pairs, m, b'M');
+    }
+    Part {
+        bytes: put_lines(out, n, pairs, PART),
+        full: true,
+        last: pair_at(pairs, PART - 1),
+    }
+}
+
+// The first part of a prepared book.
+pub fn opening(words: &Words, ranks: &Ranks, s: Shape, out: &mut Text) -> Part
+    requires { ⌜ Prepared s (now words) (now ranks) ⌝ }
+    ensures { λ r. ⌜ Lists s (now (words .entry)) (now (ranks .entry)) start mostLines (now (out .exit)) r ⌝ }
+{
+    let mut pairs = [0u64; PART * 3];
+    let k = engine::first_in(words, ranks, s, &mut pairs);
+    put_part(out, s.statements, &pairs, k, MOST)
+}
+
+// The part after a pair, where m lines are left to be printed.
+pub fn go_on(words: &Words, ranks: &Ranks, s: Shape, p: Pair, m: usize, out: &mut Text) -> Part
+    requires { ⌜ Ready s (now words) (now ranks) p ⌝ }
+    ensures { λ r. ⌜ Lists s (now (words .entry)) (now (ranks .entry)) (at p) m (now (out .exit)) r ⌝ }
+{
+    let mut pairs = [0u64; PART * 3];
+    let k = engine::after_in(words, ranks, s, p, &mut pairs);
+    put_part(out, s.statements, &pairs, k, m)
 }
 
 // The line of a refusal.
@@ -133,14 +145,14 @@ pub fn put_failed(out: &mut [u8], q: Refusal)
     out[9] = b'\n';
 }
 
-// What was printed first, and the book's shape.
+// The first part, and the book's shape.
 pub struct Begun {
-    pub part: Opened,
+    pub part: Part,
     pub shape: Shape,
 }
 
-// What is printed first for a text: all of it, or as much as the buffer is for.
-pub fn begin(text: &[u8], words: &mut Words, ranks: &mut Ranks, out: &mut OpeningText) -> Begun
+// The first part for a text: all of it, or as much as a part has.
+pub fn begin(text: &[u8], words: &mut Words, ranks: &mut Ranks, out: &mut Text) -> Begun
     ensures { λ r. ⌜ Begins (now (text .entry)) (now (words .exit)) (now (ranks .exit)) (now (out .exit)) r ⌝ }
 {
     let got = operations::load(text, words, ranks);
@@ -148,7 +160,7 @@ pub fn begin(text: &[u8], words: &mut Words, ranks: &mut Ranks, out: &mut Openin
         Reading::Refused(q) => {
             put_failed(out, q);
             Begun {
-                part: Opened {
+                part: Part {
                     bytes: 10,
                     full: false,
                     last: Pair {

@@ -1,35 +1,52 @@
 // ways: a book on standard input, its resolutions on standard output. All the work is in the library `listing`.
-ghost use Rattle.listing.specs.Parts.{Ready};
+ghost use Prim.Native.Nat.{_-_, _≤_};
+ghost use mathlib.Core.Path.{_≡_};
+ghost use mathlib.Core.Bool.{true};
+ghost use Rattle.listing.specs.Parts.{partLines, Ready, Reaches};
 use book::Book;
 use book::Shape;
 use engine::Ranks;
 use engine::Words;
+use listing::Part;
 use sets::Pair;
 
 const INPUT: i32 = 0;
 
 const OUTPUT: i32 = 1;
 
-// What is left to print of a prepared book, from a pair on.
-fn go_on(words: &Words, ranks: &Ranks, s: Shape, p: Pair)
+// Prints the part after a pair, where m lines are left.
+fn go_on(words: &Words, ranks: &Ranks, s: Shape, p: Pair, m: usize) -> Part
     requires { ⌜ Ready s (now words) (now ranks) p ⌝ }
+    ensures { λ r. ⌜ Reaches s (now (words .entry)) (now (ranks .entry)) m r ⌝ }
 {
-    let mut out = [0u8; listing::LEFT * listing::LONGEST + listing::CLOSING];
-    let k = listing::go_on(words, ranks, s, p, &mut out);
-    io::write_all(OUTPUT, &out[..k]);
+    let mut out = [0u8; listing::PART * listing::LONGEST + listing::CLOSING];
+    let part = listing::go_on(words, ranks, s, p, m, &mut out);
+    io::write_all(OUTPUT, &out[..part.bytes]);
+    part
+}
+
+// Prints what is left after a part: part after part.
+fn rest(words: &Words, ranks: &Ranks, s: Shape, from: Part)
+    requires { ⌜ Reaches s (now words) (now ranks) 9999 from ⌝ }
+{
+    let mut part = from;
+    let mut left = listing::MOST;
+    while part.full {
+        left -= listing::PART;
+        let last = part.last;
+        part = go_on(words, ranks, s, last, left);
+    }
 }
 
 // All that is printed for a text.
 fn print(text: &[u8]) {
     let mut words = [0u64; Book::RULES * 8];
     let mut ranks = [0u64; Book::EXCEPTIONS];
-    let mut out = [0u8; listing::OPENING * listing::LONGEST + listing::CLOSING];
+    let mut out = [0u8; listing::PART * listing::LONGEST + listing::CLOSING];
     let b = listing::begin(text, &mut words, &mut ranks, &mut out);
     let part = b.part;
     io::write_all(OUTPUT, &out[..part.bytes]);
-    if part.full {
-        go_on(&words, &ranks, b.shape, part.last);
-    }
+    rest(&words, &ranks, b.shape, part);
 }
 
 // One byte more than a book may have is enough to know that a text is too long.

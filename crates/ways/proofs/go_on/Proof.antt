@@ -1,5 +1,6 @@
 use lib.Seq.{length-take-le}
 use mathlib.Core.Path.{sym}
+use Rattle.listing.proofs.Reached.{reached}
 use borrow.Author.Needs.{needs}
 use Rattle.ways.proofs.go_on.Statement.{statement}
 use Rattle.ways.proofs.go_on.Tie as tie
@@ -8,25 +9,25 @@ use Rattle.ways.proofs.go_on.Lts as lts
 use Rattle.io.proofs.write_all.Reads as write-all-reads
 use Rattle.listing.proofs.go_on.Reads as go-on-reads
 
--- src/main.rt:18:9
+-- src/main.rt:23:9
 go-on-requires : tie.Need-go-on-requires
 go-on-requires c κs = search needs
 
--- src/main.rt:19:27
+-- src/main.rt:24:27
 array-share-prefix-out : tie.Need-array-share-prefix-out
 array-share-prefix-out c = search needs
 
--- src/main.rt:19:27
+-- src/main.rt:24:27
 slice-aggregate-write-all : tie.Need-slice-aggregate-write-all
 slice-aggregate-write-all c = sym (length-take-le _ _ (c .before .go-on .ensures .fits))
 
--- src/main.rt:19:5
+-- src/main.rt:24:5
 write-all-requires : tie.Need-write-all-requires
 write-all-requires c κs = search needs
 
--- src/main.rt:14:1
+-- src/main.rt:18:1
 returns : tie.Need-returns
-returns c = search needs
+returns c = reached _ _ _ _ _ _ _ (c .before .before .before .before .pre) (c .before .before .go-on .ensures)
 
 pub go-on-spec : {M : Type 1} → statement M
 go-on-spec =

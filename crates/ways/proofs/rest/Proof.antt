@@ -1,0 +1,43 @@
+use borrow.Author.Needs.{needs}
+use native.Mathlib.Omega.{arith}
+use Rattle.listing.specs.Parts.{Reaches}
+use Rattle.ways.proofs.rest.Statement.{statement}
+use Rattle.ways.proofs.rest.Tie as tie
+use Rattle.ways.proofs.rest.Reads as reads
+use Rattle.ways.proofs.rest.Lts as lts
+use Rattle.ways.proofs.go_on.Reads as go-on-reads
+
+abbrev Inv-loop : tie.InvT-loop
+Inv-loop words ranks s part₀ left₀ part left = Reaches s words ranks left part
+
+abbrev μ-loop : tie.MeasureT-loop
+μ-loop words ranks s part₀ left₀ part left = left
+
+-- src/main.rt:34:5
+loop-holds : tie.Need-loop-holds Inv-loop μ-loop
+loop-holds c = c .pre
+
+-- src/main.rt:35:9
+sub-left : tie.Need-sub-left Inv-loop μ-loop
+sub-left c = let h = c .before .loop .inv .fewer (search needs) in omega arith
+
+-- src/main.rt:37:9
+go-on-requires : tie.Need-go-on-requires Inv-loop μ-loop
+go-on-requires c κs = c .before .before .loop .inv .ready (search needs)
+
+-- src/main.rt:34:5
+loop-less : tie.Need-loop-less Inv-loop μ-loop
+loop-less c = let h = c .before .before .before .loop .inv .fewer (search needs) in omega arith
+
+-- src/main.rt:34:5
+loop-again : tie.Need-loop-again Inv-loop μ-loop
+loop-again c = c .go-on .ensures
+
+-- src/main.rt:29:1
+returns : tie.Need-returns Inv-loop μ-loop
+returns c = tt
+
+pub rest-spec : {M : Type 1} → statement M
+rest-spec =
+    tie.close
+    (tie.spec Inv-loop μ-loop loop-holds sub-left go-on-requires loop-less loop-again returns)
