@@ -40,8 +40,9 @@ use Rattle.text.proofs.Books.{in-first}
 use Rattle.text.proofs.Facts.{accepted-facts}
 use Rattle.read.specs.declared.LineIs.{LineIs}
 use Rattle.read.specs.declared.LineIs.the-variants.{Of, Bad}
-use Rattle.read.specs.declared.Cursor.{Cursor}
-use Rattle.read.specs.Storing.{LineLeft, storeLine, answerLine, stepWith, untilFeed, firstCursor, pastLine, room, noReading, endOf, outcomeOf}
+use Rattle.cursor.specs.declared.Cursor.{Cursor}
+use Rattle.cursor.specs.Places.{firstCursor, pastLine}
+use Rattle.read.specs.Storing.{LineLeft, storeLine, answerLine, stepWith, untilFeed, room, noReading, endOf, outcomeOf}
 use Rattle.read.specs.Storing.LineLeft.{keptLine, lostLine}
 use Rattle.read.proofs.Feeds.{line-in, line-split}
 use Rattle.read.proofs.States.{step-with}

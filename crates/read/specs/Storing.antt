@@ -31,7 +31,6 @@ use Rattle.read.specs.declared.Fields.{Fields}
 use Rattle.read.specs.declared.Fields.the-variants.{Right, Wrong}
 use Rattle.read.specs.declared.LineIs.{LineIs}
 use Rattle.read.specs.declared.LineIs.the-variants.{Of, Bad}
-use Rattle.read.specs.declared.Cursor.{Cursor}
 
 -- ---- a field
 -- A field's number if it is spelt right and in the range, else the refusal.
@@ -89,13 +88,6 @@ stepWith st k n = record { next = after k; statements = n; counts = set (st .cou
 unfoldable pub untilFeed : List ℕ → ℕ
 untilFeed [] = 0
 untilFeed (b ∷ bs) = pick (eqb b 10) 0 (suc (untilFeed bs))
-
--- The reader at the first line; and past a line of len bytes and its line feed.
-abbrev pub firstCursor : Cursor
-firstCursor = record { at = 0; line = 1 }
-
-abbrev pub pastLine : Cursor → ℕ → Cursor
-pastLine c len = record { at = c .at + len + 1; line = c .line + 1 }
 
 -- Room for the numbers of any text as it is read: each takes four bytes, and a line that is refused may have its numbers stored too.
 abbrev pub room : ℕ

@@ -10,12 +10,13 @@ ghost use Rattle.text.specs.Fields.{firstField};
 ghost use Rattle.logic.specs.Tests.{both};
 ghost use Rattle.text.specs.Lines.{kindFor, between, readLine, lines};
 ghost use Rattle.text.specs.Reading.{start, lastByte, readLines, tableOf, over};
-ghost use Rattle.read.specs.Storing.{numberOf, noneSeen, answerFields, storeFields, wholeIs, answerLine, storeLine, stepWith, untilFeed, endOf, noReading, firstCursor, pastLine, room, outcomeOf};
+ghost use Rattle.read.specs.Storing.{numberOf, noneSeen, answerFields, storeFields, wholeIs, answerLine, storeLine, stepWith, untilFeed, endOf, noReading, room, outcomeOf};
 ghost use Rattle.read.specs.Parsing.{Parsing, Met};
 use book::Book;
 use book::Content;
 use book::Kind;
 use book::Shape;
+use cursor::Cursor;
 use fields::Seen;
 use text::Field;
 use text::Reading;
@@ -229,32 +230,6 @@ pub fn row_width(k: usize) -> usize
         return x.fields;
     }
     0
-}
-
-// Where the reader stands: the next byte, and its line, counted from 1.
-pub struct Cursor {
-    pub at: usize,
-    pub line: usize,
-}
-
-impl Cursor {
-    // At the first line.
-    pub fn first() -> Self
-        ensures { λ r. ⌜ r ≡ firstCursor ⌝ }
-    {
-        Self { at: 0, line: 1 }
-    }
-
-    // Past a line of len bytes and its line feed.
-    pub fn past(self, len: usize) -> Self
-        requires { ⌜ (self .at + len < 2147483648) × (self .line < 2147483648) ⌝ }
-        ensures { λ r. ⌜ r ≡ pastLine self len ⌝ }
-    {
-        Self {
-            at: self.at + len + 1,
-            line: self.line + 1,
-        }
-    }
 }
 
 // A refusal as an answer.

@@ -136,7 +136,12 @@ fn k7() {
     follow(text, 4, 0, 0);
     follow(text, 0, 8, 0);
     follow(text, 0, 1, 1);
+    judge(text, 1, 5, 0);
+    judge(text, 4, 0, 0);
+    judge(text, 0, 8, 0);
     judge(text, 0, 0, 8);
+    judge(text, 0, 1, 1);
+    judge(text, 4, 8, 8);
 }
 
 fn k8() {

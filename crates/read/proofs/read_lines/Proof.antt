@@ -1,5 +1,5 @@
 use mathlib.Core.Path.{ap}
-use Rattle.read.specs.declared.Cursor.{Cursor}
+use Rattle.cursor.specs.declared.Cursor.{Cursor}
 use Prim.Native.Nat.{_-_}
 use mathlib.Core.Path.{_≡_, _∙_}
 use native.Mathlib.Omega.{arith}
@@ -12,8 +12,8 @@ use Rattle.read.proofs.read_lines.Statement.{statement}
 use Rattle.read.proofs.read_lines.Tie as tie
 use Rattle.read.proofs.read_lines.Reads as reads
 use Rattle.read.proofs.read_lines.Lts as lts
-use Rattle.read.proofs.Cursor.first.Reads as first-reads
-use Rattle.read.proofs.Cursor.past.Reads as past-reads
+use Rattle.cursor.proofs.Cursor.first.Reads as first-reads
+use Rattle.cursor.proofs.Cursor.past.Reads as past-reads
 use Rattle.read.proofs.empty.Reads as empty-reads
 use Rattle.read.proofs.ended.Reads as ended-reads
 use Rattle.read.proofs.line_length.Reads as line-length-reads

@@ -1,0 +1,366 @@
+// Texts that Read turns down, by place: the whole text, each line's letter, length, fields, the line as a whole, the lent slice.
+// One book of eleven lines is read with other bytes in the place of one of its lines, or of one or two of its fields.
+ghost use Prim.Native.Nat.{_≤_};
+use crate::books;
+use crate::rows;
+
+// A line of the book, or the bytes that stand for it.
+fn line(buf: &mut [u8; books::ROOM], at: usize, other: bool, new: &[u8], own: &[u8]) -> usize
+    requires { ⌜ at ≤ 8500 ⌝ }
+    ensures { λ r. ⌜ r ≤ 8500 ⌝ }
+{
+    if other {
+        return books::put(buf, at, new);
+    }
+    books::put(buf, at, own)
+}
+
+// The lines B and R of the book, with these bytes in the place of line k and its line feed. The place after them.
+fn first_lines(buf: &mut [u8; books::ROOM], k: usize, new: &[u8]) -> usize
+    ensures { λ r. ⌜ r ≤ 8500 ⌝ }
+{
+    let b = line(buf, 0, k == 1, new, b"B   1   3\n");
+    let r = line(
+        buf,
+        b,
+        k == 2,
+        new,
+        b"R   0   0   0   0   0   1   2   0   0\n",
+    );
+    let s = line(
+        buf,
+        r,
+        k == 3,
+        new,
+        b"R   3   1   0   0   0   0   0   0   0\n",
+    );
+    line(
+        buf,
+        s,
+        k == 4,
+        new,
+        b"R  -1  -2   0   0   0   3   0   0  -3\n",
+    )
+}
+
+// The lines X, in the same way, from a place on.
+fn middle_lines(buf: &mut [u8; books::ROOM], at: usize, k: usize, new: &[u8]) -> usize
+    requires { ⌜ at ≤ 8500 ⌝ }
+    ensures { λ r. ⌜ r ≤ 8500 ⌝ }
+{
+    let x = line(
+        buf,
+        at,
+        k == 5,
+        new,
+        b"X   1   0   0   0   0   0   0   0   0\n",
+    );
+    let y = line(
+        buf,
+        x,
+        k == 6,
+        new,
+        b"X   2   0   0   0   0   0   0   0   0\n",
+    );
+    line(
+        buf,
+        y,
+        k == 7,
+        new,
+        b"X   3   0   0   0   0   0   0   0   0\n",
+    )
+}
+
+// The book with these bytes in the place of line k and its line feed; line 12 comes after the last, line 0 is none. The place after it all.
+fn exchange(buf: &mut [u8; books::ROOM], k: usize, new: &[u8]) -> usize
+    ensures { λ r. ⌜ r ≤ 8500 ⌝ }
+{
+    let r = first_lines(buf, k, new);
+    let x = middle_lines(buf, r, k, new);
+    let p = line(buf, x, k == 8, new, b"P   1   2\n");
+    let q = line(buf, p, k == 9, new, b"P   2   3\n");
+    let o = line(buf, q, k == 10, new, b"P   3   3\n");
+    let e = line(buf, o, k == 11, new, b"Z   9\n");
+    line(buf, e, k == 12, new, b"")
+}
+
+// Where line k of the book begins.
+fn start(k: usize) -> usize
+    ensures { λ r. ⌜ r ≤ 268 ⌝ }
+{
+    if k < 2 {
+        return 0;
+    }
+    if k < 8 {
+        return 10 + (k - 2) * 38;
+    }
+    if k < 11 {
+        return 238 + (k - 8) * 10;
+    }
+    268
+}
+
+// The row of a whole text.
+fn text(t: &[u8]) {
+    rows::quote(t);
+    rows::read_row(t);
+}
+
+// The row of the book with these bytes in the place of line k.
+fn with(k: usize, new: &[u8]) {
+    let mut buf = [0u8; books::ROOM];
+    let e = exchange(&mut buf, k, new);
+    io::write_all(1, b"line");
+    rows::number(k);
+    rows::letter(b' ');
+    rows::quote(new);
+    rows::read_row(books::filled(&buf, e));
+}
+
+// The row of the book with these bytes in line k, from field f on; the first field is 1.
+fn at_field(k: usize, f: u8, new: &[u8]) {
+    if f == 0 {
+        return;
+    }
+    let mut buf = [0u8; books::ROOM];
+    let e = exchange(&mut buf, 0, b"");
+    books::put(&mut buf, start(k) + 4 * f as usize - 3, new);
+    io::write_all(1, b"line");
+    rows::number(k);
+    io::write_all(1, b" field");
+    rows::number(f as usize);
+    rows::letter(b' ');
+    rows::quote(new);
+    rows::read_row(books::filled(&buf, e));
+}
+
+// One field.
+fn field(k: usize, f: u8, new: &[u8; 4]) {
+    at_field(k, f, new);
+}
+
+// Two fields.
+fn fields(k: usize, f: u8, new: &[u8; 8]) {
+    at_field(k, f, new);
+}
+
+// 1 and 2, the whole text: 1 comes before 2, 2 before 3, 1 before 8.
+pub fn whole() {
+    text(b"");
+    text(b"B   1   1\nZ   0");
+    text(b"B   1   1\nZ   0\n\r");
+    text(b"B   1   1\nZ   0\n\x00");
+    with(11, b"Z   9");
+    with(11, b"Q");
+    books::over(200, 12, 32, b"Z 244\nZ");
+    books::over(200, 12, 32, b"Z 244 ");
+    books::over(200, 12, 33, b"Z 245\n");
+}
+
+// 3, the letter, on the first line.
+fn first_letters() {
+    text(b"\n");
+    text(b"Z   0\n");
+    with(0, b"");
+    with(1, b"");
+    with(1, b"b   1   3\n");
+    with(1, b" B   1   3\n");
+    with(1, b"\nB   1   3\n");
+}
+
+// Between.
+fn middle_letters() {
+    with(2, b"B   1   3\n");
+    with(6, b"\n");
+    with(6, b"\r\n");
+    with(6, b"R   2   0   0   0   0   0   0   0   0\n");
+    with(6, b"Q   2   0   0   0   0   0   0   0   0\n");
+    with(6, b"\x00   2   0   0   0   0   0   0   0   0\n");
+    with(6, b"\xd8   2   0   0   0   0   0   0   0   0\n");
+    with(9, b"X   2   0   0   0   0   0   0   0   0\n");
+    with(10, b"R   2   3\n");
+}
+
+// On the last line, where it is missing, and after it.
+fn last_letters() {
+    text(b"B   1   1\n");
+    with(6, b"Z   4\n");
+    with(11, b"B   1   3\n");
+    with(11, b"");
+    with(11, b"\n");
+    with(12, b"\n");
+    with(12, b"Z   9\n");
+    with(12, b"P   1   1\n");
+}
+
+// 3, the letter.
+pub fn letters() {
+    first_letters();
+    middle_letters();
+    last_letters();
+}
+
+// 4, the length, on the first line; it comes before 5.
+fn first_lengths() {
+    with(1, b"B\n");
+    with(1, b"B   1\n");
+    with(1, b"B   1   3   0\n");
+    with(1, b"B   1   3\r\n");
+    with(1, b"B   x\n");
+    with(4, b"R  -1  -2   0   0   0   3   0   0 -3\n");
+}
+
+// Between and on the last; it comes after 3.
+fn later_lengths() {
+    with(6, b"X   2   0   0   0   0   0   0   0   0 \n");
+    with(6, b"X   2   0   0   0   0   0   0   0   0\r\n");
+    with(6, b"Q    9\n");
+    with(8, b"P   1\n");
+    with(10, b"P   3   3   0\n");
+    with(11, b"Z\n");
+    with(11, b"Z   9\r\n");
+    with(11, b"Z    9\n");
+}
+
+// 4, the length.
+pub fn lengths() {
+    first_lengths();
+    later_lengths();
+}
+
+// 5 and 7 on the first line: each field from the left is tested to its end.
+pub fn editions() {
+    field(1, 1, b"  01");
+    field(1, 1, b"\t  1");
+    field(1, 1, b"1   ");
+    field(1, 2, b"  +3");
+    field(1, 2, b"    ");
+    field(1, 1, b"   0");
+    field(1, 1, b"   2");
+    field(1, 1, b"  -1");
+    fields(1, 1, b"   2  49");
+    fields(1, 1, b"   2  03");
+    fields(1, 1, b"   x  49");
+}
+
+// 5, a field misspelt: each way, in a line in the middle.
+pub fn spelling() {
+    field(6, 5, b"    ");
+    field(6, 5, b"  +1");
+    field(6, 5, b"  01");
+    field(6, 5, b"0000");
+    field(6, 5, b"  -0");
+    field(6, 5, b" -01");
+    field(6, 5, b"1   ");
+    field(6, 5, b"  1 ");
+    field(6, 5, b" 1 1");
+    field(6, 5, b" - 1");
+    field(6, 5, b"   -");
+    field(6, 5, b" --1");
+    field(6, 5, b"  1-");
+    field(6, 5, b" 1-1");
+    field(6, 5, b"\t  1");
+    field(6, 5, b"  \x001");
+    field(6, 5, b"  \xb21");
+    field(6, 5, b"  \r1");
+    field(6, 5, b" 0x1");
+    field(6, 5, b"   /");
+    field(6, 5, b"   :");
+}
+
+// 5 on the lines around.
+pub fn misspelt() {
+    field(2, 1, b"   o");
+    field(4, 9, b" - 3");
+    field(7, 9, b"   _");
+    field(8, 1, b"  01");
+    field(10, 2, b"  +3");
+    field(11, 1, b"  +9");
+    field(11, 1, b"0009");
+    field(11, 1, b"  -0");
+}
+
+// 6, a number outside its range; the leftmost field that is wrong decides. With n 2 the first number outside is in line 3.
+pub fn ranges() {
+    field(1, 2, b"   0");
+    field(1, 2, b"  -1");
+    field(1, 2, b"  49");
+    field(1, 2, b"9999");
+    field(1, 2, b"   2");
+    field(2, 1, b"   4");
+    field(3, 1, b"  -4");
+    field(4, 9, b"   4");
+    field(6, 2, b"-999");
+    field(7, 1, b"9999");
+    fields(6, 2, b"  01   4");
+    fields(6, 2, b"   4  01");
+    field(8, 1, b"   0");
+    field(9, 2, b"  13");
+    field(10, 1, b"  -1");
+    field(11, 1, b" 245");
+    field(11, 1, b"  -1");
+}
+
+// 8, a line over its limit: before 9, 10 and what is wrong in a later line; after 6.
+pub fn overs() {
+    books::over_by(201, 12, 1, b"Z 214\n");
+    books::over_by(200, 13, 0, b"Z 213\n");
+    books::over_by(0, 12, 33, b"Z  45\n");
+    books::over(0, 13, 0, b"R\n");
+    books::over(0, 12, 0, b"X   0   0   0   0   0   0   0   0   0\n");
+    books::over(0, 12, 0, b"X  49   0   0   0   0   0   0   0   0\n");
+    books::over(0, 1, 32, b"P   2   2\n");
+}
+
+// 9 and 10: an exception without head, a preference that names a missing one; 6 comes before them.
+pub fn heads() {
+    fields(5, 1, b"   0   1");
+    field(6, 1, b"   0");
+    field(7, 1, b"   0");
+    fields(6, 1, b"   0   4");
+    field(8, 1, b"   4");
+    field(9, 2, b"   4");
+    fields(10, 1, b"  12  12");
+    fields(8, 1, b"   4  13");
+    with(5, b"P   1   1\n");
+    with(7, b"");
+}
+
+// 11, Z's number wrong.
+pub fn totals() {
+    text(b"B   1   1\nZ   1\n");
+    field(11, 1, b"   8");
+    field(11, 1, b"  10");
+    field(11, 1, b"   0");
+    field(11, 1, b" 244");
+    with(10, b"");
+    with(11, b"Z   8\n\n");
+}
+
+// Small book k read into a slice of m numbers.
+fn book_into(k: u64, t: &[u8], m: usize) {
+    rows::letter(b'K');
+    io::print_decimal(1, k);
+    rows::read_short(t, m);
+}
+
+// A text read into a slice of m numbers.
+fn text_into(t: &[u8], m: usize) {
+    rows::quote(t);
+    rows::read_short(t, m);
+}
+
+// 15, the lent slice: one number short, just enough, one more; after all else.
+pub fn lent() {
+    let k1 = b"B   1   1\nZ   0\n";
+    book_into(1, k1, 0);
+    book_into(1, k1, 3);
+    book_into(1, k1, 4);
+    let k7 =
+        b"B   1   3\nR   0   0   0   0   0   1   2   0   0\nR   3   1   0   0   0   0   0   0   0\nX   1   0   0   0   0   0   0   0   0\nX   2   0   0   0   0   0   0   0   0\nZ   4\n";
+    book_into(7, k7, 39);
+    book_into(7, k7, 40);
+    book_into(7, k7, 41);
+    text_into(b"B   1   1\nZ   1\n", 3);
+    text_into(b"", 0);
+}

@@ -1,0 +1,27 @@
+// Read and Write on texts and tables, good and bad, a row for each; and each leaves the lent slice as it was where it refuses. What is to
+// come out stands in the file `stdout` and follows from document 01.
+mod books;
+mod lines;
+mod rows;
+mod tables;
+
+fn main() {
+    books::small();
+    books::limits();
+    lines::whole();
+    lines::letters();
+    lines::lengths();
+    lines::editions();
+    lines::spelling();
+    lines::misspelt();
+    lines::ranges();
+    lines::overs();
+    lines::heads();
+    lines::totals();
+    lines::lent();
+    tables::good();
+    tables::few();
+    tables::counts();
+    tables::lines();
+    tables::lent();
+}
