@@ -1,4 +1,68 @@
-# test: the gate. It proves every crate from nothing, tries the must-fail edits and runs the programs.
-.PHONY: test
-test:
-	rt ci
+# run:  builds `ways`, proofs and all, and runs it on a book: make run BOOK=examples/gown.book
+# test: the gate. It proves every crate from nothing, tries the must-fail edits and runs the programs (rt ci); then it tests what it has just
+#       proved and built: the examples, the collection program, the agreement with brute force and with clingo, the installation.
+# install, uninstall: see people.mk.
+SHELL := /bin/bash
+.SHELLFLAGS := -euo pipefail -c
+MAKEFLAGS += --no-print-directory
+
+BOOK ?= examples/gown.book
+LOG := build/ci.log
+PACKAGES := gringo valgrind
+
+.PHONY: run test packages proved library examples collection agreement installed
+
+run:
+	@mkdir -p build
+	@rt check ways > build/run.log 2>&1 || { cat build/run.log; exit 1; }
+	@target/bin/ways < $(BOOK)
+
+# The last line is rt's own: how many passed, how many failed.
+test: packages proved library
+	$(MAKE) examples
+	$(MAKE) collection
+	$(MAKE) agreement
+	$(MAKE) installed
+	tail -n 1 $(LOG)
+
+# What a fresh machine with the kit lacks.
+packages:
+	missing=$$(for package in $(PACKAGES); do dpkg -s $$package > /dev/null 2>&1 || echo $$package; done); \
+	if [ -n "$$missing" ]; then apt-get update -qq && DEBIAN_FRONTEND=noninteractive apt-get install -y -qq $$missing > /dev/null; fi
+
+proved:
+	mkdir -p build
+	rt ci 2>&1 | tee $(LOG)
+
+library:
+	rt staticlib bantameasel 2>&1 | tail -n 1
+
+# Every example prints what is stored beside it; of the long listing the sum is stored.
+examples:
+	count=0; \
+	for book in examples/*.book; do \
+	  stored=$${book%.book}.out; \
+	  if [ -f "$$stored" ]; then target/bin/ways < "$$book" | cmp - "$$stored"; \
+	  else target/bin/ways < "$$book" | sha256sum --quiet -c "$${book%.book}.sum"; fi; \
+	  count=$$((count + 1)); \
+	done; \
+	echo "examples: $$count books print what is stored"
+	tests/books_page target/bin/ways docs/BOOKS.md
+
+collection:
+	LIB=target/staticlib/libbantameasel.a collection/test.sh
+
+agreement:
+	$(MAKE) -C tests gate
+
+# The installed header and library build the collection program, and the installed `ways` runs.
+installed:
+	to=$$(mktemp -d); trap 'rm -rf "$$to"' EXIT; \
+	$(MAKE) install PREFIX="$$to" > /dev/null; \
+	gcc -std=c11 -Wall -Wextra -Werror -I"$$to/include" collection/collection.c -L"$$to/lib" -lbantameasel -o "$$to/collection"; \
+	"$$to/bin/ways" < examples/k7.book | cmp - examples/k7.out; \
+	grep -q -- '-lbantameasel' "$$to/lib/pkgconfig/bantameasel.pc"; \
+	test -f "$$to/share/man/man1/ways.1"; \
+	echo "installed: ways runs, and the collection program builds against the header and the library"
+
+include people.mk

@@ -1,0 +1,27 @@
+/* A plain C reader and writer of books with document 01's checks, to compare the engine's Read and Write with. */
+#ifndef READER_H
+#define READER_H
+
+#include <stddef.h>
+#include <stdint.h>
+
+enum {
+    READER_STATEMENTS = 48,
+    READER_PLAIN = 200,
+    READER_EXCEPTIONS = 12,
+    READER_PREFERENCES = 32,
+    READER_TEXT = 8392,
+    READER_TABLE = 4 + 9 * (READER_PLAIN + READER_EXCEPTIONS) + 2 * READER_PREFERENCES
+};
+
+/* A refusal's number (0: none) and line, and how many numbers or bytes were written. */
+typedef struct {
+    uint32_t refusal;
+    uint32_t line;
+    size_t length;
+} reader_answer;
+
+reader_answer reader_read(const uint8_t *text, size_t text_length, int32_t *table, size_t table_length);
+reader_answer reader_write(const int32_t *table, size_t table_length, uint8_t *text, size_t text_length);
+
+#endif

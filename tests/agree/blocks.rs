@@ -1,0 +1,235 @@
+//! Large books made of small ones side by side, whose resolutions are known without any search:
+//! the parts share no statement and no exception, so the views, and with them the resolutions, are the products.
+
+use crate::book::*;
+use crate::kinds::{small_book, KINDS};
+use crate::meaning::{compare_pairs, outranking, Meaning, Oracle};
+use crate::random::Random;
+
+/// The most resolutions that are listed.
+const MOST: usize = 4_000;
+
+/// One part: its meaning, and the numbers, counted from 0, that its statements and exceptions have in the whole.
+struct Part {
+    meaning: Meaning,
+    statements: Vec<usize>,
+    exceptions: Vec<usize>,
+}
+
+/// A book of parts, with all its resolutions in the order of pairs.
+pub struct Blocks {
+    pub book: Book,
+    parts: Vec<Part>,
+    resolutions: Vec<Pair>,
+}
+
+/// Moves the bits of a number to their places in the whole.
+fn spread(number: u64, places: &[usize]) -> u64 {
+    places.iter().enumerate().map(|(own, place)| (number >> own & 1) << place).sum()
+}
+
+/// Gathers the bits of a number from their places in the whole.
+fn gather(number: u64, places: &[usize]) -> u64 {
+    places.iter().enumerate().map(|(own, place)| (number >> place & 1) << own).sum()
+}
+
+impl Part {
+    /// The part's pair as a pair of the whole.
+    fn outward(&self, pair: &Pair) -> Pair {
+        Pair {
+            taken: spread(pair.taken, &self.exceptions),
+            held: spread(pair.held, &self.statements),
+            denied: spread(pair.denied, &self.statements),
+        }
+    }
+
+    /// What a pair of the whole says about the part.
+    fn inward(&self, pair: &Pair) -> Pair {
+        Pair {
+            taken: gather(pair.taken, &self.exceptions),
+            held: gather(pair.held, &self.statements),
+            denied: gather(pair.denied, &self.statements),
+        }
+    }
+
+    /// An entry or head of the part as one of the whole.
+    fn entry(&self, entry: i32) -> i32 {
+        if entry == 0 {
+            0
+        } else {
+            entry.signum() * (self.statements[entry.unsigned_abs() as usize - 1] as i32 + 1)
+        }
+    }
+
+    /// A rule of the part as one of the whole.
+    fn rule(&self, rule: &Rule) -> Rule {
+        let entries = |entries: [i32; 4]| entries.map(|entry| self.entry(entry));
+        Rule { head: self.entry(rule.head), needed: entries(rule.needed), barred: entries(rule.barred) }
+    }
+}
+
+/// The pair that has the members of both.
+fn joined(one: &Pair, other: &Pair) -> Pair {
+    Pair { taken: one.taken | other.taken, held: one.held | other.held, denied: one.denied | other.denied }
+}
+
+/// Small books whose sizes together stay within the limits.
+fn draw_parts(random: &mut Random) -> Vec<Book> {
+    let mut parts: Vec<Book> = Vec::new();
+    let (mut statements, mut plain, mut exceptions, mut preferences, mut product) = (0, 0, 0, 0, 1);
+    for _ in 0..2 + random.below(14) {
+        let kind = random.below(KINDS.len() as u64) as usize;
+        let book = small_book(random, kind);
+        if book.statements > 5 || book.exceptions.len() > 5 {
+            continue;
+        }
+        let count = Meaning::of(&book).resolutions().len();
+        let keep_none = count > 0 || random.one_in(30);
+        let fits = statements + book.statements <= STATEMENTS
+            && plain + book.plain.len() <= PLAIN
+            && exceptions + book.exceptions.len() <= EXCEPTIONS
+            && preferences + book.preferences.len() <= PREFERENCES
+            && product * count <= MOST;
+        if fits && keep_none {
+            statements += book.statements;
+            plain += book.plain.len();
+            exceptions += book.exceptions.len();
+            preferences += book.preferences.len();
+            product *= count;
+            parts.push(book);
+        }
+    }
+    parts
+}
+
+impl Blocks {
+    /// A random book of parts, with the numbers of the parts mixed or in a row.
+    pub fn draw(random: &mut Random) -> Blocks {
+        let parts = draw_parts(random);
+        let used: i32 = parts.iter().map(|part| part.statements).sum();
+        let total = random.between(used.max(1), STATEMENTS) as usize;
+        let count: usize = parts.iter().map(|part| part.exceptions.len()).sum();
+        let (mut statements, mut exceptions): (Vec<usize>, Vec<usize>) = ((0..total).collect(), (0..count).collect());
+        if !random.one_in(3) {
+            random.shuffle(&mut statements);
+            random.shuffle(&mut exceptions);
+        }
+        Blocks::join(random, parts, statements, exceptions, total as i32)
+    }
+
+    /// Puts the parts together, their numbers taken from the front of the given ones.
+    fn join(
+        random: &mut Random,
+        books: Vec<Book>,
+        statements: Vec<usize>,
+        exceptions: Vec<usize>,
+        total: i32,
+    ) -> Blocks {
+        let mut whole = Book::empty(total);
+        whole.exceptions = vec![Rule { head: 1, needed: [0; 4], barred: [0; 4] }; exceptions.len()];
+        let (mut statements, mut exceptions) = (statements.into_iter(), exceptions.into_iter());
+        let mut parts = Vec::new();
+        for book in &books {
+            let part = Part {
+                meaning: Meaning::of(book),
+                statements: statements.by_ref().take(book.statements as usize).collect(),
+                exceptions: exceptions.by_ref().take(book.exceptions.len()).collect(),
+            };
+            put_part(&mut whole, book, &part);
+            parts.push(part);
+        }
+        fill_up(random, &mut whole, statements.next());
+        add_implied(random, &mut whole);
+        random.shuffle(&mut whole.plain);
+        let resolutions = product(&parts);
+        Blocks { book: whole, parts, resolutions }
+    }
+
+    /// A view of the whole, if there is one: a random view of each part.
+    pub fn some_view(&self, random: &mut Random) -> Option<Pair> {
+        let mut view = Pair { taken: 0, held: 0, denied: 0 };
+        for part in &self.parts {
+            if part.meaning.views.is_empty() {
+                return None;
+            }
+            view = joined(&view, &part.outward(&random.pick(&part.meaning.views)));
+        }
+        Some(view)
+    }
+}
+
+/// Adds a part's lines to the whole book.
+fn put_part(whole: &mut Book, book: &Book, part: &Part) {
+    whole.plain.extend(book.plain.iter().map(|rule| part.rule(rule)));
+    for (own, rule) in book.exceptions.iter().enumerate() {
+        whole.exceptions[part.exceptions[own]] = part.rule(rule);
+    }
+    for order in &book.preferences {
+        whole.preferences.push(order.map(|number| part.exceptions[number as usize - 1] as i32 + 1));
+    }
+}
+
+/// Sometimes fills the book up to the limit with rules that change nothing in the meaning: rules that need a
+/// statement which nothing concludes, or repeats.
+fn fill_up(random: &mut Random, book: &mut Book, idle: Option<usize>) {
+    let count = book.plain.len();
+    if count == 0 || random.one_in(2) {
+        return;
+    }
+    while book.plain.len() < PLAIN {
+        let mut rule = book.plain[random.below(count as u64) as usize];
+        if let Some(statement) = idle {
+            rule.needed[random.below(4) as usize] = statement as i32 + 1;
+        }
+        book.plain.push(rule);
+    }
+}
+
+/// Sometimes fills the preferences up to the limit with some that follow from those there are: in any order, or with
+/// copies of the first before all others.
+fn add_implied(random: &mut Random, book: &mut Book) {
+    if book.preferences.is_empty() || random.one_in(3) {
+        return;
+    }
+    if random.one_in(2) {
+        let copies = vec![book.preferences[0]; PREFERENCES - book.preferences.len()];
+        book.preferences.splice(0..0, copies);
+        return;
+    }
+    let outranks = outranking(book);
+    while book.preferences.len() < PREFERENCES {
+        let (a, b) = (random.below(12) as usize, random.below(12) as usize);
+        if outranks[a][b] {
+            book.preferences.push([a as i32 + 1, b as i32 + 1]);
+        }
+    }
+    random.shuffle(&mut book.preferences);
+}
+
+/// All combinations of the parts' resolutions, in the order of pairs.
+fn product(parts: &[Part]) -> Vec<Pair> {
+    let mut list = vec![Pair { taken: 0, held: 0, denied: 0 }];
+    for part in parts {
+        let own: Vec<Pair> = part.meaning.resolutions().iter().map(|pair| part.outward(pair)).collect();
+        list = list.iter().flat_map(|one| own.iter().map(|other| joined(one, other))).collect();
+    }
+    list.sort_by(compare_pairs);
+    list
+}
+
+impl Oracle for Blocks {
+    fn resolutions(&self) -> &[Pair] {
+        &self.resolutions
+    }
+
+    /// The first verdict that applies is the smallest of the parts' verdicts other than 0.
+    /// A statement that no part has must be absent.
+    fn verdict(&self, pair: &Pair) -> u32 {
+        let owned: u64 = self.parts.iter().map(|part| spread(!0, &part.statements)).sum();
+        if (pair.held | pair.denied) & !owned != 0 {
+            return 1;
+        }
+        let verdicts = self.parts.iter().map(|part| part.meaning.verdict(&part.inward(pair)));
+        verdicts.filter(|verdict| *verdict != 0).min().unwrap_or(0)
+    }
+}

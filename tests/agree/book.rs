@@ -1,0 +1,92 @@
+//! A book, a pair and a refusal, as document 01 names them.
+
+/// The most statements, plain rules, exceptions and preferences of a book, and the most bytes of its text.
+pub const STATEMENTS: i32 = 48;
+pub const PLAIN: usize = 200;
+pub const EXCEPTIONS: usize = 12;
+pub const PREFERENCES: usize = 32;
+pub const TEXT: usize = 8_392;
+
+/// The most numbers that a number table can have.
+pub const TABLE: usize = 4 + 9 * (PLAIN + EXCEPTIONS) + 2 * PREFERENCES;
+
+/// A plain rule or an exception: +i is i, -i is -i, and 0 is an unused entry or no head.
+#[derive(Clone, Copy, PartialEq, Eq, Debug)]
+pub struct Rule {
+    pub head: i32,
+    pub needed: [i32; 4],
+    pub barred: [i32; 4],
+}
+
+impl Rule {
+    /// The nine numbers of the rule's row.
+    pub fn row(&self) -> [i32; 9] {
+        let mut row = [self.head; 9];
+        row[1..5].copy_from_slice(&self.needed);
+        row[5..9].copy_from_slice(&self.barred);
+        row
+    }
+
+    /// The rule of a row of nine numbers.
+    pub fn of_row(row: &[i32]) -> Rule {
+        let mut rule = Rule { head: row[0], needed: [0; 4], barred: [0; 4] };
+        rule.needed.copy_from_slice(&row[1..5]);
+        rule.barred.copy_from_slice(&row[5..9]);
+        rule
+    }
+}
+
+/// A book. Exceptions are numbered from 1 in the order of `exceptions`.
+#[derive(Clone, PartialEq, Eq, Debug)]
+pub struct Book {
+    pub statements: i32,
+    pub plain: Vec<Rule>,
+    pub exceptions: Vec<Rule>,
+    pub preferences: Vec<[i32; 2]>,
+}
+
+impl Book {
+    /// The book of so many statements without any rule.
+    pub fn empty(statements: i32) -> Book {
+        Book { statements, plain: Vec::new(), exceptions: Vec::new(), preferences: Vec::new() }
+    }
+
+    /// How many R, X and P lines the book has.
+    pub fn lines(&self) -> usize {
+        self.plain.len() + self.exceptions.len() + self.preferences.len()
+    }
+}
+
+/// A pair: number i is worth 2^(i-1) in each of the three.
+#[derive(Clone, Copy, PartialEq, Eq, Debug)]
+pub struct Pair {
+    pub taken: u64,
+    pub held: u64,
+    pub denied: u64,
+}
+
+/// A refusal of document 01, by number and line.
+#[derive(Clone, Copy, PartialEq, Eq, Debug)]
+pub struct Refusal {
+    pub number: u32,
+    pub line: u64,
+}
+
+/// The refusal with this number, tied to no line.
+pub fn refused(number: u32) -> Refusal {
+    Refusal { number, line: 0 }
+}
+
+/// Document 01's refusals of a pair, 12 to 14, the first that applies.
+pub fn refusal_of_pair(book: &Book, pair: &Pair) -> Option<Refusal> {
+    let past_statements = !0u64 << book.statements;
+    if pair.taken >> book.exceptions.len() != 0 {
+        Some(refused(12))
+    } else if (pair.held | pair.denied) & past_statements != 0 {
+        Some(refused(13))
+    } else if pair.held & pair.denied != 0 {
+        Some(refused(14))
+    } else {
+        None
+    }
+}

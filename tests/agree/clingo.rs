@@ -1,0 +1,174 @@
+//! The views and the resolutions of a book by clingo. tests/ENCODING.md explains how.
+
+use crate::book::*;
+use crate::meaning::{compare_pairs, members, Ranked};
+use crate::process::run;
+use std::fmt::Write;
+
+/// The encodings, which stand beside ENCODING.md.
+const VIEWS: &str = include_str!("../views.lp");
+const LISTING: &str = include_str!("../listing.lp");
+
+/// What is shown of a model: the whole pair, or the exceptions taken.
+const SHOW_PAIR: &str = "#show taken/1. #show held/1. #show -held/1.\n";
+const SHOW_TAKEN: &str = "#show taken/1.\n";
+
+/// The exit status of clingo: as many models as wanted, all models, or none. Any other means that it did not finish.
+const FOUND: i32 = 10;
+const FOUND_ALL: i32 = 30;
+const NONE: i32 = 20;
+
+/// A part of the order of pairs that ends at a pair, or begins after it.
+pub enum Bound<'a> {
+    None,
+    UpTo(&'a Pair),
+    Beyond(&'a Pair),
+}
+
+/// clingo, by the path of its program.
+pub struct Clingo {
+    pub path: String,
+}
+
+/// A signed statement as two arguments.
+fn signed(conclusion: i32) -> String {
+    format!("{}, {}", if conclusion > 0 { "plus" } else { "minus" }, conclusion.abs())
+}
+
+/// The facts of one rule.
+fn rule_facts(facts: &mut String, name: &str, rule: &Rule) {
+    let _ = write!(facts, "rule({name}).");
+    if rule.head == 0 {
+        let _ = write!(facts, " constraint({name}).");
+    } else {
+        let _ = write!(facts, " head({name}, {}).", signed(rule.head));
+    }
+    for (kind, entries) in [("needed", rule.needed), ("barred", rule.barred)] {
+        for entry in entries.iter().filter(|entry| **entry != 0) {
+            let _ = write!(facts, " {kind}({name}, {}).", signed(*entry));
+        }
+    }
+    facts.push('\n');
+}
+
+/// The facts of a book.
+pub fn facts_of(book: &Book) -> String {
+    let mut facts = String::new();
+    for (place, rule) in book.plain.iter().enumerate() {
+        rule_facts(&mut facts, &format!("r({})", place + 1), rule);
+    }
+    for (place, rule) in book.exceptions.iter().enumerate() {
+        rule_facts(&mut facts, &format!("x({})", place + 1), rule);
+        let _ = writeln!(facts, "exception({}).", place + 1);
+    }
+    for order in &book.preferences {
+        let _ = writeln!(facts, "before({}, {}).", order[0], order[1]);
+    }
+    facts
+}
+
+/// The bit of the number in brackets, for an atom that begins so.
+fn bit_of(atom: &str, begins: &str) -> Option<u64> {
+    let number: u32 = atom.strip_prefix(begins)?.strip_suffix(')')?.parse().ok()?;
+    Some(1 << (number - 1))
+}
+
+/// The pair that a model's atoms show.
+fn pair_of(model: &str) -> Result<Pair, String> {
+    let mut pair = Pair { taken: 0, held: 0, denied: 0 };
+    for atom in model.split_whitespace() {
+        let sides = [("taken(", &mut pair.taken), ("held(", &mut pair.held), ("-held(", &mut pair.denied)];
+        let side = sides.into_iter().find_map(|(begins, side)| bit_of(atom, begins).map(|bit| (side, bit)));
+        let (side, bit) = side.ok_or(format!("clingo shows {atom}"))?;
+        *side |= bit;
+    }
+    Ok(pair)
+}
+
+impl Clingo {
+    /// All models, or as many as are wanted (0: all), of a program, as pairs.
+    fn models(&self, program: &str, wanted: usize, project: bool) -> Result<Vec<Pair>, String> {
+        let count = wanted.to_string();
+        let mut arguments = vec!["-V0", "-n", &count, "--time-limit=100"];
+        if project {
+            arguments.push("--project=show");
+        }
+        let (output, status) = run(&self.path, &arguments, program.as_bytes())?;
+        let output = String::from_utf8(output).map_err(|_| "clingo prints no text".to_string())?;
+        let mut lines: Vec<&str> = output.lines().collect();
+        match (lines.pop(), status) {
+            (Some("SATISFIABLE"), FOUND | FOUND_ALL) => lines.into_iter().map(pair_of).collect(),
+            (Some("UNSATISFIABLE"), NONE) if lines.is_empty() => Ok(Vec::new()),
+            (last, status) => Err(format!("clingo ends with {last:?} and status {status}")),
+        }
+    }
+
+    /// All views, in the order of pairs.
+    pub fn views(&self, book: &Book) -> Result<Vec<Pair>, String> {
+        let mut views = self.models(&[VIEWS, SHOW_PAIR, &facts_of(book)].concat(), 0, false)?;
+        views.sort_by(compare_pairs);
+        Ok(views)
+    }
+
+    /// The sets of exceptions that some view has.
+    pub fn viewed(&self, book: &Book) -> Result<Vec<u64>, String> {
+        let sets = self.models(&[VIEWS, SHOW_TAKEN, &facts_of(book)].concat(), 0, true)?;
+        Ok(sets.iter().map(|pair| pair.taken).collect())
+    }
+
+    /// Views with one of the sets, within a bound, in the order of pairs; no more than are wanted (0: all).
+    pub fn listing(&self, book: &Book, sets: &[u64], bound: Bound, wanted: usize) -> Result<Vec<Pair>, String> {
+        if sets.is_empty() {
+            return Ok(Vec::new());
+        }
+        let program =
+            [VIEWS, LISTING, SHOW_PAIR, &facts_of(book), &facts_of_sets(sets), &facts_of_bound(book, sets, bound)];
+        let mut list = self.models(&program.concat(), wanted, false)?;
+        list.sort_by(compare_pairs);
+        Ok(list)
+    }
+
+    /// A few views, whichever clingo comes to first.
+    pub fn some_views(&self, book: &Book, wanted: usize) -> Result<Vec<Pair>, String> {
+        self.models(&[VIEWS, SHOW_PAIR, &facts_of(book)].concat(), wanted, false)
+    }
+
+    /// All resolutions, in the order of pairs.
+    pub fn resolutions(&self, book: &Book) -> Result<Vec<Pair>, String> {
+        let best = Ranked::of(book).best(&self.viewed(book)?);
+        self.listing(book, &best, Bound::None, 0)
+    }
+}
+
+/// The facts of the allowed sets.
+fn facts_of_sets(sets: &[u64]) -> String {
+    let mut facts = String::new();
+    for (place, taken) in sets.iter().enumerate() {
+        let _ = write!(facts, "allowed({}).", place + 1);
+        for number in members(*taken) {
+            let _ = write!(facts, " member({}, {}).", place + 1, number + 1);
+        }
+        facts.push('\n');
+    }
+    facts
+}
+
+/// The facts of a bound, whose own set is one of the sets.
+fn facts_of_bound(book: &Book, sets: &[u64], bound: Bound) -> String {
+    let (pair, side) = match bound {
+        Bound::None => return String::new(),
+        Bound::UpTo(pair) => (pair, "upto"),
+        Bound::Beyond(pair) => (pair, "beyond"),
+    };
+    let place = sets.iter().position(|taken| *taken == pair.taken).map_or(0, |place| place + 1);
+    let mut facts = format!("{side}. last({place}).\n");
+    for statement in 1..=book.statements {
+        let value = match (pair.held >> (statement - 1) & 1, pair.denied >> (statement - 1) & 1) {
+            (1, _) => "plus",
+            (_, 1) => "minus",
+            _ => "absent",
+        };
+        let _ = writeln!(facts, "value({statement}, {value}).");
+    }
+    facts
+}

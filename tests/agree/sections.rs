@@ -1,0 +1,390 @@
+//! The sections of a run: what is compared, how often, and what is printed about it.
+
+use crate::blocks::Blocks;
+use crate::book::{Book, Pair};
+use crate::clingo::Clingo;
+use crate::compare::{Checker, Difference, Known, Outcome};
+use crate::damage;
+use crate::kinds::{small_book, KINDS};
+use crate::large;
+use crate::library::{compare_book, compare_small, judge_all, Outcomes};
+use crate::listing::Walked;
+use crate::loops;
+use crate::meaning::{Meaning, Oracle};
+use crate::own;
+use crate::process::{allow_seconds, MOST_SECONDS};
+use crate::random::Random;
+use crate::report;
+use crate::small_books::{small_books, SEVENTH_LISTING, SEVENTH_TEXT};
+use crate::solved::{self, Solved};
+use crate::text::{read_text, refusal_line, table_of, text_of};
+use crate::tiny;
+use crate::ways::{self, listing_of, Closed};
+use std::fs::File;
+use std::time::Instant;
+
+/// The step from one book of one statement to the next; it is prime, so that none is met twice.
+const STEP: usize = 30_011;
+
+/// How many books or texts each section takes; 0 leaves the section out.
+#[derive(Clone, Copy, Default)]
+pub struct Counts {
+    pub tiny: u64,
+    pub small: u64,
+    pub blocks: u64,
+    pub free: u64,
+    pub full_texts: u64,
+    pub faulty: u64,
+    pub lengths: u64,
+    pub by_clingo: u64,
+    pub large: u64,
+    pub ways: u64,
+}
+
+impl Counts {
+    /// The gate's first part: the library against brute force, and damage.
+    pub fn gate_library() -> Counts {
+        Counts {
+            tiny: 5_000,
+            small: 9_000,
+            blocks: 500,
+            free: 15,
+            full_texts: 1,
+            faulty: 40_000,
+            lengths: 45,
+            ..none()
+        }
+    }
+
+    /// The gate's second part: clingo and `ways`.
+    pub fn gate_solver() -> Counts {
+        Counts { by_clingo: 300, large: 480, ways: 450, ..none() }
+    }
+
+    /// A long run of so many small books.
+    pub fn long(count: u64) -> Counts {
+        let part = |of: u64| (count / of).max(1);
+        Counts { by_clingo: part(50), large: part(100), ways: part(50), ..Counts::library(count) }
+    }
+
+    /// A run of the library alone.
+    pub fn library(count: u64) -> Counts {
+        let part = |of: u64| (count / of).max(1);
+        Counts {
+            tiny: count,
+            small: count,
+            blocks: part(20),
+            free: part(500),
+            full_texts: part(50_000),
+            faulty: count * 2,
+            lengths: part(500),
+            ..none()
+        }
+    }
+
+    /// Larger books by clingo alone.
+    pub fn clingo(count: u64) -> Counts {
+        Counts { by_clingo: count, large: count, ..none() }
+    }
+
+    /// `ways` alone, on so many small books and as many larger ones.
+    pub fn only_ways(count: u64) -> Counts {
+        Counts { ways: count, large: count, ..none() }
+    }
+}
+
+/// No section.
+fn none() -> Counts {
+    Counts::default()
+}
+
+/// A difference, with the section that found it.
+pub struct Failure {
+    pub section: String,
+    pub what: String,
+    pub text: Vec<u8>,
+}
+
+impl Failure {
+    /// What a whole run has failed to show.
+    pub fn of_run(what: String) -> Failure {
+        Failure { section: "the whole run".to_string(), what, text: Vec::new() }
+    }
+}
+
+/// One run of all sections.
+pub struct Run {
+    seed: u64,
+    /// The path of `ways`; without it what needs `ways` is skipped.
+    ways: Option<String>,
+    clingo: Clingo,
+    tiny: Vec<Book>,
+    pub checker: Checker,
+    pub walked: Walked,
+    /// One for each kind of small book, one for books of many parts and one for books of one statement.
+    pub outcomes: Vec<Outcomes>,
+    /// One for each kind of larger book.
+    pub large: Vec<Outcomes>,
+    pub closed: Closed,
+    pub ways_skipped: u64,
+}
+
+/// A difference that a process or a check of this program reports, at a text.
+fn at_text(text: &[u8]) -> impl Fn(String) -> Difference + '_ {
+    move |what| Difference { what, text: text.to_vec() }
+}
+
+impl Run {
+    /// A run from a seed, with the file for the text at hand and the other programs' paths.
+    pub fn new(seed: u64, running: File, ways: Option<String>, clingo: String) -> Run {
+        Run {
+            seed,
+            ways,
+            clingo: Clingo { path: clingo },
+            tiny: tiny::all_books(),
+            checker: Checker::new(running),
+            walked: Walked::default(),
+            outcomes: (0..KINDS.len() + 2).map(|_| Outcomes::default()).collect(),
+            large: (0..large::KINDS.len()).map(|_| Outcomes::default()).collect(),
+            closed: Closed::default(),
+            ways_skipped: 0,
+        }
+    }
+
+    /// All sections, in order.
+    pub fn all(&mut self, counts: &Counts) -> Result<(), Failure> {
+        println!("agree, seed {}", self.seed);
+        self.section("own code against document 01", 1, Run::own_code)?;
+        self.section("small books K1 to K14 and two of source document 000", counts.small.min(1), Run::named_books)?;
+        let tiny = counts.tiny.min(self.tiny.len() as u64);
+        self.section("books of one statement, two R and one X", tiny, Run::tiny)?;
+        self.section("random small books", counts.small, Run::small)?;
+        self.section("books of many parts, to 48 statements", counts.blocks, Run::blocks)?;
+        self.section("free statements, pages to 10,000", counts.free, Run::free)?;
+        self.section("limits and spelling", counts.full_texts, Run::limits)?;
+        self.section("texts and tables with several faults", counts.faulty, Run::faulty)?;
+        self.section("every length of lent buffers", counts.lengths, Run::lengths)?;
+        self.section("full texts and tables, damaged everywhere", counts.full_texts, Run::full_text)?;
+        self.section("brute force against clingo", counts.by_clingo, Run::by_clingo)?;
+        self.section("larger books against clingo, to 48 statements", counts.large, Run::large_books)?;
+        self.section("ways on small books and faulty texts", counts.ways, Run::ways_small)?;
+        self.section("ways on K7, long texts and 9,999 lines", counts.ways.min(1), Run::ways_once)?;
+        report::print(self);
+        report::all_met(self, counts)
+    }
+
+    /// Runs one section for each place below the count, and prints what it did and how long it took.
+    fn section(
+        &mut self,
+        name: &str,
+        count: u64,
+        body: fn(&mut Run, &mut Random, u64) -> Outcome,
+    ) -> Result<(), Failure> {
+        if count == 0 {
+            println!("  {name}: left out");
+            return Ok(());
+        }
+        let begun = Instant::now();
+        for place in 0..count {
+            allow_seconds(MOST_SECONDS);
+            let mut random = Random::of(self.seed, name, place);
+            body(self, &mut random, place).map_err(|difference| Failure {
+                section: format!("{name}, number {place}, seed {}", self.seed),
+                what: difference.what,
+                text: difference.text,
+            })?;
+        }
+        allow_seconds(0);
+        println!("  {name}: {count} in {:.1} s", begun.elapsed().as_secs_f64());
+        Ok(())
+    }
+
+    /// This program's own code on what document 01 states.
+    fn own_code(&mut self, _: &mut Random, _: u64) -> Outcome {
+        own::check().map(|_| ()).map_err(at_text(b""))
+    }
+
+    /// K1 to K14 by the library, every lawful pair judged.
+    fn named_books(&mut self, random: &mut Random, _: u64) -> Outcome {
+        for small in small_books() {
+            let meaning = compare_small(&mut self.checker, random, &small.book, &mut self.walked)?;
+            judge_all(&mut self.checker, &small.book, &meaning)?;
+        }
+        Ok(())
+    }
+
+    /// One book of one statement; as many places as there are such books meet each of them once.
+    fn tiny(&mut self, _: &mut Random, place: u64) -> Outcome {
+        let book = &self.tiny[place as usize * STEP % self.tiny.len()];
+        let meaning = Meaning::of(book);
+        self.outcomes[KINDS.len() + 1].count(book, meaning.resolutions());
+        tiny::compare(&mut self.checker, book, &meaning)
+    }
+
+    /// One random small book, every operation.
+    fn small(&mut self, random: &mut Random, place: u64) -> Outcome {
+        let book = small_book(random, place as usize % KINDS.len());
+        let meaning = compare_small(&mut self.checker, random, &book, &mut self.walked)?;
+        self.outcomes[place as usize % KINDS.len()].count(&book, meaning.resolutions());
+        Ok(())
+    }
+
+    /// One large book of small parts, every operation.
+    fn blocks(&mut self, random: &mut Random, _: u64) -> Outcome {
+        let blocks = Blocks::draw(random);
+        let views: Vec<_> = (0..10).filter_map(|_| blocks.some_view(random)).collect();
+        compare_book(&mut self.checker, random, &blocks.book, &blocks, &views, &mut self.walked)?;
+        self.outcomes[KINDS.len()].count(&blocks.book, blocks.resolutions());
+        Ok(())
+    }
+
+    /// One book of free statements.
+    fn free(&mut self, random: &mut Random, place: u64) -> Outcome {
+        let statements = if place % 3 == 0 { 48 } else { random.between(1, 48) };
+        let book = loops::free_book(random, statements);
+        self.checker.begin(&text_of(&book));
+        loops::compare(random, &book).map(|_| ())
+    }
+
+    /// A full book, damaged at every byte and every number.
+    fn full_text(&mut self, random: &mut Random, _: u64) -> Outcome {
+        let book = damage::full_book(random);
+        let text = text_of(&book);
+        damage::replace_bytes(&mut self.checker, random, &text, 1)?;
+        damage::truncate(&mut self.checker, random, &text)?;
+        damage::move_lines(&mut self.checker, random, &text)?;
+        damage::wrong_counts(&mut self.checker, random, &text)?;
+        damage::replace_numbers(&mut self.checker, random, &table_of(&book), 6)?;
+        damage::every_length(&mut self.checker, random, &book)
+    }
+
+    /// Texts at the limits, and every spelling of fields.
+    fn limits(&mut self, random: &mut Random, _: u64) -> Outcome {
+        damage::limits(&mut self.checker, random)?;
+        damage::spell_fields(&mut self.checker, random)
+    }
+
+    /// One faulty text, one of random bytes and one faulty table.
+    fn faulty(&mut self, random: &mut Random, _: u64) -> Outcome {
+        damage::several_faults(&mut self.checker, random)?;
+        damage::random_bytes(&mut self.checker, random)?;
+        damage::faulty_table(&mut self.checker, random)
+    }
+
+    /// One small book with every length of every lent buffer, and all its lines and numbers damaged.
+    fn lengths(&mut self, random: &mut Random, place: u64) -> Outcome {
+        let book = small_book(random, place as usize % KINDS.len());
+        let text = text_of(&book);
+        damage::every_length(&mut self.checker, random, &book)?;
+        damage::every_page(&mut self.checker, random, &book)?;
+        damage::truncate(&mut self.checker, random, &text)?;
+        damage::move_lines(&mut self.checker, random, &text)?;
+        damage::replace_numbers(&mut self.checker, random, &table_of(&book), usize::MAX)
+    }
+
+    /// The views and the resolutions of one small book, by brute force and by clingo.
+    fn by_clingo(&mut self, random: &mut Random, place: u64) -> Outcome {
+        let book = small_book(random, place as usize % KINDS.len());
+        let text = text_of(&book);
+        let meaning = Meaning::of(&book);
+        let differs = at_text(&text);
+        let mut views = meaning.views.clone();
+        views.sort_by(crate::meaning::compare_pairs);
+        let shown = self.clingo.views(&book).map_err(&differs)?;
+        if shown != views {
+            return Err(differs(format!("views by brute force {views:?}, by clingo {shown:?}")));
+        }
+        let listed = self.clingo.resolutions(&book).map_err(&differs)?;
+        if listed != meaning.resolutions() {
+            return Err(differs(format!(
+                "resolutions by brute force {:?}, by clingo {listed:?}",
+                meaning.resolutions()
+            )));
+        }
+        self.outcomes[place as usize % KINDS.len()].count(&book, &listed);
+        Ok(())
+    }
+
+    /// `ways` on a text, unless it is skipped.
+    fn ways_on(&mut self, text: &[u8], expected: &[u8]) -> Outcome {
+        match &self.ways {
+            Some(path) => ways::compare(path, text, expected, &mut self.closed).map_err(at_text(text)),
+            None => {
+                self.ways_skipped += 1;
+                Ok(())
+            }
+        }
+    }
+
+    /// `ways` on one small book and on one faulty text.
+    fn ways_small(&mut self, random: &mut Random, place: u64) -> Outcome {
+        let book = small_book(random, place as usize % KINDS.len());
+        let text = text_of(&book);
+        self.checker.begin(&text);
+        let meaning = Meaning::of(&book);
+        self.outcomes[place as usize % KINDS.len()].count(&book, meaning.resolutions());
+        self.ways_on(&text, &listing_of(&book, meaning.resolutions(), false))?;
+        let mut faulty = text.clone();
+        let spot = random.below(faulty.len() as u64) as usize;
+        faulty[spot] = random.pick(b"\n\0RXPZ9-+ ");
+        self.ways_refuses(&faulty)
+    }
+
+    /// `ways` on a text, if it is refused.
+    fn ways_refuses(&mut self, text: &[u8]) -> Outcome {
+        match read_text(text) {
+            Err(refusal) => self.ways_on(text, &refusal_line(&refusal)),
+            Ok(_) => Ok(()),
+        }
+    }
+
+    /// `ways` on K7, on texts that are empty or too long, and at the boundary of 9,999 lines.
+    fn ways_once(&mut self, random: &mut Random, _: u64) -> Outcome {
+        self.ways_on(SEVENTH_TEXT.as_bytes(), SEVENTH_LISTING.as_bytes())?;
+        let full = text_of(&damage::full_book(random));
+        let long = |length: usize| full.iter().copied().cycle().take(length - 1).chain([10]).collect::<Vec<u8>>();
+        for text in [vec![], vec![10], vec![b'B'], full[..8_391].to_vec()] {
+            self.ways_refuses(&text)?;
+        }
+        for length in [8_393, 16_784, 70_000, 1_000_000] {
+            self.ways_refuses(&long(length))?;
+        }
+        for less in 0..3 {
+            let book = large::counted(random, less);
+            let listed = self.large_book(random, &book)?;
+            if listed.len() != (10_000 - less).min(solved::MOST) {
+                let what = format!("{} pairs listed of {} resolutions", listed.len(), 10_000 - less);
+                return Err(at_text(&text_of(&book))(what));
+            }
+        }
+        Ok(())
+    }
+
+    /// One larger book of the kind that is next.
+    fn large_books(&mut self, random: &mut Random, place: u64) -> Outcome {
+        let kind = place as usize % large::KINDS.len();
+        let book: Book = large::KINDS[kind].1(random);
+        let listed = self.large_book(random, &book)?;
+        self.large[kind].count(&book, &listed);
+        Ok(())
+    }
+
+    /// A larger book: the listing and the other operations against clingo, then `ways`. Answers the pairs listed.
+    fn large_book(&mut self, random: &mut Random, book: &Book) -> Result<Vec<Pair>, Difference> {
+        let text = text_of(book);
+        let differs = at_text(&text);
+        self.checker.begin(&text);
+        let listing = solved::list(&text).map_err(&differs)?;
+        let solved = Solved::compare(&self.clingo, book, &listing).map_err(&differs)?;
+        let views = solved::some_views(&self.clingo, book).map_err(&differs)?;
+        let read = Ok(book.clone());
+        let known = Known { text: &text, book: &read, oracle: Some(&solved) };
+        if listing.more {
+            solved::compare_beginning(&mut self.checker, random, &known, &views)?;
+        } else {
+            compare_book(&mut self.checker, random, book, &solved, &views, &mut self.walked)?;
+        }
+        self.ways_on(&text, &listing_of(book, &listing.pairs, listing.more))?;
+        Ok(listing.pairs)
+    }
+}

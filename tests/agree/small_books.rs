@@ -1,0 +1,162 @@
+//! The small books K1 to K14 of document 01, with the resolutions and verdicts that it names, and two worked examples
+//! of source document 000, with the views and the answer sets that it names.
+
+use crate::book::{Book, Pair, Rule};
+
+/// A small book: its name, its book, its resolutions in order, verdicts on pairs, and its views where they are named.
+pub struct SmallBook {
+    pub name: &'static str,
+    pub book: Book,
+    pub resolutions: Vec<Pair>,
+    pub verdicts: Vec<(Pair, u32)>,
+    pub views: Vec<Pair>,
+}
+
+/// The number that stands for a set of numbers.
+fn bits(numbers: impl Iterator<Item = i32>) -> u64 {
+    numbers.map(|number| 1 << (number - 1)).sum()
+}
+
+/// The pair (S, T).
+fn pair(s: &[i32], t: &[i32]) -> Pair {
+    let held = bits(s.iter().copied().filter(|conclusion| *conclusion > 0));
+    let denied = bits(s.iter().filter(|conclusion| **conclusion < 0).map(|conclusion| -conclusion));
+    Pair { taken: bits(t.iter().copied()), held, denied }
+}
+
+/// A rule: "head if needed, not barred".
+fn rule(head: i32, needed: &[i32], barred: &[i32]) -> Rule {
+    let mut rule = Rule { head, needed: [0; 4], barred: [0; 4] };
+    rule.needed[..needed.len()].copy_from_slice(needed);
+    rule.barred[..barred.len()].copy_from_slice(barred);
+    rule
+}
+
+/// A constraint: "needed, not barred".
+fn constraint(needed: &[i32], barred: &[i32]) -> Rule {
+    rule(0, needed, barred)
+}
+
+/// One small book.
+fn small(
+    name: &'static str,
+    statements: i32,
+    plain: Vec<Rule>,
+    exceptions: Vec<Rule>,
+    preferences: &[[i32; 2]],
+) -> SmallBook {
+    let book = Book { statements, plain, exceptions, preferences: preferences.to_vec() };
+    SmallBook { name, book, resolutions: Vec::new(), verdicts: Vec::new(), views: Vec::new() }
+}
+
+/// Exceptions 1 to `count`, of which Xi gives +i.
+fn one_each(count: i32) -> Vec<Rule> {
+    (1..=count).map(|number| rule(number, &[], &[])).collect()
+}
+
+impl SmallBook {
+    fn resolves(mut self, resolutions: &[Pair]) -> SmallBook {
+        self.resolutions = resolutions.to_vec();
+        self
+    }
+
+    fn judges(mut self, s: &[i32], t: &[i32], verdict: u32) -> SmallBook {
+        self.verdicts.push((pair(s, t), verdict));
+        self
+    }
+}
+
+/// Program P1 of source document 000, Examples 4 to 7, and P2, Example 8. The statements t, p, s, q are 1 to 4 in P1;
+/// p, s, q are 1 to 3 in P2.
+fn worked_examples() -> Vec<SmallBook> {
+    let exceptions = vec![rule(1, &[], &[]), rule(2, &[4], &[]), rule(3, &[], &[]), rule(4, &[], &[])];
+    let mut first = small("P1 of source document 000", 4, vec![constraint(&[], &[1, 2, 3])], exceptions, &[[1, 3]])
+        .resolves(&[pair(&[1], &[1]), pair(&[2, 4], &[2, 4])])
+        .judges(&[1, 3], &[1, 3], 2)
+        .judges(&[1], &[1, 2], 3)
+        .judges(&[3], &[3], 4)
+        .judges(&[1, 4], &[1, 4], 5);
+    first.views = vec![
+        pair(&[1], &[1]),
+        pair(&[3], &[3]),
+        pair(&[1, 4], &[1, 4]),
+        pair(&[2, 4], &[2, 4]),
+        pair(&[3, 4], &[3, 4]),
+        pair(&[1, 2, 4], &[1, 2, 4]),
+        pair(&[2, 3, 4], &[2, 3, 4]),
+    ];
+    let exceptions = vec![rule(1, &[], &[3]), rule(2, &[], &[])];
+    let mut second = small("P2 of source document 000", 3, vec![constraint(&[], &[1, 2])], exceptions, &[[1, 2]])
+        .resolves(&[pair(&[1], &[1])])
+        .judges(&[2], &[2], 4);
+    second.views = vec![pair(&[1], &[1]), pair(&[2], &[2])];
+    vec![first, second]
+}
+
+/// K7 and K8 share their rules.
+fn seventh(name: &'static str, preferences: &[[i32; 2]]) -> SmallBook {
+    let plain = vec![constraint(&[], &[1, 2]), rule(3, &[1], &[])];
+    small(name, 3, plain, one_each(2), preferences)
+}
+
+/// The fourteen small books, then the two worked examples.
+pub fn small_books() -> Vec<SmallBook> {
+    let mut books = fourteen();
+    books.extend(worked_examples());
+    books
+}
+
+/// K1 to K14.
+fn fourteen() -> Vec<SmallBook> {
+    vec![
+        small("K1", 1, vec![], vec![], &[]).resolves(&[pair(&[], &[])]),
+        small("K2", 1, vec![constraint(&[], &[])], vec![], &[]),
+        small("K3", 2, vec![rule(2, &[], &[-1])], vec![], &[]).resolves(&[pair(&[2], &[])]),
+        small("K4", 2, vec![rule(1, &[], &[2]), rule(2, &[], &[1])], vec![], &[])
+            .resolves(&[pair(&[2], &[]), pair(&[1], &[])]),
+        small("K5", 1, vec![rule(1, &[1], &[])], vec![], &[]).resolves(&[pair(&[], &[])]).judges(&[1], &[], 1),
+        small("K6", 1, vec![rule(1, &[], &[]), rule(-1, &[], &[])], vec![], &[]),
+        seventh("K7", &[]).resolves(&[pair(&[1, 3], &[1]), pair(&[2], &[2])]).judges(&[1, 2, 3], &[1, 2], 5),
+        seventh("K8", &[[1, 2]]).resolves(&[pair(&[1, 3], &[1])]).judges(&[2], &[2], 4).judges(&[1, 2, 3], &[1, 2], 2),
+        small(
+            "K9",
+            4,
+            vec![
+                constraint(&[], &[1, 2]),
+                constraint(&[], &[3, 4]),
+                constraint(&[1, 3], &[]),
+                constraint(&[2, 4], &[]),
+            ],
+            one_each(4),
+            &[[1, 2], [3, 4]],
+        )
+        .judges(&[1, 4], &[1, 4], 4)
+        .judges(&[2, 3], &[2, 3], 4),
+        small("K10", 1, vec![constraint(&[], &[1])], one_each(1), &[[1, 1]]).judges(&[1], &[1], 2),
+        small("K11", 2, vec![constraint(&[], &[1])], vec![rule(1, &[], &[]), rule(2, &[-1], &[])], &[])
+            .resolves(&[pair(&[1], &[1])])
+            .judges(&[1], &[1, 2], 3),
+        small("K12", 1, vec![constraint(&[], &[1])], vec![rule(1, &[], &[]), rule(1, &[], &[])], &[])
+            .resolves(&[pair(&[1], &[1]), pair(&[1], &[2])]),
+        small("K13", 3, vec![constraint(&[], &[1, 3]), constraint(&[2], &[])], one_each(3), &[[1, 2], [2, 3]])
+            .resolves(&[pair(&[1], &[1])]),
+        small("K14", 3, vec![constraint(&[], &[1, 2]), constraint(&[1], &[3])], one_each(3), &[[1, 2]])
+            .resolves(&[pair(&[1, 3], &[1, 3])])
+            .judges(&[2], &[2], 4),
+    ]
+}
+
+/// K7 as document 01 prints it, and what `ways` prints for it.
+pub const SEVENTH_TEXT: &str = "\
+B   1   3
+R   0   0   0   0   0   1   2   0   0
+R   3   1   0   0   0   0   0   0   0
+X   1   0   0   0   0   0   0   0   0
+X   2   0   0   0   0   0   0   0   0
+Z   4
+";
+pub const SEVENTH_LISTING: &str = "\
+A   1   1   0   0   0   0   0   0   0   0   0   0   0+.+
+A   1   2   0   0   0   0   0   0   0   0   0   0   0.+.
+E
+";

@@ -1,0 +1,109 @@
+//! Larger books: the engine's listing, and what else it answers, against clingo.
+
+use crate::book::*;
+use crate::clingo::{Bound, Clingo};
+use crate::compare::{Checker, Known, Outcome};
+use crate::engine;
+use crate::meaning::{compare_pairs, Oracle, Ranked};
+use crate::random::Random;
+use std::cmp::Ordering;
+
+/// The most pairs that are listed; whether there is one more is compared too.
+pub const MOST: usize = 9_999;
+
+/// How many views clingo is asked for, to be judged.
+const JUDGED: usize = 6;
+
+/// The beginning of a listing: its pairs, and whether more remain.
+pub struct Listing {
+    pub pairs: Vec<Pair>,
+    pub more: bool,
+}
+
+/// The engine's listing of an accepted book, by one page with room for one pair more than are kept.
+pub fn list(text: &[u8]) -> Result<Listing, String> {
+    let mut page = vec![0; 3 * (MOST + 1)];
+    let count = engine::first_page(text, &mut page).map_err(|refusal| format!("first page: {refusal:?}"))? as usize;
+    let kept = page[..3 * count.min(MOST)].chunks(3);
+    let pairs: Vec<Pair> = kept.map(|three| Pair { taken: three[0], held: three[1], denied: three[2] }).collect();
+    let out_of_order = pairs.windows(2).position(|two| compare_pairs(&two[0], &two[1]) != Ordering::Less);
+    match out_of_order {
+        Some(place) => Err(format!("first page: pairs {} and {} are not in order", place + 1, place + 2)),
+        None => Ok(Listing { pairs, more: count > MOST }),
+    }
+}
+
+/// What clingo says of a book: its resolutions, up to the most, and the sets of exceptions that some view has.
+pub struct Solved {
+    ranked: Ranked,
+    viewed: Vec<u64>,
+    resolutions: Vec<Pair>,
+}
+
+impl Oracle for Solved {
+    fn resolutions(&self) -> &[Pair] {
+        &self.resolutions
+    }
+
+    fn verdict(&self, pair: &Pair) -> u32 {
+        self.ranked.verdict(&self.viewed, pair)
+    }
+}
+
+impl Solved {
+    /// Compares the engine's listing with clingo's. Answers what clingo says of the book.
+    pub fn compare(clingo: &Clingo, book: &Book, listing: &Listing) -> Result<Solved, String> {
+        let ranked = Ranked::of(book);
+        let viewed = clingo.viewed(book)?;
+        let sets = ranked.best(&viewed);
+        let resolutions = if listing.more {
+            list_beginning(clingo, book, &sets, &listing.pairs)?
+        } else {
+            clingo.listing(book, &sets, Bound::None, listing.pairs.len() + 1)?
+        };
+        same_pairs(&listing.pairs, &resolutions)?;
+        Ok(Solved { ranked, viewed, resolutions })
+    }
+}
+
+/// Where more remain: all resolutions up to the last of the pairs. There must be one beyond it.
+fn list_beginning(clingo: &Clingo, book: &Book, sets: &[u64], pairs: &[Pair]) -> Result<Vec<Pair>, String> {
+    let last = &pairs[MOST - 1];
+    if clingo.listing(book, sets, Bound::Beyond(last), 1)?.is_empty() {
+        return Err("the engine goes on where clingo finds nothing more".to_string());
+    }
+    clingo.listing(book, sets, Bound::UpTo(last), MOST + 1)
+}
+
+/// Tests that two lists of pairs are the same.
+fn same_pairs(listed: &[Pair], expected: &[Pair]) -> Result<(), String> {
+    let length = listed.len().max(expected.len());
+    match (0..length).find(|place| listed.get(*place) != expected.get(*place)) {
+        None => Ok(()),
+        Some(place) => {
+            let (one, other) = (listed.get(place), expected.get(place));
+            Err(format!("first page, pair {}: {one:?}, where clingo has {other:?}", place + 1))
+        }
+    }
+}
+
+/// Views that clingo comes to first.
+pub fn some_views(clingo: &Clingo, book: &Book) -> Result<Vec<Pair>, String> {
+    clingo.some_views(book, JUDGED)
+}
+
+/// Where more remain than were listed: First, After and pages within the listed part, and verdicts.
+pub fn compare_beginning(checker: &mut Checker, random: &mut Random, known: &Known, views: &[Pair]) -> Outcome {
+    let all = known.oracle.expect("the book was solved").resolutions();
+    checker.first(known)?;
+    for _ in 0..4 {
+        let place = random.below(MOST as u64 - 100) as usize;
+        checker.after(known, &all[place])?;
+        checker.page_after(known, &all[place], random.below(300) as usize)?;
+        checker.judge(known, &all[place])?;
+    }
+    for view in views {
+        checker.judge(known, view)?;
+    }
+    Ok(())
+}

@@ -1,0 +1,275 @@
+//! Reading and writing of texts, number tables and A lines, straight from document 01.
+//! Nothing here was taken from the engine.
+
+use crate::book::*;
+
+const LINE_FEED: u8 = 10;
+
+/// Reads a text, or gives the first refusal of 1 to 11 that applies.
+pub fn read_text(text: &[u8]) -> Result<Book, Refusal> {
+    if text.len() > TEXT {
+        return Err(refused(1));
+    }
+    if text.last() != Some(&LINE_FEED) {
+        return Err(refused(2));
+    }
+    let mut book = Book::empty(0);
+    let mut above = 0;
+    let mut number = 0;
+    for line in text[..text.len() - 1].split(|byte| *byte == LINE_FEED) {
+        number += 1;
+        above = read_line(&mut book, above, line).map_err(|refusal| Refusal { number: refusal, line: number })?;
+    }
+    if above != b'Z' {
+        return Err(Refusal { number: 3, line: number + 1 });
+    }
+    Ok(book)
+}
+
+/// Reads one line, given without its line feed, below a line of the letter `above` (0: none).
+/// Answers its letter, or the number of the first refusal that applies.
+fn read_line(book: &mut Book, above: u8, line: &[u8]) -> Result<u8, u32> {
+    let letter = *line.first().ok_or(3u32)?;
+    if !letters_below(above).contains(&letter) {
+        return Err(3);
+    }
+    if line.len() + 1 != bytes_of_line(letter) {
+        return Err(4);
+    }
+    let fields = read_fields(book, letter, &line[1..])?;
+    take_line(book, letter, &fields)?;
+    Ok(letter)
+}
+
+/// The letters that may stand below a line of this letter.
+fn letters_below(above: u8) -> &'static [u8] {
+    match above {
+        0 => b"B",
+        b'B' | b'R' => b"RXPZ",
+        b'X' => b"XPZ",
+        b'P' => b"PZ",
+        _ => b"",
+    }
+}
+
+/// The bytes of a line of this letter, with its line feed.
+fn bytes_of_line(letter: u8) -> usize {
+    match letter {
+        b'B' | b'P' => 10,
+        b'Z' => 6,
+        _ => 38,
+    }
+}
+
+/// Reads the fields from left to right, each tested 5, 7, 6.
+fn read_fields(book: &Book, letter: u8, columns: &[u8]) -> Result<Vec<i32>, u32> {
+    let mut fields = Vec::with_capacity(9);
+    for (place, field) in columns.chunks(4).enumerate() {
+        let value = spelt(field).ok_or(5u32)?;
+        test_field(book, letter, place, value)?;
+        fields.push(value);
+    }
+    Ok(fields)
+}
+
+/// The number that a field of four columns spells, if it spells one.
+pub fn spelt(field: &[u8]) -> Option<i32> {
+    let spaces = field.iter().take_while(|byte| **byte == b' ').count();
+    let minus = usize::from(field.get(spaces) == Some(&b'-'));
+    let digits = &field[spaces + minus..];
+    let first = *digits.first()?;
+    if !digits.iter().all(u8::is_ascii_digit) || (first == b'0' && minus + digits.len() > 1) {
+        return None;
+    }
+    let size = digits.iter().fold(0, |sum, digit| 10 * sum + i32::from(digit - b'0'));
+    Some(if minus == 1 { -size } else { size })
+}
+
+/// Tests one field's value: 7 for the edition, 6 for the others.
+fn test_field(book: &Book, letter: u8, place: usize, value: i32) -> Result<(), u32> {
+    let (low, high) = match (letter, place) {
+        (b'B', 0) => return if value == 1 { Ok(()) } else { Err(7) },
+        (b'B', _) => (1, STATEMENTS),
+        (b'P', _) => (1, EXCEPTIONS as i32),
+        (b'Z', _) => (0, (PLAIN + EXCEPTIONS + PREFERENCES) as i32),
+        _ => (-book.statements, book.statements),
+    };
+    if value < low || value > high {
+        Err(6)
+    } else {
+        Ok(())
+    }
+}
+
+/// Tests the line as a whole, 8 to 11, and takes it into the book.
+fn take_line(book: &mut Book, letter: u8, fields: &[i32]) -> Result<(), u32> {
+    match letter {
+        b'B' => book.statements = fields[1],
+        b'R' => book.plain.push(within(Rule::of_row(fields), book.plain.len(), PLAIN)?),
+        b'X' => {
+            let rule = within(Rule::of_row(fields), book.exceptions.len(), EXCEPTIONS)?;
+            book.exceptions.push(with_head(rule)?);
+        }
+        b'P' => {
+            let order = within([fields[0], fields[1]], book.preferences.len(), PREFERENCES)?;
+            book.preferences.push(of_exceptions(order, book.exceptions.len())?);
+        }
+        _ => return if fields[0] as usize == book.lines() { Ok(()) } else { Err(11) },
+    }
+    Ok(())
+}
+
+/// 8 if the line is one over its limit.
+fn within<T>(line: T, count: usize, limit: usize) -> Result<T, u32> {
+    if count == limit {
+        Err(8)
+    } else {
+        Ok(line)
+    }
+}
+
+/// 9 if an exception has head 0.
+fn with_head(rule: Rule) -> Result<Rule, u32> {
+    if rule.head == 0 {
+        Err(9)
+    } else {
+        Ok(rule)
+    }
+}
+
+/// 10 if a preference names a missing exception.
+fn of_exceptions(order: [i32; 2], exceptions: usize) -> Result<[i32; 2], u32> {
+    if order.iter().any(|number| *number as usize > exceptions) {
+        Err(10)
+    } else {
+        Ok(order)
+    }
+}
+
+/// A line of this letter and these fields.
+pub fn line_of(letter: u8, fields: &[i32]) -> Vec<u8> {
+    let mut line = Vec::with_capacity(64);
+    line.push(letter);
+    for field in fields {
+        put_field(&mut line, *field);
+    }
+    line.push(LINE_FEED);
+    line
+}
+
+/// Adds a field of four columns, the number right-justified after spaces. A longer number gets more columns.
+fn put_field(line: &mut Vec<u8>, field: i32) {
+    let shown = field.to_string();
+    line.extend(std::iter::repeat_n(b' ', 4usize.saturating_sub(shown.len())));
+    line.extend_from_slice(shown.as_bytes());
+}
+
+/// The text of a book.
+pub fn text_of(book: &Book) -> Vec<u8> {
+    let mut text = line_of(b'B', &[1, book.statements]);
+    for rule in &book.plain {
+        text.extend(line_of(b'R', &rule.row()));
+    }
+    for rule in &book.exceptions {
+        text.extend(line_of(b'X', &rule.row()));
+    }
+    for order in &book.preferences {
+        text.extend(line_of(b'P', order));
+    }
+    text.extend(line_of(b'Z', &[book.lines() as i32]));
+    text
+}
+
+/// The number table of a book.
+pub fn table_of(book: &Book) -> Vec<i32> {
+    let mut table = vec![book.statements];
+    table.extend([book.plain.len(), book.exceptions.len(), book.preferences.len()].map(|count| count as i32));
+    for rule in book.plain.iter().chain(&book.exceptions) {
+        table.extend(rule.row());
+    }
+    for order in &book.preferences {
+        table.extend(order);
+    }
+    table
+}
+
+/// Reads a number table, or gives the first refusal that applies.
+pub fn read_table(table: &[i32]) -> Result<Book, Refusal> {
+    if table.len() < 4 {
+        return Err(refused(16));
+    }
+    if table[0] < 1 || table[0] > STATEMENTS {
+        return Err(Refusal { number: 6, line: 1 });
+    }
+    let limits = [PLAIN, EXCEPTIONS, PREFERENCES];
+    if (0..3).any(|place| table[place + 1] < 0 || table[place + 1] > limits[place] as i32) {
+        return Err(Refusal { number: 8, line: 1 });
+    }
+    let [plain, exceptions, preferences] = [1, 2, 3].map(|place| table[place] as usize);
+    if table.len() != 4 + 9 * (plain + exceptions) + 2 * preferences {
+        return Err(refused(16));
+    }
+    let (rules, orders) = table[4..].split_at(9 * (plain + exceptions));
+    let mut book = Book::empty(table[0]);
+    for row in rules.chunks(9) {
+        let exception = book.plain.len() == plain;
+        take_row(&mut book, exception, row)?;
+    }
+    for row in orders.chunks(2) {
+        take_order(&mut book, row)?;
+    }
+    Ok(book)
+}
+
+/// The refusal of the row that would come next in the book's text.
+fn refused_row(book: &Book, number: u32) -> Refusal {
+    Refusal { number, line: book.lines() as u64 + 2 }
+}
+
+/// Tests a row of nine numbers, 6 then 9, and takes it.
+fn take_row(book: &mut Book, exception: bool, row: &[i32]) -> Result<(), Refusal> {
+    if row.iter().any(|value| *value < -book.statements || *value > book.statements) {
+        return Err(refused_row(book, 6));
+    }
+    if exception && row[0] == 0 {
+        return Err(refused_row(book, 9));
+    }
+    let rules = if exception { &mut book.exceptions } else { &mut book.plain };
+    rules.push(Rule::of_row(row));
+    Ok(())
+}
+
+/// Tests a row of two numbers, 6 then 10, and takes it.
+fn take_order(book: &mut Book, row: &[i32]) -> Result<(), Refusal> {
+    if row.iter().any(|value| *value < 1 || *value > EXCEPTIONS as i32) {
+        return Err(refused_row(book, 6));
+    }
+    if row.iter().any(|value| *value as usize > book.exceptions.len()) {
+        return Err(refused_row(book, 10));
+    }
+    book.preferences.push([row[0], row[1]]);
+    Ok(())
+}
+
+/// The A line of a lawful pair.
+pub fn a_line_of(book: &Book, pair: &Pair) -> Vec<u8> {
+    let mut fields: Vec<i32> = (1..=12).filter(|number| pair.taken >> (number - 1) & 1 == 1).collect();
+    fields.insert(0, fields.len() as i32);
+    fields.resize(13, 0);
+    let mut line = line_of(b'A', &fields);
+    line.pop();
+    for statement in 0..book.statements {
+        line.push(match (pair.held >> statement & 1, pair.denied >> statement & 1) {
+            (1, _) => b'+',
+            (_, 1) => b'-',
+            _ => b'.',
+        });
+    }
+    line.push(LINE_FEED);
+    line
+}
+
+/// What `ways` prints for the first refusal of a text.
+pub fn refusal_line(refusal: &Refusal) -> Vec<u8> {
+    line_of(b'F', &[refusal.number as i32, refusal.line as i32])
+}

@@ -1,0 +1,71 @@
+//! Every book of one statement with at most two plain rules, at most one exception and perhaps a preference of it over
+//! itself; the order of the two rules and of a rule's entries aside.
+
+use crate::book::{Book, Rule};
+use crate::compare::{Checker, Known, Outcome};
+use crate::meaning::{Meaning, Oracle};
+use crate::pairs::all_lawful;
+use crate::text::text_of;
+
+/// The sets of entries that a body's half can have.
+const ENTRIES: [[i32; 4]; 4] = [[0, 0, 0, 0], [0, 1, 0, 0], [-1, 0, 0, 0], [0, -1, 0, 1]];
+
+/// Every rule with one of these heads.
+fn rules(heads: &[i32]) -> Vec<Rule> {
+    let mut list = Vec::new();
+    for head in heads {
+        for needed in ENTRIES {
+            for barred in ENTRIES {
+                list.push(Rule { head: *head, needed, barred });
+            }
+        }
+    }
+    list
+}
+
+/// Every list of at most two of the rules, without regard to order.
+fn lists(rules: &[Rule]) -> Vec<Vec<Rule>> {
+    let mut all = vec![Vec::new()];
+    for (place, one) in rules.iter().enumerate() {
+        all.push(vec![*one]);
+        all.extend(rules[place..].iter().map(|other| vec![*one, *other]));
+    }
+    all
+}
+
+/// Every list of at most one exception, with and without the preference.
+fn exceptions() -> Vec<(Vec<Rule>, Vec<[i32; 2]>)> {
+    let mut all = vec![(Vec::new(), Vec::new())];
+    for rule in rules(&[1, -1]) {
+        all.push((vec![rule], Vec::new()));
+        all.push((vec![rule], vec![[1, 1]]));
+    }
+    all
+}
+
+/// Every such book.
+pub fn all_books() -> Vec<Book> {
+    let (lists, exceptions) = (lists(&rules(&[1, -1, 0])), exceptions());
+    let with = |plain: &Vec<Rule>, (exceptions, preferences): &(Vec<Rule>, Vec<[i32; 2]>)| Book {
+        statements: 1,
+        plain: plain.clone(),
+        exceptions: exceptions.clone(),
+        preferences: preferences.clone(),
+    };
+    lists.iter().flat_map(|plain| exceptions.iter().map(move |chosen| with(plain, chosen))).collect()
+}
+
+/// Compares First, a page, After from every lawful pair, and Judge on it.
+pub fn compare(checker: &mut Checker, book: &Book, meaning: &Meaning) -> Outcome {
+    let text = text_of(book);
+    let read = Ok(book.clone());
+    let known = Known { text: &text, book: &read, oracle: Some(meaning) };
+    checker.begin(&text);
+    checker.first(&known)?;
+    checker.first_page(&known, 3 * meaning.resolutions().len() + 3)?;
+    for pair in all_lawful(book) {
+        checker.judge(&known, &pair)?;
+        checker.after(&known, &pair)?;
+    }
+    Ok(())
+}

@@ -1,0 +1,189 @@
+/* The engine's library with a deliberate fault, to show that the test program can fail.
+ *
+ * The Makefile renames the library's functions from bantameasel_ to true_; the functions here stand in their place.
+ * They give the true answers, but for the fault that the environment variable FAULT names. */
+#include <stdlib.h>
+#include <string.h>
+
+#define bantameasel_read true_read
+#define bantameasel_write true_write
+#define bantameasel_judge true_judge
+#define bantameasel_first true_first
+#define bantameasel_after true_after
+#define bantameasel_line true_line
+#define bantameasel_first_page true_first_page
+#define bantameasel_page_after true_page_after
+#include "bantameasel.h"
+#undef bantameasel_read
+#undef bantameasel_write
+#undef bantameasel_judge
+#undef bantameasel_first
+#undef bantameasel_after
+#undef bantameasel_line
+#undef bantameasel_first_page
+#undef bantameasel_page_after
+
+enum { MOST_TEXT = 8392, MOST_TABLE = 1976, ROW = 9 };
+
+static int fault(const char *name) {
+    const char *asked = getenv("FAULT");
+    return asked != NULL && strcmp(asked, name) == 0;
+}
+
+/* ---- meaning: the book that a faulty reader of rules would see */
+
+static void change_row(int32_t *row) {
+    if (fault("barred -i is read as needed +i") && row[5] < 0 && row[1] == 0) row[1] = -row[5], row[5] = 0;
+    if (fault("the fourth needed entry is lost")) row[4] = 0;
+    if (fault("the fourth barred entry is lost")) row[8] = 0;
+    if (fault("statement 48 is never held") && row[0] == 48) row[1] = 48;
+    if (fault("constraints are not looked at") && row[0] == 0) row[1] = row[5] = 1;
+}
+
+/* Changes the table of a book, and answers how long it is then. */
+static size_t change_table(int32_t *table, size_t length) {
+    int32_t rules = table[1] + table[2], *orders = table + 4 + ROW * rules;
+    for (int32_t number = 0; number < rules; number++) change_row(table + 4 + ROW * number);
+    int32_t *last = table + 4 + ROW * 199;
+    if (fault("the rule past the 199th is lost") && table[1] == 200) last[0] = last[1] = 1;
+    if (fault("the last preference is lost") && table[3] > 0) table[3]--, length -= 2;
+    if (fault("the twelfth exception is never taken") && table[2] == 12 && table[3] > 0) orders[0] = orders[1] = 12;
+    return length;
+}
+
+typedef struct {
+    uint8_t bytes[MOST_TEXT];
+    size_t length;
+} text_of_book;
+
+/* The text that is searched in the place of the one that was handed in. */
+static const uint8_t *changed(const uint8_t *text, size_t *length) {
+    static text_of_book other;
+    int32_t table[MOST_TABLE];
+    bantameasel_book read = true_read(text, *length, table, MOST_TABLE);
+    if (getenv("FAULT") == NULL || read.refusal != 0) return text;
+    size_t numbers = 4 + ROW * (read.plain + read.exceptions) + 2 * read.preferences;
+    other.length = true_write(table, change_table(table, numbers), other.bytes, MOST_TEXT).length;
+    *length = other.length;
+    return other.bytes;
+}
+
+/* ---- refusals */
+
+/* The refusal that is given in the place of the true one. */
+static void change_refusal(uint32_t *number, uint64_t *line, const uint8_t *text, size_t length) {
+    if (fault("lines are counted from 0") && *line > 0) --*line;
+    if (fault("2 comes before 1") && *number == 1 && text[length - 1] != '\n') *number = 2;
+    if (fault("3 comes after 4") && *number == 3 && *line == 1 && length < 10) *number = 4;
+    if (fault("7 comes after 6") && *number == 7 && memcmp(text + 5, "  49", 4) == 0) *number = 6;
+}
+
+static void change_pair_refusal(uint32_t *number, uint64_t held, uint64_t denied) {
+    if (fault("13 comes before 12") && *number == 12 && ((held | denied) >> 48) != 0) *number = 13;
+    if (fault("14 is not looked for") && *number == 14) *number = 0;
+}
+
+/* ---- the operations */
+
+bantameasel_book bantameasel_read(const uint8_t *text, size_t text_length, int32_t *table, size_t table_length) {
+    if (fault("a text may be one byte longer") && text_length == MOST_TEXT + 1) text_length--;
+    if (fault("a text is written") && text_length > 9) ((uint8_t *)text)[9] ^= 1;
+    bantameasel_book answer = true_read(text, text_length, table, table_length);
+    size_t numbers = 4 + ROW * (answer.plain + answer.exceptions) + 2 * answer.preferences;
+    if (fault("Read writes before a refusal") && answer.refusal != 0 && table_length > 0) table[0] ^= 1;
+    if (fault("Read writes past the table") && answer.refusal == 0 && table_length > numbers) table[numbers] ^= 1;
+    if (fault("Read writes past the lent slice") && answer.refusal == 15) table[table_length] ^= 1;
+    if (fault("Read miscounts") && answer.plain > 0) answer.plain--;
+    if (fault("a count stands beside a refusal") && answer.refusal != 0) answer.plain = 1;
+    change_refusal(&answer.refusal, &answer.line, text, text_length);
+    return answer;
+}
+
+bantameasel_length bantameasel_write(const int32_t *table, size_t table_length, uint8_t *text, size_t text_length) {
+    bantameasel_length answer = true_write(table, table_length, text, text_length);
+    if (fault("Write writes before a refusal") && answer.refusal != 0 && text_length > 0) text[0] ^= 1;
+    if (fault("Write writes past the text") && answer.refusal == 0 && text_length > answer.length)
+        text[answer.length] = 0;
+    if (fault("Write leaves a byte out") && answer.refusal == 0) text[answer.length - 1] ^= 1;
+    if (fault("rows of tables are counted from 1") && answer.line > 1) answer.line--;
+    if (fault("16 comes before 8") && answer.refusal == 8) answer.refusal = 16, answer.line = 0;
+    return answer;
+}
+
+bantameasel_verdict bantameasel_judge(const uint8_t *text, size_t length, uint64_t taken, uint64_t held,
+                                      uint64_t denied) {
+    const uint8_t *searched = changed(text, &length);
+    bantameasel_verdict answer = true_judge(searched, length, taken, held, denied);
+    if (fault("every pair has verdict 1") && answer.refusal == 0) answer.verdict = 1;
+    if (fault("verdict 2 is given after 3") && answer.verdict == 2) answer.verdict = 3;
+    if (fault("verdict 4 is never given") && answer.verdict == 4) answer.verdict = 0;
+    if (fault("verdict 5 is never given") && answer.verdict == 5) answer.verdict = 0;
+    change_pair_refusal(&answer.refusal, held, denied);
+    return answer;
+}
+
+bantameasel_answer bantameasel_first(const uint8_t *text, size_t length) {
+    const uint8_t *searched = changed(text, &length);
+    bantameasel_answer answer = true_first(searched, length);
+    if (fault("First answers End")) answer = (bantameasel_answer){0};
+    if (fault("First finds a pair where there is none") && answer.refusal == 0) answer.found = 1;
+    change_refusal(&answer.refusal, &answer.line, text, length);
+    return answer;
+}
+
+bantameasel_answer bantameasel_after(const uint8_t *text, size_t length, uint64_t taken, uint64_t held,
+                                     uint64_t denied) {
+    static int moved;
+    const uint8_t *searched = changed(text, &length);
+    bantameasel_answer answer = true_after(searched, length, taken, held, denied);
+    int over = fault("After passes one over") || (fault("a refused call moves the point") && moved);
+    if (over && answer.found) answer = true_after(searched, length, answer.taken, answer.held, answer.denied);
+    moved = answer.refusal != 0;
+    if (fault("After repeats its point") && answer.refusal == 0 &&
+        true_judge(searched, length, taken, held, denied).verdict == 0)
+        answer.found = 1, answer.taken = taken, answer.held = held, answer.denied = denied;
+    change_pair_refusal(&answer.refusal, held, denied);
+    return answer;
+}
+
+bantameasel_length bantameasel_line(const uint8_t *text, size_t length, uint64_t taken, uint64_t held, uint64_t denied,
+                                    uint8_t *line, size_t line_length) {
+    int swapped = fault("Line's signs are swapped");
+    bantameasel_length answer =
+        true_line(text, length, taken, swapped ? denied : held, swapped ? held : denied, line, line_length);
+    if (fault("Line writes before a refusal") && answer.refusal != 0 && line_length > 0) line[0] = 'A' ^ line[0];
+    if (fault("Line writes past the line") && answer.refusal == 0 && line_length > answer.length)
+        line[answer.length] ^= 1;
+    if (fault("Line's count is invented") && answer.refusal == 0) line[4] = '7';
+    return answer;
+}
+
+/* A page that is at fault, once the true one stands in the slice. */
+static void change_page(bantameasel_page *page, uint64_t *pairs, size_t length) {
+    if (fault("a page is one short") && page->count > 0 && page->count == length / 3) page->count--;
+    if (fault("a page stops at 300") && page->count > 300) page->count = 300;
+    if (fault("a page writes past its pairs") && page->refusal == 0 && 3 * page->count < length)
+        pairs[3 * page->count]++;
+    if (fault("a page has two pairs in the wrong order") && page->count > 1) {
+        uint64_t first[3];
+        memcpy(first, pairs, sizeof first);
+        memmove(pairs, pairs + 3, sizeof first);
+        memcpy(pairs + 3, first, sizeof first);
+    }
+}
+
+bantameasel_page bantameasel_first_page(const uint8_t *text, size_t length, uint64_t *pairs, size_t pairs_length) {
+    const uint8_t *searched = changed(text, &length);
+    bantameasel_page answer = true_first_page(searched, length, pairs, pairs_length);
+    change_page(&answer, pairs, pairs_length);
+    return answer;
+}
+
+bantameasel_page bantameasel_page_after(const uint8_t *text, size_t length, uint64_t taken, uint64_t held,
+                                        uint64_t denied, uint64_t *pairs, size_t pairs_length) {
+    const uint8_t *searched = changed(text, &length);
+    bantameasel_page answer = true_page_after(searched, length, taken, held, denied, pairs, pairs_length);
+    change_page(&answer, pairs, pairs_length);
+    change_pair_refusal(&answer.refusal, held, denied);
+    return answer;
+}
