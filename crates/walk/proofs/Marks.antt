@@ -5,7 +5,7 @@ use mathlib.Core.List.{List}
 use mathlib.Core.Logic.{_⊎_, inl, inr, ⊎-elim}
 use Prim.Native.Nat.{ℕ, _+_, _<_, _≤_, max}
 use native.Mathlib.Omega.{arith}
-use lib.Bits.{bitAnd, bitOr}
+use lib.Bits.{bitAnd, bitOr, or-add-and, and-le-r}
 use lib.Dec.{eqb}
 use lib.ListN.{length, getD, set}
 use lib.Seq.{getD-set-other}
@@ -75,3 +75,7 @@ module _ (ranks : List ℕ) (taken : ℕ) where
 
   pub upto-all : (k r : ℕ) → k ≤ length ranks → Upto ranks taken k r → Outranked ranks taken r
   upto-all k r h u = record { by = λ c d. let x = u .by c d in record { upper = x .0; ranked = omega (arith, x .1); taken-has = x .2; outranks = x .3 } }
+
+-- The next set with all of lo comes later.
+pub set-after : (t lo : ℕ) → t < bitOr (t + 1) lo
+set-after t lo = let a = or-add-and (t + 1) lo in let b = and-le-r (t + 1) lo in omega arith

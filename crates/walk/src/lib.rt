@@ -56,6 +56,17 @@ pub fn mark_one(marks: &mut Marks, s: Strike, t: usize)
     marks[t] = 1;
 }
 
+// The next set after t that may be one to mark: where no member is asked for, the next one that has all of lo.
+pub fn next_set(s: Strike, t: usize) -> usize
+    requires { ⌜ t < sets ⌝ }
+    ensures { λ r. ⌜ t < r ⌝ }
+{
+    if s.any != 0 {
+        return t + 1;
+    }
+    (t + 1) | (s.lo as usize)
+}
+
 // Marks every set that is one to mark.
 pub fn mark(marks: &mut Marks, s: Strike)
     ensures { λ _. ⌜ Marked (now (marks .entry)) s (now (marks .exit)) ⌝ }
@@ -63,7 +74,7 @@ pub fn mark(marks: &mut Marks, s: Strike)
     let mut t: usize = 0;
     while t < Book::SETS {
         mark_one(marks, s, t);
-        t += 1;
+        t = next_set(s, t);
     }
 }
 

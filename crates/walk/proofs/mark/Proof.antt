@@ -19,14 +19,14 @@ loop-holds c = marked-none _ _
 mark-one-requires : tie.Need-mark-one-requires Inv-loop μ-loop
 mark-one-requires c κs = omega arith
 
-add-t : tie.Need-add-t Inv-loop μ-loop
-add-t c = search needs
+next-set-requires : tie.Need-next-set-requires Inv-loop μ-loop
+next-set-requires c κs = search needs
 
 loop-less : tie.Need-loop-less Inv-loop μ-loop
-loop-less c = omega arith
+loop-less c = omega (arith, c .next-set .ensures)
 
 loop-again : tie.Need-loop-again Inv-loop μ-loop
-loop-again c = marked-more _ _ _ _ (c .before .before .before .loop .inv) (c .mark-one .ensures)
+loop-again c = marked-more _ _ _ _ (c .before .before .before .before .loop .inv) (c .before .mark-one .ensures)
 
 returns : tie.Need-returns Inv-loop μ-loop
 returns c = c .before .loop .inv
@@ -34,4 +34,4 @@ returns c = c .before .loop .inv
 pub mark-spec : {M : Type 1} → statement M
 mark-spec =
     tie.close
-    (tie.spec Inv-loop μ-loop loop-holds mark-one-requires add-t loop-less loop-again returns)
+    (tie.spec Inv-loop μ-loop loop-holds mark-one-requires next-set-requires loop-less loop-again returns)
