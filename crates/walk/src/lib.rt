@@ -187,15 +187,20 @@ pub struct Admission {
     pub credit: u64,
 }
 
-// What is left to spend after a range was marked: marking is worth while where ranges are wide.
-pub fn spent(s: Range, credit: u64) -> u64 {
+// What is left to spend after a range around t was marked: marking is worth while where ranges are wide, and hardly where no set of theirs
+// has more than t.
+pub fn spent(s: Range, t: u64, credit: u64) -> u64 {
+    let mut cost = 0;
     if u64::count_ones(s.lo ^ s.hi) < 4 {
-        if credit == 0 {
-            return 0;
-        }
-        return credit - 1;
+        cost = 1;
     }
-    credit
+    if s.hi == t {
+        cost = 16;
+    }
+    if credit < cost {
+        return 0;
+    }
+    credit - cost
 }
 
 // Marks a range of sets around t, which has no view.
@@ -225,7 +230,7 @@ pub fn mark_around(
             any: 0,
         },
     );
-    spent(s, credit)
+    spent(s, t, credit)
 }
 
 // Whether a resolution can have the set t, of which a view may be found. A view that is found marks the sets that it surpasses.
