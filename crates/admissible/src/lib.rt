@@ -3,6 +3,7 @@ ghost use mathlib.Core.Path.{_≡_};
 ghost use Prim.Native.Nat.{_*_, _<_, _≤_};
 ghost use lib.ListN.{length};
 ghost use Rattle.logic.specs.Tests.{Decides};
+ghost use Rattle.queue.specs.Chains.{Chains};
 ghost use Rattle.admissible.specs.Admissible.{belowOf, Minimal, MinimalAt, Undominated, UndominatedAt, Admissible};
 use masks::Bounds;
 use probe::Answer;
@@ -36,7 +37,7 @@ pub fn minimal_at(
     taken: u64,
     e: u64,
 ) -> bool
-    requires { ⌜ (n * 8 ≤ length (now words)) × (length (now ranks) ≤ 64) × (e < 64) ⌝ }
+    requires { ⌜ (n * 8 ≤ length (now words)) × (length (now ranks) ≤ 64) × (e < 64) × Chains (now words) n (now index) ⌝ }
     ensures { λ r. ⌜ Decides r (MinimalAt (now (words .entry)) n (now (ranks .entry)) root taken e) ⌝ }
 {
     if (taken >> e) % 2 == 0 {
@@ -60,7 +61,7 @@ pub fn minimal(
     root: Bounds,
     taken: u64,
 ) -> bool
-    requires { ⌜ (n * 8 ≤ length (now words)) × (length (now ranks) ≤ 64) ⌝ }
+    requires { ⌜ (n * 8 ≤ length (now words)) × (length (now ranks) ≤ 64) × Chains (now words) n (now index) ⌝ }
     ensures { λ r. ⌜ Decides r (Minimal (now (words .entry)) n (now (ranks .entry)) root taken) ⌝ }
 {
     let mut e: u64 = 0;
@@ -84,7 +85,7 @@ pub fn undominated_at(
     rank: u64,
     a: u64,
 ) -> bool
-    requires { ⌜ (n * 8 ≤ length (now words)) × (length (now ranks) ≤ 64) × (a < 64) ⌝ }
+    requires { ⌜ (n * 8 ≤ length (now words)) × (length (now ranks) ≤ 64) × (a < 64) × Chains (now words) n (now index) ⌝ }
     ensures { λ r. ⌜ Decides r (UndominatedAt (now (words .entry)) n (now (ranks .entry)) root taken rank a) ⌝ }
 {
     if rank & taken == 0 {
@@ -108,7 +109,7 @@ pub fn undominated(
     root: Bounds,
     taken: u64,
 ) -> bool
-    requires { ⌜ (n * 8 ≤ length (now words)) × (length (now ranks) ≤ 64) ⌝ }
+    requires { ⌜ (n * 8 ≤ length (now words)) × (length (now ranks) ≤ 64) × Chains (now words) n (now index) ⌝ }
     ensures { λ r. ⌜ Decides r (Undominated (now (words .entry)) n (now (ranks .entry)) root taken) ⌝ }
 {
     let mut a = 0;
@@ -130,7 +131,7 @@ pub fn admissible(
     root: Bounds,
     taken: u64,
 ) -> bool
-    requires { ⌜ (n * 8 ≤ length (now words)) × (length (now ranks) ≤ 64) ⌝ }
+    requires { ⌜ (n * 8 ≤ length (now words)) × (length (now ranks) ≤ 64) × Chains (now words) n (now index) ⌝ }
     ensures { λ r. ⌜ Decides r (Admissible (now (words .entry)) n (now (ranks .entry)) root taken) ⌝ }
 {
     if !minimal(words, n, ranks, index, root, taken) {

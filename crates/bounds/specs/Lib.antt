@@ -1,3 +1,2 @@
 pub mod Singles
 pub mod Sound
-pub mod Supports

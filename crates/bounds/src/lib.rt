@@ -5,7 +5,6 @@ ghost use lib.ListN.{length};
 ghost use Rattle.masks.specs.Views.{Meets};
 ghost use Rattle.bounds.specs.Singles.{oneOf, Place, Picked};
 ghost use Rattle.bounds.specs.Sound.{Keeps, Firing, Idle, Coherent, Levelled, LevelledAt, Ruled, intoOf, outOf, narrowOf};
-ghost use Rattle.bounds.specs.Supports.{Scanned, Saw, Backed};
 use masks::Bounds;
 use masks::Masks;
 use sets::Pair;
@@ -170,13 +169,10 @@ pub fn falsified(r: Masks, b: Bounds) -> Bounds
     b
 }
 
-// What one rule says: its body surely fails, surely holds, or must not hold.
+// What a rule says whose body may hold: it surely holds, or must not hold.
 pub fn step(r: Masks, b: Bounds) -> Bounds
     ensures { λ o. ⌜ Keeps (Meets r) b o ⌝ }
 {
-    if !masks::fires(r, b.lo, b.hi) {
-        return untaken(r, b);
-    }
     if r.need.taken & b.lo.taken != 0 {
         return forced(r, b);
     }
@@ -237,95 +233,6 @@ pub fn levels(ranks: &[u64], b: Bounds) -> Bounds
     while a < ranks.len() {
         o = level_step(ranks[a], a as u64, o);
         a += 1;
-    }
-    o
-}
-
-// Heads of the rules that can fire within bounds: of one at least, of two at least, of one that need not fire.
-pub struct Heads {
-    pub once: Pair,
-    pub twice: Pair,
-    pub unsure: Pair,
-}
-
-// The conclusions x with the rule's head, unless the rule surely fires.
-pub fn with_unsure(r: Masks, b: Bounds, x: Pair) -> Pair {
-    if masks::fires(r, b.hi, b.lo) {
-        return x;
-    }
-    sets::join(x, r.head)
-}
-
-// The heads s with that of one more rule.
-pub fn see(r: Masks, b: Bounds, s: Heads) -> Heads
-    ensures { λ t. ⌜ Saw r b s t ⌝ }
-{
-    if masks::fires(r, b.lo, b.hi) {
-        return Heads {
-            once: sets::join(s.once, r.head),
-            twice: sets::join(s.twice, sets::meet(s.once, r.head)),
-            unsure: with_unsure(r, b, s.unsure),
-        };
-    }
-    s
-}
-
-// The heads of the rules that can fire.
-pub fn scan(words: &[u64], n: usize, b: Bounds) -> Heads
-    requires { ⌜ n * 8 ≤ length (now words) ⌝ }
-    ensures { λ s. ⌜ Scanned (now (words .entry)) n b s ⌝ }
-{
-    let none = Pair {
-        taken: 0,
-        held: 0,
-        denied: 0,
-    };
-    let mut s = Heads {
-        once: none,
-        twice: none,
-        unsure: none,
-    };
-    let mut k = 0;
-    while k < n {
-        s = see(masks::masks_at(words, k), b, s);
-        k += 1;
-    }
-    s
-}
-
-// The rule fires if it can and has a conclusion of `sole` for its head.
-pub fn back(r: Masks, b: Bounds, sole: Pair, o: Bounds) -> Bounds
-    ensures { λ p. ⌜ Keeps (Backed r b sole) o p ⌝ }
-{
-    if masks::fires(r, b.lo, b.hi) {
-        if sets::apart(r.head, sole) {
-            return o;
-        }
-        return forced(r, o);
-    }
-    o
-}
-
-// A conclusion that no rule can give is out; where one rule alone can give a sure conclusion, that rule fires. (d), (B2)
-pub fn support(words: &[u64], n: usize, b: Bounds) -> Bounds
-    requires { ⌜ n * 8 ≤ length (now words) ⌝ }
-    ensures { λ o. ⌜ Keeps (Ruled (now (words .entry)) n) b o ⌝ }
-{
-    let s = scan(words, n, b);
-    let possible = Pair {
-        taken: 0,
-        held: b.hi.held,
-        denied: b.hi.denied,
-    };
-    let sole = sets::minus(b.lo, s.twice);
-    let mut o = out(b, sets::minus(possible, s.once));
-    if sets::apart(sole, s.unsure) {
-        return o;
-    }
-    let mut k = 0;
-    while k < n {
-        o = back(masks::masks_at(words, k), b, sole, o);
-        k += 1;
     }
     o
 }

@@ -1,8 +1,9 @@
 // A prepared book: the verdict on a pair, and the pages of its resolutions.
 ghost use mathlib.Core.Path.{_≡_};
-ghost use Prim.Native.Nat.{_<_};
+ghost use Prim.Native.Nat.{_+_, _<_};
 ghost use Rattle.book.specs.Kinds.{sets as setsOf};
 ghost use Rattle.meaning.specs.Order.{start, at as atPair};
+ghost use Rattle.queue.specs.Chains.{Chains};
 ghost use Rattle.engine.specs.Loaded.{Small, RootIs, VerdictIs, PageIs};
 use book::Book;
 use book::Shape;
@@ -20,12 +21,13 @@ pub type Ranks = [u64; Book::EXCEPTIONS];
 
 // The bounds of the book's views, where every search begins.
 pub fn root_of(words: &Words, ranks: &Ranks, index: &Index, s: Shape) -> Bounds
-    requires { ⌜ Small s ⌝ }
+    requires { ⌜ Small s × Chains (now words) (s .plain + s .exceptions) (now index) ⌝ }
     ensures { λ r. ⌜ RootIs s (now (words .entry)) (now (ranks .entry)) r ⌝ }
 {
     let n = s.plain + s.exceptions;
     let b = prepare::root(s);
-    queue::propagate(words, n, ranks, index, waiting::everything(), b)
+    let rest = queue::propagate(words, n, ranks, index, waiting::all(), b);
+    rest.bounds
 }
 
 // The verdict on a lawful pair of a prepared book.
@@ -34,7 +36,7 @@ pub fn verdict_in(words: &Words, ranks: &Ranks, s: Shape, p: Pair) -> u32
     ensures { λ r. ⌜ VerdictIs s (now (words .entry)) (now (ranks .entry)) p r ⌝ }
 {
     let n = s.plain + s.exceptions;
-    let mut index = [0u64; 769];
+    let mut index = [0u64; index::LENGTH];
     index::fill(words, n, &mut index);
     let root = root_of(words, ranks, &index, s);
     judge::verdict(words, n, ranks, &index, root, p)
@@ -46,7 +48,7 @@ pub fn first_in(words: &Words, ranks: &Ranks, s: Shape, out: &mut [u64]) -> usiz
     ensures { λ r. ⌜ PageIs s (now (words .entry)) (now (ranks .entry)) start (now (out .entry)) (now (out .exit)) r ⌝ }
 {
     let rules = s.plain + s.exceptions;
-    let mut index = [0u64; 769];
+    let mut index = [0u64; index::LENGTH];
     index::fill(words, rules, &mut index);
     let root = root_of(words, ranks, &index, s);
     let task = Task {
@@ -68,7 +70,7 @@ pub fn after_in(words: &Words, ranks: &Ranks, s: Shape, p: Pair, out: &mut [u64]
     ensures { λ r. ⌜ PageIs s (now (words .entry)) (now (ranks .entry)) (atPair p) (now (out .entry)) (now (out .exit)) r ⌝ }
 {
     let rules = s.plain + s.exceptions;
-    let mut index = [0u64; 769];
+    let mut index = [0u64; index::LENGTH];
     index::fill(words, rules, &mut index);
     let root = root_of(words, ranks, &index, s);
     let task = Task {

@@ -12,7 +12,7 @@ use Rattle.sets.specs.declared.Pair.{Pair}
 use Rattle.sets.specs.Sets.{Within}
 use Rattle.sets.specs.Pairs.{Sub, joinOf, meetOf}
 use Rattle.sets.proofs.Words.{none-sub}
-use Rattle.sets.proofs.Pairs.{sub-refl, sub-trans, join-sub, join-l, join-r}
+use Rattle.sets.proofs.Pairs.{sub-refl, sub-trans, join-sub, join-l, join-r, meet-r}
 use Rattle.masks.specs.declared.Masks.{Masks}
 use Rattle.masks.specs.declared.Bounds.{Bounds}
 use Rattle.masks.specs.Views.{masksAt, Fires}
@@ -56,6 +56,10 @@ Below ws n b c = (t : Pair) → Within (b .hi .taken) (t .taken) → Stable ws n
 
 pub first-below : (ws : List ℕ) (n : ℕ) (b : Bounds) → Below ws n b (record { taken = b .hi .taken; held = 0; denied = 0 })
 first-below ws n b t f g = record { held = none-sub (t .held); denied = none-sub (t .denied); taken = f }
+
+-- Nothing is left to add.
+pub closure-full : (ws : List ℕ) (n : ℕ) (b : Bounds) (c : Pair) (w : Bool) → Decides w (c ≡ b .hi) → w ≡ true → Within (b .hi .taken) (c .taken) → Below ws n b c → Closure ws n b c
+closure-full ws n b c w q e s f = record { start = s; stable = λ k l x. rw (q .yes e) (meet-r _ _); least = f }
 
 module _ (ws : List ℕ) (n : ℕ) (b : Bounds) (c d : Pair) (p : Passed ws n b c d) where
   pub next-start : Within (b .hi .taken) (c .taken) → Within (b .hi .taken) (d .taken)

@@ -91,6 +91,9 @@ pub fn closure(words: &[u64], n: usize, b: Bounds) -> Pair
         denied: 0,
     };
     loop {
+        if sets::same(c, b.hi) {
+            return c;
+        }
         let d = pass(words, n, b, c);
         if sets::same(d, c) {
             break;

@@ -21,11 +21,12 @@ use Rattle.masks.proofs.Booleans.{refused}
 use Rattle.bounds.specs.Sound.{Keeps}
 use Rattle.meaning.specs.Order.{value}
 use Rattle.meaning.specs.Twins.Tables.{differsFrom}
+use Rattle.queue.specs.declared.waiting.Waiting.{Waiting}
 use Rattle.page.specs.declared.Task.{Task}
 use Rattle.page.specs.declared.Node.{Node}
 use Rattle.page.specs.declared.Branch.the-variants.{Cut, Open}
 use Rattle.page.specs.Orders.{given, allFrom, passes, listFrom}
-use Rattle.page.specs.Pages.{ViewGiving, Covers, branchFrom, BranchReady, Branched}
+use Rattle.page.specs.Pages.{ViewGiving, Barren, Covers, branchFrom, BranchReady, Branched}
 use Rattle.page.proofs.Orders.{all-value, among-tried}
 use Rattle.page.proofs.General.{both-false, keep-none, keep-same}
 
@@ -104,18 +105,21 @@ module _ (ws ranks : List ℕ) (q : Task) (left w : ℕ) (d : Node) (rd : Branch
             (rd .covers .kept v k (among-tried (λ p. allFrom (q .statements) left p) (d .pair) (q .statements - left) w v (rd .value) m));
       }
 
-      pub branch-clash : (z : Bool) → Decides z (Sub (b .lo) (b .hi)) → not z ≡ true → Branched ws ranks q left w d Cut
+      pub branch-barren : Barren ws (q .rules) ranks b → Branched ws ranks q left w d Cut
       unfolding passes
-      branch-clash z dz ez = record {
+      branch-barren n = record {
         cut = λ y g tg. keep-none (passes g (q .statements) (q .point) (suc left) (d .equal)) (branchFrom q left w d)
-            (λ v m. rw (fails (tg .right v m) (λ k. let x = branch-covers .kept v k m in refused dz ez (sub-trans (x .lo) (x .hi)))) (both-false _));
+            (λ v m. rw (fails (tg .right v m) (λ k. n .none v k (branch-covers .kept v k m))) (both-false _));
         opened = λ c y. absurd (let x : _≡_ {A = ℕ} 0 1 = cc in omega arith);
       }
 
-      pub branch-open : (e : Bool) (p : Pair) → e ≡ both (d .equal) (eqb w own) → p ≡ given (d .pair) (q .statements - left) w
-          → Branched ws ranks q left w d (Open (record { equal = e; pair = p; bounds = b }))
+      pub branch-clash : (z : Bool) → Decides z (Sub (b .lo) (b .hi)) → not z ≡ true → Branched ws ranks q left w d Cut
+      branch-clash z dz ez = branch-barren (record { none = λ v k x. refused dz ez (sub-trans (x .lo) (x .hi)) })
+
+      pub branch-open : (e : Bool) (p : Pair) (live : Waiting) → e ≡ both (d .equal) (eqb w own) → p ≡ given (d .pair) (q .statements - left) w
+          → Branched ws ranks q left w d (Open (record { equal = e; pair = p; bounds = b; live = live }))
       unfolding passes listFrom
-      branch-open e p ee ep = record {
+      branch-open e p live ee ep = record {
         cut = λ y g tg. absurd (let x : _≡_ {A = ℕ} 0 1 = cc in omega arith);
         opened = λ c y. rw (← child c y) (record {
           pair = ep;
@@ -125,5 +129,5 @@ module _ (ws ranks : List ℕ) (q : Task) (left w : ℕ) (d : Node) (rd : Branch
         });
       }
         where
-          child : (c : Node) → Open (record { equal = e; pair = p; bounds = b }) ≡ Open c → record { equal = e; pair = p; bounds = b } ≡ c
+          child : (c : Node) → Open (record { equal = e; pair = p; bounds = b; live = live }) ≡ Open c → record { equal = e; pair = p; bounds = b; live = live } ≡ c
           child c y = cc

@@ -20,6 +20,7 @@ use Rattle.masks.specs.Views.{MaskView}
 use Rattle.masks.proofs.Booleans.{refused, granted}
 use Rattle.bounds.specs.Sound.{Propagated}
 use Rattle.meaning.specs.Twins.Tables.{differsFrom}
+use Rattle.queue.specs.declared.waiting.Waiting.{Waiting}
 use Rattle.page.specs.declared.Task.{Task}
 use Rattle.page.specs.declared.Node.{Node}
 use Rattle.page.specs.declared.Branch.{Branch}
@@ -156,8 +157,8 @@ module _ (ws ranks : List ℕ) (q : Task) (taken : ℕ) (t : Bool) (at : ℕ) (o
   pub list-full : q .room ≤ at → Listed ws ranks q taken t at o o at
   list-full l = record { most = f .place; page = λ g tg. page-full (q .room) at o _ l }
 
-  pub root-ready : (b : Bounds) → Rooted ws (q .rules) ranks taken b → Ready ws ranks o q (q .statements) (record { equal = t; pair = bare taken; bounds = b }) at
-  root-ready b rb =
+  pub root-ready : (b : Bounds) (live : Waiting) → Rooted ws (q .rules) ranks taken b → Ready ws ranks o q (q .statements) (record { equal = t; pair = bare taken; bounds = b; live = live }) at
+  root-ready b live rb =
       let n : ℕ = q .statements in
       let xs : List Pair = allFrom n n (bare taken) in
       record {
@@ -172,6 +173,6 @@ module _ (ws ranks : List ℕ) (q : Task) (taken : ℕ) (t : Bool) (at : ℕ) (o
         };
       }
 
-  pub list-settled : (b : Bounds) (o′ : List ℕ) (r : ℕ) → Settled ws ranks q (q .statements) (record { equal = t; pair = bare taken; bounds = b }) at o o′ r → Listed ws ranks q taken t at o o′ r
+  pub list-settled : (b : Bounds) (live : Waiting) (o′ : List ℕ) (r : ℕ) → Settled ws ranks q (q .statements) (record { equal = t; pair = bare taken; bounds = b; live = live }) at o o′ r → Listed ws ranks q taken t at o o′ r
   unfolding listFrom
-  list-settled b o′ r w = record { most = w .most; page = w .page }
+  list-settled b live o′ r w = record { most = w .most; page = w .page }

@@ -40,6 +40,10 @@ pub record ViewGiving (ws : List ℕ) (n : ℕ) (ranks : List ℕ) (i w : ℕ) (
   pub view : MaskView ws n ranks v
   pub gives : valueAt v i ≡ w
 
+-- No view is within the bounds.
+pub record Barren (ws : List ℕ) (n : ℕ) (ranks : List ℕ) (b : Bounds) : Type 0 where
+  pub none : (v : Pair) → MaskView ws n ranks v → In b v → ⊥
+
 -- Every view that differs from the settled pair at most at the last `left` of n statements is within the bounds.
 pub record Covers (ws : List ℕ) (rules : ℕ) (ranks : List ℕ) (n left : ℕ) (p : Pair) (b : Bounds) : Type 0 where
   pub kept : (v : Pair) → MaskView ws rules ranks v → Among v (allFrom n left p) → In b v

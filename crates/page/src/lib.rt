@@ -1,4 +1,5 @@
 // The views with one set of exceptions, in the order of pairs, from a point on, into a lent slice until it is full.
+ghost use mathlib.Core.Bool.{true};
 ghost use mathlib.Core.Path.{_≡_};
 ghost use mathlib.Core.List.{[], _∷_};
 ghost use Prim.Native.Nat.{_+_, _-_, _*_, _<_, _≤_};
@@ -7,14 +8,18 @@ ghost use lib.ListN.{length};
 ghost use lib.Seq.{sets};
 ghost use Rattle.logic.specs.Tests.{both};
 ghost use Rattle.bounds.specs.Sound.{Keeps};
+ghost use Rattle.queue.specs.Chains.{Chains};
 ghost use Rattle.meaning.specs.Order.{value as valueOf};
 ghost use Rattle.page.specs.Orders.{about as aboutOf, said as saidOf, given as givenOf};
 ghost use Rattle.sets.specs.Pairs.{flat};
-ghost use Rattle.page.specs.Pages.{Giving, ViewGiving, Fits, BranchReady, Rooted, Ready, Settled, Tried, Branched, Listed};
+ghost use Rattle.page.specs.Pages.{Giving, ViewGiving, Barren, Fits, BranchReady, Rooted, Ready, Settled, Tried, Branched, Listed};
 use masks::Bounds;
+use probe::Answer;
+use queue::Rest;
 use queue::index;
 use queue::index::Index;
 use queue::waiting;
+use queue::waiting::Waiting;
 use sets::Pair;
 
 // The values of a statement in the order of pairs: absent, held, denied.
@@ -25,6 +30,9 @@ pub const HELD: u64 = 1;
 pub const DENIED: u64 = 2;
 
 pub const VALUES: u64 = 3;
+
+// How many branches without a find it takes until `barren` searches for a view.
+const MANY: u64 = 64;
 
 // The set of all numbers that a word has room for.
 const EVERY: u64 = 0xffff_ffff_ffff_ffff;
@@ -37,11 +45,19 @@ pub struct Task {
     pub point: Pair,
 }
 
-// Where the search stands: the pair as far as settled, whether that is the same as in the point, and bounds for the views that come from it.
+// Where the search stands: the pair as far as settled, whether that is the same as in the point, bounds for the views that come from it,
+// and the rules that are live within them.
 pub struct Node {
     pub equal: bool,
     pub pair: Pair,
     pub bounds: Bounds,
+    pub live: Waiting,
+}
+
+// How far the page is filled, and how many branches were opened since the last find.
+pub struct Place {
+    pub at: usize,
+    pub dry: u64,
 }
 
 // What becomes of a value: no view has it, or the search goes on from a node.
@@ -118,21 +134,22 @@ pub fn narrow(
     n: usize,
     ranks: &[u64],
     index: &Index,
+    live: Waiting,
     b: Bounds,
     i: u64,
     value: u64,
-) -> Bounds
-    requires { ⌜ (n * 8 ≤ length (now words)) × (length (now ranks) ≤ 64) × (0 < i) × (i ≤ 64) ⌝ }
-    ensures { λ o. ⌜ Keeps (ViewGiving (now (words .entry)) n (now (ranks .entry)) i value) b o ⌝ }
+) -> Rest
+    requires { ⌜ (n * 8 ≤ length (now words)) × (length (now ranks) ≤ 64) × (0 < i) × (i ≤ 64) × Chains (now words) n (now index) ⌝ }
+    ensures { λ o. ⌜ Keeps (ViewGiving (now (words .entry)) n (now (ranks .entry)) i value) b (o .bounds) ⌝ }
 {
     let c = fixed(b, i, value);
     if bounds::unchanged(b, c) {
-        return c;
+        return Rest { bounds: c, live };
     }
     if !sets::within(c.lo, c.hi) {
-        return c;
+        return Rest { bounds: c, live };
     }
-    let w = index::changed(index, b, c);
+    let w = index::among(index, live, b, c);
     queue::propagate(words, n, ranks, index, w, c)
 }
 
@@ -156,7 +173,36 @@ pub fn still(equal: bool, value: u64, own: u64) -> bool
     false
 }
 
-// The branch of a value at a statement that `left` others follow: cut if it comes before the point or forced conclusions clash.
+// No view is within the bounds, as a search for one shows: asked only after many branches without a find,
+// and not where the point's own branch goes on.
+pub fn barren(
+    words: &[u64],
+    n: usize,
+    ranks: &[u64],
+    index: &Index,
+    dry: u64,
+    equal: bool,
+    live: Waiting,
+    b: Bounds,
+) -> bool
+    requires { ⌜ (n * 8 ≤ length (now words)) × (length (now ranks) ≤ 64) × Chains (now words) n (now index) ⌝ }
+    ensures { λ r. ⌜ (r ≡ true → Barren (now (words .entry)) n (now (ranks .entry)) b) ⌝ }
+{
+    if dry < MANY {
+        return false;
+    }
+    if equal {
+        return false;
+    }
+    let a = probe::probe(words, n, ranks, index, waiting::none(live), b);
+    match a {
+        Answer::Found(_) => false,
+        Answer::Nothing => true,
+    }
+}
+
+// The branch of a value at a statement that `left` others follow: cut if it comes before the point, forced conclusions clash,
+// or it is barren.
 pub fn branch_of(
     words: &[u64],
     ranks: &[u64],
@@ -165,8 +211,9 @@ pub fn branch_of(
     left: u64,
     value: u64,
     node: Node,
+    dry: u64,
 ) -> Branch
-    requires { ⌜ BranchReady (now words) (now ranks) task left value node ⌝ }
+    requires { ⌜ (BranchReady (now words) (now ranks) task left value node) × Chains (now words) (task .rules) (now index) ⌝ }
     ensures { λ r. ⌜ Branched (now (words .entry)) (now (ranks .entry)) task left value node r ⌝ }
 {
     let i = task.statements - left;
@@ -174,14 +221,30 @@ pub fn branch_of(
     if earlier(node.equal, value, own) {
         return Branch::Cut;
     }
-    let b = narrow(words, task.rules, ranks, index, node.bounds, i, value);
-    if !sets::within(b.lo, b.hi) {
+    let rest = narrow(
+        words,
+        task.rules,
+        ranks,
+        index,
+        node.live,
+        node.bounds,
+        i,
+        value,
+    );
+    let bounds = rest.bounds;
+    let live = rest.live;
+    if !sets::within(bounds.lo, bounds.hi) {
+        return Branch::Cut;
+    }
+    let equal = still(node.equal, value, own);
+    if barren(words, task.rules, ranks, index, dry, equal, live, bounds) {
         return Branch::Cut;
     }
     Branch::Open(Node {
-        equal: still(node.equal, value, own),
+        equal,
         pair: given(node.pair, i, value),
-        bounds: b,
+        bounds,
+        live,
     })
 }
 
@@ -202,19 +265,22 @@ pub fn finish(
     task: Task,
     node: Node,
     out: &mut [u64],
-    at: usize,
-) -> usize
-    requires { ⌜ (Fits (now words) (now ranks) (now out) task at) × (at < task .room) ⌝ }
-    ensures { λ r. ⌜ Settled (now (words .entry)) (now (ranks .entry)) task 0 node at (now (out .entry)) (now (out .exit)) r ⌝ }
+    place: Place,
+) -> Place
+    requires { ⌜ (Fits (now words) (now ranks) (now out) task (place .at)) × (place .at < task .room) ⌝ }
+    ensures { λ r. ⌜ Settled (now (words .entry)) (now (ranks .entry)) task 0 node (place .at) (now (out .entry)) (now (out .exit)) (r .at) ⌝ }
 {
     if node.equal {
-        return at;
+        return place;
     }
     if !masks::is_view(words, task.rules, ranks, node.pair) {
-        return at;
+        return place;
     }
-    put(out, at, node.pair);
-    at + 1
+    put(out, place.at, node.pair);
+    Place {
+        at: place.at + 1,
+        dry: 0,
+    }
 }
 
 // Settles the last `left` statements: puts the views that come from the node on the page, in order, and answers the place after them.
@@ -226,15 +292,15 @@ pub fn settle(
     left: u64,
     node: Node,
     out: &mut [u64],
-    at: usize,
-) -> usize
-    requires { ⌜ (Ready (now words) (now ranks) (now out) task left node at) × (at < task .room) ⌝ }
-    ensures { λ r. ⌜ Settled (now (words .entry)) (now (ranks .entry)) task left node at (now (out .entry)) (now (out .exit)) r ⌝ }
+    place: Place,
+) -> Place
+    requires { ⌜ (Ready (now words) (now ranks) (now out) task left node (place .at)) × (place .at < task .room) × Chains (now words) (task .rules) (now index) ⌝ }
+    ensures { λ r. ⌜ Settled (now (words .entry)) (now (ranks .entry)) task left node (place .at) (now (out .entry)) (now (out .exit)) (r .at) ⌝ }
 {
     if left == 0 {
-        return finish(words, ranks, task, node, out, at);
+        return finish(words, ranks, task, node, out, place);
     }
-    values(words, ranks, index, task, left, VALUES, node, out, at)
+    values(words, ranks, index, task, left, VALUES, node, out, place)
 }
 
 // Tries the last `rest` values of the first statement left: absent, held, denied.
@@ -247,31 +313,44 @@ pub fn values(
     rest: u64,
     node: Node,
     out: &mut [u64],
-    at: usize,
-) -> usize
-    requires { ⌜ (Ready (now words) (now ranks) (now out) task left node at) × (0 < left) × (rest ≤ 3) ⌝ }
-    ensures { λ r. ⌜ Tried (now (words .entry)) (now (ranks .entry)) task (left - 1) rest node at (now (out .entry)) (now (out .exit)) r ⌝ }
+    place: Place,
+) -> Place
+    requires { ⌜ (Ready (now words) (now ranks) (now out) task left node (place .at)) × (0 < left) × (rest ≤ 3) × Chains (now words) (task .rules) (now index) ⌝ }
+    ensures { λ r. ⌜ Tried (now (words .entry)) (now (ranks .entry)) task (left - 1) rest node (place .at) (now (out .entry)) (now (out .exit)) (r .at) ⌝ }
 {
     if rest == 0 {
-        return at;
+        return place;
     }
-    if task.room <= at {
-        return at;
+    if task.room <= place.at {
+        return place;
     }
-    let b = branch_of(words, ranks, index, task, left - 1, VALUES - rest, node);
+    let b = branch_of(
+        words,
+        ranks,
+        index,
+        task,
+        left - 1,
+        VALUES - rest,
+        node,
+        place.dry,
+    );
     match b {
-        Branch::Cut => values(words, ranks, index, task, left, rest - 1, node, out, at),
+        Branch::Cut => values(words, ranks, index, task, left, rest - 1, node, out, place),
         Branch::Open(c) => {
-            let r = settle(words, ranks, index, task, left - 1, c, out, at);
+            let next = Place {
+                at: place.at,
+                dry: std::num::wrapping_add_u64(place.dry, 1),
+            };
+            let r = settle(words, ranks, index, task, left - 1, c, out, next);
             values(words, ranks, index, task, left, rest - 1, node, out, r)
         }
     }
 }
 
 // Bounds for all views with these exceptions, propagated.
-pub fn root(words: &[u64], n: usize, ranks: &[u64], index: &Index, taken: u64) -> Bounds
-    requires { ⌜ (n * 8 ≤ length (now words)) × (length (now ranks) ≤ 64) ⌝ }
-    ensures { λ o. ⌜ Rooted (now (words .entry)) n (now (ranks .entry)) taken o ⌝ }
+pub fn root(words: &[u64], n: usize, ranks: &[u64], index: &Index, taken: u64) -> Rest
+    requires { ⌜ (n * 8 ≤ length (now words)) × (length (now ranks) ≤ 64) × Chains (now words) n (now index) ⌝ }
+    ensures { λ o. ⌜ Rooted (now (words .entry)) n (now (ranks .entry)) taken (o .bounds) ⌝ }
 {
     let b = Bounds {
         lo: Pair {
@@ -285,7 +364,7 @@ pub fn root(words: &[u64], n: usize, ranks: &[u64], index: &Index, taken: u64) -
             denied: EVERY,
         },
     };
-    queue::propagate(words, n, ranks, index, waiting::everything(), b)
+    queue::propagate(words, n, ranks, index, waiting::all(), b)
 }
 
 // Puts all views with these exceptions on the page from place `at` on, in the order of pairs until the page is full;
@@ -300,12 +379,15 @@ pub fn list_views(
     out: &mut [u64],
     at: usize,
 ) -> usize
-    requires { ⌜ Fits (now words) (now ranks) (now out) task at ⌝ }
+    requires { ⌜ (Fits (now words) (now ranks) (now out) task at) × Chains (now words) (task .rules) (now index) ⌝ }
     ensures { λ r. ⌜ Listed (now (words .entry)) (now (ranks .entry)) task taken after at (now (out .entry)) (now (out .exit)) r ⌝ }
 {
     if task.room <= at {
         return at;
     }
+    let rest = root(words, task.rules, ranks, index, taken);
+    let bounds = rest.bounds;
+    let live = rest.live;
     let node = Node {
         equal: after,
         pair: Pair {
@@ -313,7 +395,9 @@ pub fn list_views(
             held: 0,
             denied: 0,
         },
-        bounds: root(words, task.rules, ranks, index, taken),
+        bounds,
+        live,
     };
-    settle(words, ranks, index, task, task.statements, node, out, at)
+    let place = Place { at, dry: 0 };
+    settle(words, ranks, index, task, task.statements, node, out, place).at
 }

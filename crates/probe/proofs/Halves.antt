@@ -16,6 +16,7 @@ use Rattle.bounds.proofs.Steps.{in-into, in-out}
 use Rattle.probe.specs.declared.Answer.{Answer}
 use Rattle.probe.specs.declared.Answer.the-variants.{Found, Nothing}
 use Rattle.probe.specs.declared.Node.{Node}
+use Rattle.queue.specs.declared.waiting.Waiting.{Waiting}
 use Rattle.probe.specs.declared.Node.the-variants.{View, Empty, Open}
 use Rattle.probe.specs.Probes.{Probed, Halved, Opened}
 
@@ -36,9 +37,9 @@ module _ {ws : List ℕ} {n : ℕ} {ranks : List ℕ} {b : Bounds} {x : Node} (o
   pub probed-empty : x ≡ Empty → Probed ws n ranks b Nothing
   probed-empty e = record { found = λ v q. absurd (let z : _≡_ {A = ℕ} 0 1 = cc in omega arith); none = λ q. o .empty e }
 
-  module _ (c : Bounds) (m : Pair) (e : x ≡ Open c m) where
+  module _ (c : Bounds) (m : Pair) (live : Waiting) (e : x ≡ Open c m live) where
     h : Halved ws n ranks b c m
-    h = o .halves c m e
+    h = o .halves c m live e
 
     in-hi : Sub m (c .hi)
     in-hi = sub-trans (h .inside) (minus-sub _ _)

@@ -17,6 +17,7 @@ use Rattle.masks.proofs.Booleans.{refused, granted}
 use Rattle.bounds.specs.Singles.{oneOf, Picked}
 use Rattle.bounds.specs.Sound.{In, Propagated}
 use Rattle.bounds.proofs.Singles.{one-atom, one-some}
+use Rattle.queue.specs.declared.waiting.Waiting.{Waiting}
 use Rattle.probe.specs.declared.Node.the-variants.{View, Empty, Open}
 use Rattle.probe.specs.Probes.{Opened}
 
@@ -33,12 +34,12 @@ module _ (x y : Pair) (e : x ≡ y) where
 not-view : {P : Type 0} {v : Pair} → Empty ≡ View v → P
 not-view e = absurd (let z : _≡_ {A = ℕ} 0 1 = cc in omega arith)
 
-not-open : {P : Type 0} {c : Bounds} {m : Pair} → Empty ≡ Open c m → P
+not-open : {P : Type 0} {c : Bounds} {m : Pair} {live : Waiting} → Empty ≡ Open c m live → P
 not-open e = absurd (let z : _≡_ {A = ℕ} 0 1 = cc in omega arith)
 
 module _ {ws : List ℕ} {n : ℕ} {ranks : List ℕ} (b : Bounds) where
   empty-node : ((v : Pair) → MaskView ws n ranks v → In b v → ⊥) → Opened ws n ranks b Empty
-  empty-node f = record { view = λ v e. not-view e; empty = λ e. f; halves = λ c m e. not-open e }
+  empty-node f = record { view = λ v e. not-view e; empty = λ e. f; halves = λ c m live e. not-open e }
 
   module _ (c : Bounds) (p : Propagated ws n ranks b c) (w : Bool) (dw : Decides w (Sub (c .lo) (c .hi))) where
     pub node-refuted : not w ≡ true → Opened ws n ranks b Empty
@@ -49,7 +50,7 @@ module _ {ws : List ℕ} {n : ℕ} {ranks : List ℕ} (b : Bounds) where
       node-view t dt et = record {
         view = λ v q. let e : c .lo ≡ v = cc in rw (← e) (dt .yes et, record { lo = p .lo; hi = sub-trans (granted dw ew) (p .hi) });
         empty = λ q. absurd (let z : _≡_ {A = ℕ} 0 1 = cc in omega arith);
-        halves = λ c m q. absurd (let z : _≡_ {A = ℕ} 0 1 = cc in omega arith);
+        halves = λ c m live q. absurd (let z : _≡_ {A = ℕ} 0 1 = cc in omega arith);
       }
 
       pub node-empty : (t : Bool) → s ≡ true → Decides t (MaskView ws n ranks (c .lo)) → t ≡ false → Opened ws n ranks b Empty
@@ -58,11 +59,11 @@ module _ {ws : List ℕ} {n : ℕ} {ranks : List ℕ} (b : Bounds) where
           let e : c .lo ≡ v = sub-both (y .lo) (rw (ds .yes es) (y .hi)) in
           dt .no et (rw e k))
 
-      pub node-open : (m : Pair) → s ≡ false → Picked (minusOf (c .hi) (c .lo)) m → Opened ws n ranks b (Open c m)
-      node-open m es pm = record {
+      pub node-open : (m : Pair) (live : Waiting) → s ≡ false → Picked (minusOf (c .hi) (c .lo)) m → Opened ws n ranks b (Open c m live)
+      node-open m live es pm = record {
         view = λ v q. absurd (let z : _≡_ {A = ℕ} 0 1 = cc in omega arith);
         empty = λ q. absurd (let z : _≡_ {A = ℕ} 0 1 = cc in omega arith);
-        halves = λ c′ m′ q. let ec : c ≡ c′ = cc in let em : m ≡ m′ = cc in rw (← ec, ← em)
+        halves = λ c′ m′ live′ q. let ec : c ≡ c′ = cc in let em : m ≡ m′ = cc in rw (← ec, ← em)
             (record { narrow = p; ordered = granted dw ew; atom = pm .atom; some = pm .some; inside = pm .inside open-left });
       }
         where

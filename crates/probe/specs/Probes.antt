@@ -7,6 +7,7 @@ use Rattle.sets.specs.Pairs.{Sub, Off, Atom, minusOf}
 use Rattle.masks.specs.declared.Bounds.{Bounds}
 use Rattle.masks.specs.Views.{MaskView}
 use Rattle.bounds.specs.Sound.{In, Propagated}
+use Rattle.queue.specs.declared.waiting.Waiting.{Waiting}
 use Rattle.probe.specs.declared.Answer.{Answer}
 use Rattle.probe.specs.declared.Answer.the-variants.{Found, Nothing}
 use Rattle.probe.specs.declared.Node.{Node}
@@ -29,4 +30,4 @@ pub record Halved (ws : List ℕ) (n : ℕ) (ranks : List ℕ) (b c : Bounds) (m
 pub record Opened (ws : List ℕ) (n : ℕ) (ranks : List ℕ) (b : Bounds) (x : Node) : Type 0 where
   pub view : (v : Pair) → x ≡ View v → (MaskView ws n ranks v) × (In b v)
   pub empty : x ≡ Empty → (v : Pair) → MaskView ws n ranks v → In b v → ⊥
-  pub halves : (c : Bounds) (m : Pair) → x ≡ Open c m → Halved ws n ranks b c m
+  pub halves : (c : Bounds) (m : Pair) (live : Waiting) → x ≡ Open c m live → Halved ws n ranks b c m

@@ -3,11 +3,13 @@ ghost use Prim.Native.Nat.{_*_, _≤_};
 ghost use lib.ListN.{length};
 ghost use Rattle.sets.specs.Pairs.{minusOf};
 ghost use Rattle.bounds.specs.Singles.{Picked};
+ghost use Rattle.queue.specs.Chains.{Chains};
 ghost use Rattle.probe.specs.Probes.{Opened, Probed};
 use masks::Bounds;
 use queue::index;
 use queue::index::Index;
 use queue::waiting::Waiting;
+use queue::waiting::Work;
 use sets::Pair;
 
 pub mod weights;
@@ -18,20 +20,20 @@ pub enum Answer {
     Nothing,
 }
 
-// What propagation leaves of bounds: one view; nothing; narrower bounds, with a member to split them by.
+// What propagation leaves of bounds: one view; nothing; narrower bounds, with a member to split them by and the rules that are live.
 pub enum Node {
     View(Pair),
     Empty,
-    Open(Bounds, Pair),
+    Open(Bounds, Pair, Waiting),
 }
 
 // A member that is in some pairs within the bounds and not in others: the heaviest, or any if that is none.
-pub fn pick(words: &[u64], n: usize, c: Bounds) -> Pair
+pub fn pick(words: &[u64], n: usize, live: Waiting, c: Bounds) -> Pair
     requires { ⌜ n * 8 ≤ length (now words) ⌝ }
     ensures { λ m. ⌜ Picked (minusOf (c .hi) (c .lo)) m ⌝ }
 {
     let free = sets::minus(c.hi, c.lo);
-    let at = weights::heaviest(words, n, c, free);
+    let at = weights::heaviest(words, n, live, free);
     let m = bounds::one(at / 64, at % 64);
     if sets::within(m, free) {
         return m;
@@ -40,11 +42,13 @@ pub fn pick(words: &[u64], n: usize, c: Bounds) -> Pair
 }
 
 // One node of the search.
-pub fn visit(words: &[u64], n: usize, ranks: &[u64], index: &Index, w: Waiting, b: Bounds) -> Node
-    requires { ⌜ (n * 8 ≤ length (now words)) × (length (now ranks) ≤ 64) ⌝ }
+pub fn visit(words: &[u64], n: usize, ranks: &[u64], index: &Index, w: Work, b: Bounds) -> Node
+    requires { ⌜ (n * 8 ≤ length (now words)) × (length (now ranks) ≤ 64) × Chains (now words) n (now index) ⌝ }
     ensures { λ x. ⌜ Opened (now (words .entry)) n (now (ranks .entry)) b x ⌝ }
 {
-    let c = queue::propagate(words, n, ranks, index, w, b);
+    let rest = queue::propagate(words, n, ranks, index, w, b);
+    let c = rest.bounds;
+    let live = rest.live;
     let lo = c.lo;
     let hi = c.hi;
     if !sets::within(lo, hi) {
@@ -56,27 +60,27 @@ pub fn visit(words: &[u64], n: usize, ranks: &[u64], index: &Index, w: Waiting, 
         }
         return Node::Empty;
     }
-    Node::Open(c, pick(words, n, c))
+    Node::Open(c, pick(words, n, live, c), live)
 }
 
-// A view within the bounds b, or none. The rules w are those that the bounds may not be at rest with.
-pub fn probe(words: &[u64], n: usize, ranks: &[u64], index: &Index, w: Waiting, b: Bounds) -> Answer
-    requires { ⌜ (n * 8 ≤ length (now words)) × (length (now ranks) ≤ 64) ⌝ }
+// A view within the bounds b, or none; w is what is to be done before the bounds are at rest.
+pub fn probe(words: &[u64], n: usize, ranks: &[u64], index: &Index, w: Work, b: Bounds) -> Answer
+    requires { ⌜ (n * 8 ≤ length (now words)) × (length (now ranks) ≤ 64) × Chains (now words) n (now index) ⌝ }
     ensures { λ a. ⌜ Probed (now (words .entry)) n (now (ranks .entry)) b a ⌝ }
 {
     let x = visit(words, n, ranks, index, w, b);
     match x {
         Node::View(v) => Answer::Found(v),
         Node::Empty => Answer::Nothing,
-        Node::Open(c, m) => {
+        Node::Open(c, m, live) => {
             let o = bounds::out(c, m);
-            let t = index::changed(index, c, o);
+            let t = index::among(index, live, c, o);
             let a = probe(words, n, ranks, index, t, o);
             match a {
                 Answer::Found(v) => Answer::Found(v),
                 Answer::Nothing => {
                     let p = bounds::into(c, m);
-                    let t = index::changed(index, c, p);
+                    let t = index::among(index, live, c, p);
                     probe(words, n, ranks, index, t, p)
                 }
             }

@@ -1,9 +1,9 @@
 // Which member to split bounds by: the one in the most and shortest bodies. No contract depends on the choice, so only safety is proved.
 ghost use Prim.Native.Nat.{_*_, _≤_};
 ghost use lib.ListN.{length};
-use masks::Bounds;
 use masks::Masks;
 use queue::waiting;
+use queue::waiting::Waiting;
 use sets::Pair;
 
 // A weight for each member of a pair: the statements held, then those denied, then the exceptions taken.
@@ -59,19 +59,17 @@ pub fn weight(k: u32) -> u64
     1
 }
 
-// Adds the weight of one rule to its open conditions, if it can fire; barred entries count twice.
-pub fn add_rule(t: &mut Weights, r: Masks, b: Bounds, free: Pair) {
-    if masks::fires(r, b.lo, b.hi) {
-        let x = sets::meet(r.need, free);
-        let y = sets::meet(r.bar, free);
-        let k = conditions(x, y);
-        if k == 0 {
-            return;
-        }
-        let w = weight(k);
-        add_pair(t, x, w);
-        add_pair(t, y, w * 2 + 1);
+// Adds the weight of one rule to its open conditions; barred entries count twice.
+pub fn add_rule(t: &mut Weights, r: Masks, free: Pair) {
+    let x = sets::meet(r.need, free);
+    let y = sets::meet(r.bar, free);
+    let k = conditions(x, y);
+    if k == 0 {
+        return;
     }
+    let w = weight(k);
+    add_pair(t, x, w);
+    add_pair(t, y, w * 2 + 1);
 }
 
 // The heaviest member so far: its place, 192 if there is none, and its weight.
@@ -111,14 +109,20 @@ pub fn better(s: Best, at: u64, weight: u64) -> Best {
     s
 }
 
-// The place of the heaviest of the members `free`, over the rules that can fire within the bounds.
-pub fn heaviest(words: &[u64], n: usize, b: Bounds, free: Pair) -> u64
+// The place of the heaviest of the members `free`, over the live rules.
+pub fn heaviest(words: &[u64], n: usize, live: Waiting, free: Pair) -> u64
     requires { ⌜ n * 8 ≤ length (now words) ⌝ }
 {
     let mut t: Weights = [0; 192];
-    let mut k = 0;
-    while k < n {
-        add_rule(&mut t, masks::masks_at(words, k), b, free);
+    let mut rest = live;
+    let mut k: u64 = 0;
+    while k < 256 {
+        let j = waiting::next(rest);
+        if n <= j as usize {
+            break;
+        }
+        add_rule(&mut t, masks::masks_at(words, j as usize), free);
+        rest = waiting::without(rest, j);
         k += 1;
     }
     let s = heavier(&t, 0, free.held, Best { at: 192, weight: 0 });

@@ -1,15 +1,23 @@
-// Which rules mention a conclusion or an exception. No contract depends on the index: a wrong one costs time, not truth.
+// Which rules mention a conclusion or an exception. No contract depends on these rows: a wrong one costs time, not truth.
 ghost use Prim.Native.Nat.{_+_, _*_, _<_, _≤_};
 ghost use lib.ListN.{length};
+ghost use Rattle.queue.specs.Chains.{Chains};
 use crate::waiting;
+use crate::heads;
 use crate::waiting::Waiting;
+use crate::waiting::Work;
 use masks::Bounds;
 use masks::Masks;
 use sets::Pair;
 
 // Four words for each row: rows 0 to 63 for the statements held, 64 to 127 denied, 128 to 191 for the exceptions.
-// Then one word, not 0 if conclusions can need each other in a circle.
-pub type Index = [u64; 769];
+// Then one word, not 0 if conclusions can need each other in a circle; then the chains of `heads`.
+pub const LENGTH: usize = 1154;
+
+pub type Index = [u64; LENGTH];
+
+// Where the word about circles stands.
+pub const CIRCLE: usize = 768;
 
 // The rules of t with those of a row.
 pub fn added(index: &Index, row: u64, t: Waiting) -> Waiting
@@ -56,9 +64,19 @@ pub fn marked(index: &Index, a: Bounds, b: Bounds, t: Waiting) -> Waiting {
     )
 }
 
-// The rules that mention what differs between two bounds.
-pub fn changed(index: &Index, a: Bounds, b: Bounds) -> Waiting {
-    marked(index, a, b, waiting::nothing())
+// What is to be done after a change from bounds at rest: of the live rules those wait that mention what differs, and what is newly sure
+// asks for its support.
+pub fn among(index: &Index, live: Waiting, a: Bounds, b: Bounds) -> Work {
+    Work {
+        rules: waiting::both(live, marked(index, a, b, waiting::nothing())),
+        asked: sets::minus(b.lo, a.lo),
+        live,
+    }
+}
+
+// The same where any rule may be live.
+pub fn changed(index: &Index, a: Bounds, b: Bounds) -> Work {
+    among(index, waiting::everything(), a, b)
 }
 
 // Puts rule k into the rows of m's members, counted from row `from`.
@@ -133,17 +151,16 @@ pub fn circular(words: &[u64], n: usize) -> bool
 
 // Fills an index of zeros from the first n rules.
 pub fn fill(words: &[u64], n: usize, index: &mut Index)
-    requires { ⌜ n * 8 ≤ length (now words) ⌝ }
+    requires { ⌜ (n * 8 ≤ length (now words)) × (n ≤ 256) ⌝ }
+    ensures { λ _. ⌜ Chains (now (words .entry)) n (now (index .exit)) ⌝ }
 {
     let mut k: usize = 0;
     while k < n {
-        if 256 <= k {
-            return;
-        }
         put_rule(index, masks::masks_at(words, k), k as u64);
         k += 1;
     }
     if circular(words, n) {
-        index[768] = 1;
+        index[CIRCLE] = 1;
     }
+    heads::chains(words, n, index);
 }

@@ -1,5 +1,6 @@
 // Sets of rules that wait for a step. Which rules wait, no contract depends on: every step is sound.
 ghost use Prim.Native.Nat.{_≤_};
+use sets::Pair;
 
 // A bit for each of 256 rules.
 pub struct Waiting {
@@ -7,6 +8,14 @@ pub struct Waiting {
     pub b: u64,
     pub c: u64,
     pub d: u64,
+}
+
+// What propagation has to do: the rules that wait, the conclusions whose support is asked for, and the rules that are live,
+// whose body has not been seen to fail.
+pub struct Work {
+    pub rules: Waiting,
+    pub asked: Pair,
+    pub live: Waiting,
 }
 
 // No rule waits.
@@ -27,6 +36,33 @@ pub fn everything() -> Waiting {
         b: all,
         c: all,
         d: all,
+    }
+}
+
+// Nothing is to be done, and these rules are live.
+pub fn none(live: Waiting) -> Work {
+    Work {
+        rules: nothing(),
+        asked: Pair {
+            taken: 0,
+            held: 0,
+            denied: 0,
+        },
+        live,
+    }
+}
+
+// All is to be done.
+pub fn all() -> Work {
+    let all = 0xffff_ffff_ffff_ffff;
+    Work {
+        rules: everything(),
+        asked: Pair {
+            taken: 0,
+            held: all,
+            denied: all,
+        },
+        live: everything(),
     }
 }
 
@@ -81,4 +117,14 @@ pub fn without(t: Waiting, j: u64) -> Waiting {
     }
     o.d = cleared(o.d, j - 192);
     o
+}
+
+// The rules that are in both.
+pub fn both(t: Waiting, u: Waiting) -> Waiting {
+    Waiting {
+        a: t.a & u.a,
+        b: t.b & u.b,
+        c: t.c & u.c,
+        d: t.d & u.d,
+    }
 }

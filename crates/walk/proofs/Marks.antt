@@ -1,49 +1,113 @@
--- Marks that are set one by one: each is the mark of a struck set; and the exceptions that a set outranks, gathered word by word.
+-- Marks that are set one by one: each is the mark of a struck set, and no struck set is left out; and the exceptions that a set outranks,
+-- gathered word by word.
 use mathlib.Core.Path.{_≡_, refl, sym, _∙_}
-use mathlib.Core.Bool.{Bool, true, false, not}
+use mathlib.Core.Bool.{true, false, not}
 use mathlib.Core.List.{List}
 use mathlib.Core.Logic.{_⊎_, inl, inr, ⊎-elim}
 use Prim.Native.Nat.{ℕ, _+_, _<_, _≤_, max}
+use native.Mathlib.Nat.{le-refl}
 use native.Mathlib.Omega.{arith}
-use lib.Bits.{bitAnd, bitOr, or-add-and, and-le-r}
+use lib.Bits.{bitAnd, bitOr}
 use lib.Dec.{eqb}
-use lib.ListN.{length, getD, set}
-use lib.Seq.{getD-set-other}
-use borrow.Author.Tests.{eqb-false, not-true}
-use Rattle.logic.proofs.Decide.{clash, holds-or-not, decides-eq}
+use lib.ListN.{length, getD, set, length-set, List·getD-eq-default}
+use lib.Seq.{getD-set-same, getD-set-other}
+use Rattle.logic.specs.Tests.{Decides}
+use Rattle.logic.proofs.Decide.{clash, decided, reworded, holds-or-not, decides-eq, decides-not}
 use Rattle.sets.specs.Sets.{bitOf, Within, Apart, without}
-use Rattle.sets.proofs.Digits.{bit-or, bit-lt, bit-zero}
-use Rattle.sets.proofs.Words.{minus-zero, none-and}
+use Rattle.sets.proofs.Digits.{bit-or, bit-lt, bit-zero, lt-or-le}
+use Rattle.sets.proofs.Words.{minus-zero, zero-minus, and-none, none-and, none-off, or-r, sub-le}
+use Rattle.book.specs.Kinds.{sets}
 use Rattle.meaning.specs.Books.{Book}
 use Rattle.walk.specs.declared.Strike.{Strike}
-use Rattle.walk.specs.Marks.{Struck, shares, between, IsMarked, Marked, NoneAt, RightMarks, ByMember, Outranked, WithRank}
+use Rattle.walk.specs.Marks.{Struck, shares, between, IsMarked, Marked, Stands, Next, NoneAt, RightMarks, ByMember, Outranked, WithRank}
+use Rattle.walk.proofs.Steps.{next-with}
 
 -- ---- one set
 module _ (s : Strike) (t : ℕ) where
-  pub struck-not : false ≡ true → Struck s t
-  struck-not e = absurd (clash e)
+  pub struck-shares : (bitAnd t (s .any) ≡ 0 → ⊥) → Decides true (Struck s t)
+  struck-shares n = decided (λ e. shares (λ a. n (none-and t (s .any) (λ k. let q = a k in omega arith)))) (λ k. refl)
 
-  pub struck-shares : (bitAnd t (s .any) ≡ 0 → ⊥) → true ≡ true → Struck s t
-  struck-shares n e = shares (λ a. n (none-and t (s .any) (λ k. let q = a k in omega arith)))
+  -- A set that shares nothing is struck only by lo and hi.
+  only-between : bitAnd t (s .any) ≡ 0 → Struck s t → Within (s .lo) t × Within t (s .hi) × (t ≡ s .but → ⊥)
+  only-between z (shares d) = absurd (d (λ k. let q = and-none t (s .any) z k in omega arith))
+  only-between z (between a b d) = (a, b, d)
 
-  pub struck-between : without (s .lo) t ≡ 0 → without t (s .hi) ≡ 0 → not (eqb t (s .but)) ≡ true → Struck s t
-  struck-between a b e = between (minus-zero (s .lo) t a) (minus-zero t (s .hi) b) (eqb-false t (s .but) (not-true (eqb t (s .but)) e))
+  pub struck-below : bitAnd t (s .any) ≡ 0 → (without (s .lo) t ≡ 0 → ⊥) → Decides false (Struck s t)
+  struck-below z n = decided (λ e. absurd (clash e)) (λ k. absurd (n (zero-minus (s .lo) t (only-between z k .0))))
 
--- ---- all sets
+  pub struck-above : bitAnd t (s .any) ≡ 0 → (without t (s .hi) ≡ 0 → ⊥) → Decides false (Struck s t)
+  struck-above z n = decided (λ e. absurd (clash e)) (λ k. absurd (n (zero-minus t (s .hi) (only-between z k .1))))
+
+  pub struck-between : bitAnd t (s .any) ≡ 0 → without (s .lo) t ≡ 0 → without t (s .hi) ≡ 0 → Decides (not (eqb t (s .but))) (Struck s t)
+  struck-between z a b =
+      reworded (decides-not (decides-eq t (s .but))) (λ d. between (minus-zero (s .lo) t a) (minus-zero t (s .hi) b) d) (λ k. only-between z k .2)
+
+-- ---- the sets to look at
+-- Where no member is asked for, a struck set has all of lo.
+has-lo : (s : Strike) (t : ℕ) → Struck s t → Stands s t
+has-lo s t (shares d) e = absurd (d (rw e (none-off t)))
+has-lo s t (between a b d) e = a
+
 module _ (s : Strike) where
-  pub marked-none : (m : List ℕ) → Marked m s m
-  marked-none m = record { only = λ t x. inl x }
+  -- Where a member is asked for, every set is looked at.
+  pub next-any : (s .any ≡ 0 → ⊥) → (t : ℕ) → Next s t t
+  next-any n t = record { least = λ u h k. h; stands = λ e. absurd (n e) }
 
-  pub marked-one : (m : List ℕ) (t : ℕ) → Struck s t → Marked m s (set m t 1)
-  marked-one m t k = record {
-    only = λ u x. ⊎-elim (λ e. inr (rw e k)) (λ n. inl (λ z. x (getD-set-other m t u 1 0 n ∙ z))) (holds-or-not (decides-eq u t));
+  pub first-lo : s .any ≡ 0 → Next s 0 (s .lo)
+  first-lo e = record { least = λ u h k. sub-le (s .lo) u (has-lo s u k e); stands = λ z k. le-refl _ }
+
+  pub next-lo : s .any ≡ 0 → (t : ℕ) → Stands s t → Next s (t + 1) (bitOr (t + 1) (s .lo))
+  next-lo e t w = record {
+    least = λ u h k. next-with t u (s .lo) (w e) (has-lo s u k e) (omega arith);
+    stands = λ z. or-r (t + 1) (s .lo);
   }
 
-  pub marked-more : (m n o : List ℕ) → Marked m s n → Marked n s o → Marked m s o
-  marked-more m n o f g = record { only = λ t x. ⊎-elim (λ y. f .only t y) (λ k. inr k) (g .only t x) }
+-- ---- all sets
+module _ (s : Strike) (m : List ℕ) where
+  marked-same : (from to : ℕ) → ((u : ℕ) → from ≤ u → u < to → Struck s u → IsMarked m u) → Marked m s from to m
+  marked-same from to f = record { only = λ t x. inl x; stays = λ t x. x; same = refl; all = λ u h l g k. f u h l k }
+
+  -- The set t is marked already; it is not struck; it is marked now.
+  pub marked-there : (t : ℕ) → IsMarked m t → Marked m s t (t + 1) m
+  marked-there t x = marked-same t (t + 1) (λ u h l k. let e : u ≡ t = omega arith in rw e x)
+
+  pub marked-not : (t : ℕ) → (Struck s t → ⊥) → Marked m s t (t + 1) m
+  marked-not t n = marked-same t (t + 1) (λ u h l k. let e : u ≡ t = omega arith in absurd (n (rw e at k)))
+
+  pub marked-one : (t : ℕ) → Struck s t → Marked m s t (t + 1) (set m t 1)
+  marked-one t k = record {
+    only = λ u x. ⊎-elim (λ e. inr (rw e k)) (λ n. inl (λ z. x (getD-set-other m t u 1 0 n ∙ z))) (holds-or-not (decides-eq u t));
+    stays = λ u x. ⊎-elim (λ e. rw e (here (there m t (rw e at x)))) (λ n z. x (sym (getD-set-other m t u 1 0 n) ∙ z)) (holds-or-not (decides-eq u t));
+    same = length-set m t 1;
+    all = λ u a b h c. let e : u ≡ t = omega arith in rw e (here (rw e at h));
+  }
+    where
+      here : t < length m → IsMarked (set m t 1) t
+      here h z = let e = getD-set-same m t 1 0 h in omega arith
+
+      there : (l : List ℕ) (i : ℕ) → IsMarked l i → i < length l
+      there l i x = ⊎-elim (λ h. h) (λ h. absurd (x (List·getD-eq-default l 0 h))) (lt-or-le i (length l))
+
+  -- Nothing stands before the first set; one set more; all sets.
+  pub marked-none : (r : ℕ) → Next s 0 r → Marked m s 0 r m
+  marked-none r f = marked-same 0 r (λ u h l k. let e = f .least u h k in absurd (omega arith))
+
+  pub marked-more : (n o : List ℕ) (t r : ℕ) → Marked m s 0 t n → Marked n s t (t + 1) o → Next s (t + 1) r → Marked m s 0 r o
+  marked-more n o t r f g x = record {
+    only = λ u y. ⊎-elim (λ z. f .only u z) (λ k. inr k) (g .only u y);
+    stays = λ u y. g .stays u (f .stays u y);
+    same = g .same ∙ f .same;
+    all = λ u h l i k.
+        ⊎-elim (λ a. g .stays u (f .all u h a i k))
+        (λ a. ⊎-elim (λ b. g .all u a b (rw (f .same) i) k) (λ b. let e = x .least u b k in absurd (omega arith)) (lt-or-le u (t + 1)))
+        (lt-or-le u t);
+  }
+
+  pub marked-all : (n : List ℕ) (t : ℕ) → sets ≤ t → Marked m s 0 t n → Marked m s 0 sets n
+  marked-all n t h f = record { only = f .only; stays = f .stays; same = f .same; all = λ u a l i k. f .all u a (omega arith) i k }
 
 -- Marks of sets that no resolution has are right.
-pub right-more : (b : Book) (m n : List ℕ) (s : Strike) → RightMarks b m → Marked m s n → ((t : ℕ) → Struck s t → NoneAt b t) → RightMarks b n
+pub right-more : (b : Book) (m n : List ℕ) (s : Strike) → RightMarks b m → Marked m s 0 sets n → ((t : ℕ) → Struck s t → NoneAt b t) → RightMarks b n
 right-more b m n s r f g = record { right = λ t x. ⊎-elim (λ y. r .right t y) (λ k. g t k) (f .only t x) }
 
 -- ---- outranked exceptions
@@ -75,7 +139,3 @@ module _ (ranks : List ℕ) (taken : ℕ) where
 
   pub upto-all : (k r : ℕ) → k ≤ length ranks → Upto ranks taken k r → Outranked ranks taken r
   upto-all k r h u = record { by = λ c d. let x = u .by c d in record { upper = x .0; ranked = omega (arith, x .1); taken-has = x .2; outranks = x .3 } }
-
--- The next set with all of lo comes later.
-pub set-after : (t lo : ℕ) → t < bitOr (t + 1) lo
-set-after t lo = let a = or-add-and (t + 1) lo in let b = and-le-r (t + 1) lo in omega arith

@@ -10,10 +10,13 @@ use lib.ListN.{length}
 use lib.Pow.{pow-mono}
 use Rattle.logic.proofs.Decide.{holds-or-not, decides-eq, decides-lt}
 use Rattle.sets.specs.declared.Pair.{Pair}
+use Rattle.sets.specs.Sets.{Within}
 use Rattle.sets.proofs.Digits.{lt-or-le}
+use Rattle.sets.proofs.Words.{sub-le}
 use Rattle.book.specs.Limits.{exceptions}
 use Rattle.book.specs.Kinds.{sets}
 use Rattle.order.specs.Order.{setAt, Earlier, fewer, smaller}
+use Rattle.order.proofs.Places.{place-earlier}
 use Rattle.order.proofs.Rule.{order-rule}
 use Rattle.meaning.specs.Books.{Book, Lawful}
 use Rattle.meaning.specs.Resolutions.{Resolution}
@@ -21,6 +24,7 @@ use Rattle.meaning.specs.Order as order
 use Rattle.meaning.specs.Order.{Before, Point, LawfulPoint, AllLater}
 use Rattle.meaning.proofs.Parts.{Part, part-none, part-join, part-all, part-there}
 use Rattle.walk.specs.Walks.{Passed}
+use Rattle.walk.proofs.Steps.{subset-earlier}
 
 -- A pair with an earlier set comes before.
 earlier-before : (p q : Pair) → Earlier (p .taken) (q .taken) → Before p q
@@ -58,6 +62,12 @@ rest-after j p q s n =
 rest-or-not : (j : ℕ) (q : Pair) → ((Passed j q → ⊥) × (q .taken < sets)) ⊎ ((Passed j q → ⊥) × (q .taken < sets) → ⊥)
 rest-or-not j q =
     ⊎-elim (λ s. inr (λ n. n .0 s)) (λ n. ⊎-elim (λ l. inl (n, l)) (λ m. inr (λ x. m (x .1))) (holds-or-not (decides-lt (q .taken) sets))) (passed-or-not j q)
+
+-- A proper subset of the set at place j stands at an earlier place.
+pub subset-place : (j : ℕ) → j < sets → (u : ℕ) → Within u (setAt j) → (u ≡ setAt j → ⊥) → (i : ℕ) × (i < j) × (setAt i ≡ u)
+subset-place j h u f n =
+    let k = order-rule .present u (let x = sub-le u (setAt j) f in let y = order-rule .below j h in omega arith) in
+    (k .0, place-earlier order-rule (k .0) j (k .1) (rw (k .2) (subset-earlier u (setAt j) f n)), k .2)
 
 module _ (b : Book) (from : Point) where
   -- Before the first place there is nothing.

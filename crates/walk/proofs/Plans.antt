@@ -16,26 +16,37 @@ use Rattle.sets.specs.declared.Pair.{Pair}
 use Rattle.sets.specs.Sets.{bitOf, Within, Apart, without}
 use Rattle.sets.specs.Pairs.{Sub}
 use Rattle.sets.proofs.Digits.{bit-lt}
-use Rattle.sets.proofs.Words.{within-contained, contained-within, both-ways, sub-or, sub-and, or-l, or-r, and-l, and-r, none-off, zero-minus}
+use Rattle.sets.proofs.Words.{within-contained, both-ways, off-sub, sub-or, sub-and, or-l, or-r, and-l, and-r, none-off, zero-minus}
 use Rattle.sets.proofs.Pairs.{sub-trans}
+use Rattle.book.specs.Kinds.{sets}
 use Rattle.masks.specs.declared.Bounds.{Bounds}
 use Rattle.masks.specs.Views.{MaskView}
 use Rattle.bounds.specs.Sound.{In, Propagated}
 use Rattle.probe.specs.declared.Answer.{Answer}
 use Rattle.probe.specs.declared.Answer.the-variants.{Found, Nothing}
 use Rattle.probe.specs.Probes.{Probed}
-use Rattle.admissible.specs.Admissible.{Admissible}
+use Rattle.admissible.specs.Admissible.{Undominated, Admissible}
 use Rattle.meaning.specs.Books.{Book, Lawful}
 use Rattle.meaning.specs.Views.{View}
 use Rattle.meaning.specs.Resolutions.{Resolution}
 use Rattle.bridge.proofs.Levels.{cleared-of}
 use Rattle.walk.specs.declared.Strike.{Strike}
-use Rattle.walk.specs.Marks.{Struck, shares, between, IsMarked, Marked, NoneAt, RightMarks, Outranked}
+use Rattle.walk.specs.Marks.{Struck, shares, between, IsMarked, Marked, NoneAt, Outranked, allOnes, Surpassed}
 use Rattle.walk.specs.declared.Range.{Range}
 use Rattle.resolution.specs.Rooted.{Rooted}
 use Rattle.resolution.proofs.Resolutions.{resolution-same}
-use Rattle.walk.specs.Plans.{withSets, NoView, Wider, MarksRight, Admits}
+use Rattle.walk.specs.Plans.{withSets, NoView, Wider, Told, Full, MarksRight, Admits}
+use Rattle.walk.proofs.Steps.{all-within}
 use Rattle.walk.proofs.Marks.{right-more}
+
+-- A view within root whose set lies from lo to hi is none where no view has such a set.
+none-in : (ws : List ℕ) (n : ℕ) (ranks : List ℕ) (root : Bounds) (lo hi : ℕ) → NoView ws n ranks root lo hi
+    → (v : Pair) → MaskView ws n ranks v → In root v → Within lo (v .taken) → Within (v .taken) hi → ⊥
+unfolding withSets
+none-in ws n ranks root lo hi f v m i g h = f .none v m (record {
+  lo = record { taken = sub-or _ _ _ (i .lo .taken) g; held = i .lo .held; denied = i .lo .denied };
+  hi = record { taken = sub-and _ _ _ (i .hi .taken) h; held = i .hi .held; denied = i .hi .denied };
+})
 
 module _ (b : Book) (ws : List ℕ) (n : ℕ) (ranks : List ℕ) (root : Bounds) (rt : Rooted b ws n ranks root) where
   -- A view's set surpasses every set above it and every set with a member that it outranks.
@@ -61,15 +72,7 @@ module _ (b : Book) (ws : List ℕ) (n : ℕ) (ranks : List ℕ) (root : Bounds)
 
   -- No view has a set from lo to hi.
   pub none-within : (lo hi : ℕ) → NoView ws n ranks root lo hi → (t : ℕ) → Within lo t → Within t hi → NoneAt b t
-  unfolding withSets
-  none-within lo hi f t g h = record {
-    none = λ p r e.
-        let k = rt .holds p (r .view) in
-        f .none p (k .0) (record {
-          lo = record { taken = sub-or _ _ _ (k .1 .lo .taken) (rw e g); held = k .1 .lo .held; denied = k .1 .lo .denied };
-          hi = record { taken = sub-and _ _ _ (k .1 .hi .taken) (rw e h); held = k .1 .hi .held; denied = k .1 .hi .denied };
-        });
-  }
+  none-within lo hi f t g h = record { none = λ p r e. let k = rt .holds p (r .view) in none-in ws n ranks root lo hi f p (k .0) (k .1) (rw e g) (rw e h) }
 
   -- The set of a resolution is admissible.
   pub not-admissible : (t : ℕ) → (Admissible ws n ranks root t → ⊥) → NoneAt b t
@@ -100,62 +103,135 @@ module _ (ws : List ℕ) (n : ℕ) (ranks : List ℕ) (root : Bounds) where
   wider-more s r q f g = record { still = λ h. g .still (f .still h) }
 
   pub marks-same : (m : List ℕ) → MarksRight ws n ranks root m m
-  marks-same m = record { stay = λ b r w. w }
+  marks-same m = record { stay = λ b r w. w; kept = λ t x. x; full = λ f. f }
+
+  pub marks-more : (m m′ m″ : List ℕ) → MarksRight ws n ranks root m m′ → MarksRight ws n ranks root m′ m″ → MarksRight ws n ranks root m m″
+  marks-more m m′ m″ f g = record { stay = λ b r w. g .stay b r (f .stay b r w); kept = λ t x. g .kept t (f .kept t x); full = λ x. g .full (f .full x) }
+
+  -- Marks that are kept tell what they told.
+  pub told-kept : (m m′ : List ℕ) → ((t : ℕ) → IsMarked m t → IsMarked m′ t) → (u : ℕ) → Told ws n ranks root m u → Told ws n ranks root m′ u
+  told-kept m m′ k u f = record { above = λ v x i e t h w d. k t (f .above v x i e t h w d) }
+
+  -- Of a set without a view there is nothing to tell.
+  told-none : (lo hi : ℕ) → NoView ws n ranks root lo hi → (m : List ℕ) (u : ℕ) → Within lo u → Within u hi → Told ws n ranks root m u
+  told-none lo hi f m u g h = record { above = λ v x i e. absurd (none-in ws n ranks root lo hi f v x i (rw e g) (rw e h)) }
+
+  -- Full marks stay full if the new ones tell of each struck set.
+  full-more : (m m′ : List ℕ) (s : Strike) → Marked m s 0 sets m′ → ((u : ℕ) → Struck s u → Told ws n ranks root m′ u) → Full ws n ranks root m → Full ws n ranks root m′
+  full-more m m′ s k g f = record { long = rw (k .same) (f .long); told = λ u x. ⊎-elim (λ y. told-kept m m′ (k .stays) u (f .told u y)) (λ y. g u y) (k .only u x) }
 
   -- A range that has no view is marked.
   pub range-marked : (t : ℕ) (s : Range) (but : ℕ) (m m′ : List ℕ) → Wider ws n ranks root (record { lo = t; hi = t }) s
-      → Marked m (record { lo = s .lo; hi = s .hi; but = but; any = 0 }) m′ → NoView ws n ranks root t t → MarksRight ws n ranks root m m′
-  range-marked t s but m m′ f k g = record { stay = λ b r w. right-more b m m′ _ w k (none b r) }
+      → Marked m (record { lo = s .lo; hi = s .hi; but = but; any = 0 }) 0 sets m′ → NoView ws n ranks root t t → MarksRight ws n ranks root m m′
+  range-marked t s but m m′ f k g = record {
+    stay = λ b r w. right-more b m m′ _ w k (λ u x. let y = inside u x in none-within b ws n ranks root r (s .lo) (s .hi) (f .still g) u (y .0) (y .1));
+    kept = k .stays;
+    full = full-more m m′ _ k (λ u x. let y = inside u x in told-none (s .lo) (s .hi) (f .still g) m′ u (y .0) (y .1));
+  }
     where
-      none : (b : Book) → Rooted b ws n ranks root → (u : ℕ) → Struck (record { lo = s .lo; hi = s .hi; but = but; any = 0 }) u → NoneAt b u
-      none b r u (shares x) = absurd (x (none-off u))
-      none b r u (between x y z) = none-within b ws n ranks root r (s .lo) (s .hi) (f .still g) u x y
+      inside : (u : ℕ) → Struck (record { lo = s .lo; hi = s .hi; but = but; any = 0 }) u → Within (s .lo) u × Within u (s .hi)
+      inside u (shares x) = absurd (x (none-off u))
+      inside u (between x y z) = (x, y)
+
+-- ---- what a view's set surpasses
+module _ (ws : List ℕ) (n : ℕ) (ranks : List ℕ) (root : Bounds) (v : Pair) (vm : MaskView ws n ranks v) (vi : In root v) (m m′ : List ℕ) (p : Surpassed ranks (v .taken) m m′) where
+  abbrev strike : Strike
+  strike = record { lo = v .taken; hi = allOnes; but = v .taken; any = p .lower }
+
+  -- A proper superset of a struck set is struck.
+  upward : (u t : ℕ) → t < sets → Within u t → (t ≡ u → ⊥) → Struck strike u → Struck strike t
+  upward u t h w d (shares x) = shares (λ a. x (off-sub (p .lower) (p .lower) u t (λ i. le-refl _) w a))
+  upward u t h w d (between x y z) = between (λ i. le-trans (x i) (w i)) (all-within t h) (λ e. d (both-ways t u (rw e x) w))
+
+  pub surpassed-marks : MarksRight ws n ranks root m m′
+  surpassed-marks = record {
+    stay = λ b r w. right-more b m m′ strike w (p .marked) (λ u s. surpassed b ws n ranks root r v vm vi (p .lower) (p .outranked) allOnes u s);
+    kept = p .marked .stays;
+    full = λ f. full-more ws n ranks root m m′ strike (p .marked) (λ u s. record { above = λ x k i e t h w d. p .marked .all t (omega arith) h (omega (arith, f .long)) (upward u t h w d s) }) f;
+  }
+
+  -- The marks tell of the view's own set.
+  pub surpassed-told : (t : ℕ) → v .taken ≡ t → Full ws n ranks root m → Told ws n ranks root m′ t
+  surpassed-told t e f = record { above = λ x k i y u h w d. p .marked .all u (omega arith) h (omega (arith, f .long)) (between (rw e w) (all-within u h) (λ z. d (z ∙ e))) }
 
 -- ---- what admits answers
-module _ (ws : List ℕ) (n : ℕ) (ranks : List ℕ) (root : Bounds) (t : ℕ) (m : List ℕ) where
-  pub admits-marked : IsMarked m t → Admits ws n ranks root t m m false
-  admits-marked k = record { marks = marks-same ws n ranks root m; refuses = λ e b r w. w .right t k; accepts = λ e. absurd (clash e); lawful = λ e. absurd (clash e) }
+module _ (ws : List ℕ) (n : ℕ) (ranks : List ℕ) (root : Bounds) (t : ℕ) (known : Bool) (m : List ℕ) where
+  pub admits-marked : IsMarked m t → Admits ws n ranks root t known m m false
+  admits-marked k = record {
+    marks = marks-same ws n ranks root m;
+    told = λ f. f .told t k;
+    refuses = λ e b r w. w .right t k;
+    accepts = λ e. absurd (clash e);
+    lawful = λ e. absurd (clash e);
+  }
 
   -- No view has the set.
-  pub admits-none : (m′ : List ℕ) → NoView ws n ranks root t t → MarksRight ws n ranks root m m′ → Admits ws n ranks root t m m′ false
+  pub admits-none : (m′ : List ℕ) → NoView ws n ranks root t t → MarksRight ws n ranks root m m′ → Admits ws n ranks root t known m m′ false
   admits-none m′ f k = record {
     marks = k;
+    told = λ g. told-none ws n ranks root t t f m′ t (λ i. le-refl _) (λ i. le-refl _);
     refuses = λ e b r w. none-within b ws n ranks root r t t f t (λ i. le-refl _) (λ i. le-refl _);
     accepts = λ e. absurd (clash e);
     lawful = λ e. absurd (clash e);
   }
 
   -- The set is not within the sets of root.
-  pub admits-beyond : (without t (root .hi .taken) ≡ 0 → ⊥) → Admits ws n ranks root t m m false
+  pub admits-beyond : (without t (root .hi .taken) ≡ 0 → ⊥) → Admits ws n ranks root t known m m false
   unfolding withSets
   admits-beyond x = admits-none m (record { none = λ v k i. x (zero-minus t (root .hi .taken) (λ j. le-trans (or-r (root .lo .taken) t j) (le-trans (i .lo .taken j) (le-trans (i .hi .taken j) (and-l (root .hi .taken) t j))))) }) (marks-same ws n ranks root m)
 
-  pub admits-short : (without (root .lo .taken) t ≡ 0 → ⊥) → Admits ws n ranks root t m m false
+  pub admits-short : (without (root .lo .taken) t ≡ 0 → ⊥) → Admits ws n ranks root t known m m false
   unfolding withSets
   admits-short x = admits-none m (record { none = λ v k i. x (zero-minus (root .lo .taken) t (λ j. le-trans (or-l (root .lo .taken) t j) (le-trans (i .lo .taken j) (le-trans (i .hi .taken j) (and-r (root .hi .taken) t j))))) }) (marks-same ws n ranks root m)
 
   module _ (box : Bounds) (eb : box ≡ withSets root t t) (a : Answer) (pr : Probed ws n ranks box a) where
-    pub admits-nothing : a ≡ Nothing → Admits ws n ranks root t m m false
+    pub admits-nothing : a ≡ Nothing → Admits ws n ranks root t known m m false
     admits-nothing e = admits-none m (record { none = λ v k i. pr .none e v k (rw eb i) }) (marks-same ws n ranks root m)
 
-    module _ (v : Pair) (ea : a ≡ Found v) (any hi : ℕ) (o : Outranked ranks (v .taken) any) (m′ : List ℕ)
-        (k : Marked m (record { lo = v .taken; hi = hi; but = v .taken; any = any }) m′) where
-      seen : (b : Book) → Rooted b ws n ranks root → RightMarks b m → RightMarks b m′
-      seen b r w =
-          let f = pr .found v ea in
-          right-more b m m′ _ w k (λ u s. surpassed b ws n ranks root r v (f .0) (in-root root t t v (rw eb at (f .1))) any o hi u s)
+    module _ (v : Pair) (ea : a ≡ Found v) (m′ : List ℕ) (p : Surpassed ranks (v .taken) m m′) where
+      -- The view that was found is within root and has the set.
+      found-in : In root v
+      found-in = in-root root t t v (rw eb at (pr .found v ea .1))
 
-      -- The view that was found has the set.
-      has-set : (b : Book) → Rooted b ws n ranks root → t < 2 ^ length (b .exceptions)
+      found-set : v .taken ≡ t
       unfolding withSets
-      has-set b r =
-          let f = pr .found v ea in
-          let i : In (withSets root t t) v = rw eb at (f .1) in
-          let e : v .taken ≡ t = both-ways (v .taken) t (λ k. le-trans (i .hi .taken k) (and-r (root .hi .taken) t k)) (λ k. le-trans (or-r (root .lo .taken) t k) (i .lo .taken k)) in
-          rw e at (r .only v (f .0) (in-root root t t v i) .lawful .exceptions)
+      found-set =
+          let i : In (withSets root t t) v = rw eb at (pr .found v ea .1) in
+          both-ways (v .taken) t (λ k. le-trans (i .hi .taken k) (and-r (root .hi .taken) t k)) (λ k. le-trans (or-r (root .lo .taken) t k) (i .lo .taken k))
 
-      pub admits-surpassed : IsMarked m′ t → Admits ws n ranks root t m m′ false
-      admits-surpassed x = record { marks = record { stay = seen }; refuses = λ e b r w. seen b r w .right t x; accepts = λ e. absurd (clash e); lawful = λ e. absurd (clash e) }
+      has-set : (b : Book) → Rooted b ws n ranks root → t < 2 ^ length (b .exceptions)
+      has-set b r = rw found-set at (r .only v (pr .found v ea .0) found-in .lawful .exceptions)
 
-      pub admits-tested : (z : Bool) → Decides z (Admissible ws n ranks root t) → Admits ws n ranks root t m m′ z
-      admits-tested z d = record { marks = record { stay = seen }; refuses = λ e b r w. not-admissible b ws n ranks root r t (d .no e); accepts = λ e. d .yes e; lawful = λ e b r. has-set b r }
+      seen : MarksRight ws n ranks root m m′
+      seen = surpassed-marks ws n ranks root v (pr .found v ea .0) found-in m m′ p
+
+      seen-told : Full ws n ranks root m → Told ws n ranks root m′ t
+      seen-told = surpassed-told ws n ranks root v (pr .found v ea .0) found-in m m′ p t found-set
+
+      pub admits-surpassed : IsMarked m′ t → Admits ws n ranks root t known m m′ false
+      admits-surpassed x = record {
+        marks = seen;
+        told = seen-told;
+        refuses = λ e b r w. seen .stay b r w .right t x;
+        accepts = λ e. absurd (clash e);
+        lawful = λ e. absurd (clash e);
+      }
+
+      pub admits-tested : (z : Bool) → Decides z (Admissible ws n ranks root t) → Admits ws n ranks root t known m m′ z
+      admits-tested z d = record {
+        marks = seen;
+        told = seen-told;
+        refuses = λ e b r w. not-admissible b ws n ranks root r t (d .no e);
+        accepts = λ e f. d .yes e;
+        lawful = λ e b r. has-set b r;
+      }
+
+      -- Where every set before t has been walked, a set that is not marked is minimal.
+      pub admits-known : known ≡ true → getD m′ t 0 ≡ 0 → (z : Bool) → Decides z (Undominated ws n ranks root t) → Admits ws n ranks root t known m m′ z
+      admits-known k o z d = record {
+        marks = seen;
+        told = seen-told;
+        refuses = λ e b r w. not-admissible b ws n ranks root r t (λ a. d .no e (a .undominated));
+        accepts = λ e f. record { minimal = f k (λ x. seen .kept t x o); undominated = d .yes e };
+        lawful = λ e b r. has-set b r;
+      }

@@ -10,7 +10,7 @@ use native.Mathlib.Omega.{arith}
 use borrow.Author.Tests.{not-true, not-false}
 use lib.ListN.{length, getD, replicate, getD-replicate, List·getD-eq-default, length-replicate}
 use Rattle.logic.specs.Tests.{Decides}
-use Rattle.logic.proofs.Decide.{clash, reworded}
+use Rattle.logic.proofs.Decide.{clash, reworded, holds-or-not, decides-eq}
 use Rattle.sets.specs.declared.Pair.{Pair}
 use Rattle.sets.proofs.Digits.{lt-or-le}
 use Rattle.book.specs.Kinds.{sets}
@@ -31,74 +31,110 @@ use Rattle.meaning.proofs.Twins.{decides-view}
 use Rattle.meaning.proofs.Ordered.{before-irreflexive, before-transitive}
 use Rattle.meaning.proofs.Parts.{Part, part-none, part-same}
 use Rattle.bridge.proofs.Views.{view-same}
-use Rattle.walk.specs.Marks.{RightMarks}
-use Rattle.walk.specs.Plans.{MarksRight, Admits}
+use Rattle.admissible.specs.Admissible.{Minimal}
+use Rattle.walk.specs.Marks.{IsMarked, RightMarks}
+use Rattle.walk.specs.Plans.{Told, MarksRight, Rests, Admits}
 use Rattle.resolution.proofs.Resolutions.{resolution-same}
-use Rattle.walk.specs.Walks.{Passed, Serves, SetListed, Beyond, Walked, FirstPage, PageAfter}
-use Rattle.walk.proofs.Places.{at-or-past, none-yet, one-more, all-places, cut-short}
+use Rattle.walk.specs.Walks.{Passed, Serves, SetListed, Beyond, Ready, Walked, FirstPage, PageAfter}
+use Rattle.walk.proofs.Plans.{marks-same, marks-more, told-kept}
+use Rattle.walk.proofs.Places.{at-or-past, subset-place, none-yet, one-more, all-places, cut-short}
+
+-- Nothing is marked at first.
+unmarked : (k t : ℕ) → IsMarked (replicate k 0) t → ⊥
+unmarked k t x = x (⊎-elim (λ h. getD-replicate k t 0 0 h) (λ h. List·getD-eq-default (replicate k 0) 0 (rw (length-replicate {A = ℕ} k 0) h)) (lt-or-le t k))
 
 -- ---- one set
-module _ (ws ranks : List ℕ) (root : Bounds) (q : Task) (t : ℕ) (after : Bool) (at : ℕ) (m m′ : List ℕ) (z : Bool) (a : Admits ws (q .rules) ranks root t m m′ z) (o : List ℕ) where
-  pub set-refused : not z ≡ true → at ≤ q .room → SetListed ws ranks root q t after at m m′ o o at
+module _ (ws ranks : List ℕ) (root : Bounds) (q : Task) (t : ℕ) (after known : Bool) (at : ℕ) (m m′ : List ℕ) (z : Bool) (a : Admits ws (q .rules) ranks root t known m m′ z) (o : List ℕ) where
+  pub set-refused : not z ≡ true → at ≤ q .room → SetListed ws ranks root q t after known at m m′ o o at
   set-refused e h = record {
     most = h;
     marks = a .marks;
-    part = λ b from s w g. ([], page-none (q .room) at o, part-none b from (λ p. p .taken ≡ t) (λ p r l d. a .refuses (not-true z e) b (s .rooted) w .none p r d));
+    told = a .told;
+    part = λ b from s w f g. ([], page-none (q .room) at o, part-none b from (λ p. p .taken ≡ t) (λ p r l d. a .refuses (not-true z e) b (s .rooted) w .none p r d));
   }
 
-  pub set-listed : not z ≡ false → (o′ : List ℕ) (r : ℕ) → Listed ws ranks q t after at o o′ r → SetListed ws ranks root q t after at m m′ o o′ r
-  set-listed e o′ r l = record { most = l .most; marks = a .marks; part = part }
+  pub set-listed : not z ≡ false → (o′ : List ℕ) (r : ℕ) → Listed ws ranks q t after at o o′ r → SetListed ws ranks root q t after known at m m′ o o′ r
+  set-listed e o′ r l = record { most = l .most; marks = a .marks; told = a .told; part = part }
     where
       yes : z ≡ true
       yes = not-false z e
 
-      part : (b : Book) (from : Point) → Serves b ws ranks root q → RightMarks b m → Begins b from t after (q .point)
+      part : (b : Book) (from : Point) → Serves b ws ranks root q → RightMarks b m → Rests ws (q .rules) ranks root t known m → Begins b from t after (q .point)
           → (ys : List Pair) × Page (q .room) at o o′ ys r × Part b from (λ p. p .taken ≡ t) ys
-      part b from s w g =
+      part b from s w f g =
           let v = views-listed b from t (a .lawful yes b (s .rooted)) ws ranks q (s .statements) after g (view b)
           (λ p k d. let i = view-same b ws (q .rules) (s .rooted .packs) p ranks (s .rooted .ranked) k in reworded (decides-view b p) (i .1) (i .0)) at r o o′ l in (
             v .0,
             v .1,
             part-of-listing b from t (MaskView ws (q .rules) ranks) (v .0)
-                (λ p k d x. resolution-same b ws (q .rules) ranks root (s .rooted) p .0 (view-same b ws (q .rules) (s .rooted .packs) p ranks (s .rooted .ranked) k .0 x, rw d (a .accepts yes)))
+                (λ p k d x. resolution-same b ws (q .rules) ranks root (s .rooted) p .0 (view-same b ws (q .rules) (s .rooted .packs) p ranks (s .rooted .ranked) k .0 x, rw d (a .accepts yes f)))
                 (λ p x d. s .rooted .holds p (x .view) .0) (v .2),
           )
 
+-- ---- what the marks tell
+module _ (ws : List ℕ) (n : ℕ) (ranks : List ℕ) (root : Bounds) where
+  -- Nothing is told at first.
+  pub ready-none : (k : ℕ) → sets ≤ k → Ready ws n ranks root 0 (replicate k 0)
+  ready-none k h = record {
+    full = record { long = rw (length-replicate {A = ℕ} k 0) h; told = λ u x. absurd (unmarked k u x) };
+    told = λ i l. absurd (omega arith);
+  }
+
+  -- One place more.
+  ready-next : (j : ℕ) (m m′ : List ℕ) → Ready ws n ranks root j m → MarksRight ws n ranks root m m′ → Told ws n ranks root m′ (setAt j) → Ready ws n ranks root (j + 1) m′
+  ready-next j m m′ r k f = record {
+    full = k .full (r .full);
+    told = λ i l. ⊎-elim (λ a. told-kept ws n ranks root m m′ (k .kept) (setAt i) (r .told i a)) (λ a. let e : i ≡ j = omega arith in rw e f) (lt-or-le i j);
+  }
+
+  -- Where every place before j has been walked, the set at place j is minimal if it is not marked: a view with a proper subset, which stands
+  -- before, would have it marked.
+  ready-minimal : (j : ℕ) (m : List ℕ) → j < sets → Ready ws n ranks root j m → (IsMarked m (setAt j) → ⊥) → Minimal ws n ranks root (setAt j)
+  ready-minimal j m h r f = record {
+    has = λ v x i w.
+        ⊎-elim (λ (e : v .taken ≡ setAt j). λ (c : ℕ). rw e (le-refl _))
+        (λ d. let k = subset-place j h (v .taken) w d in absurd (f (r .told (k .0) (k .1) .above v x i (sym (k .2)) (setAt j) (order-rule .below j h) (rw (k .2) w) (λ e. d (sym (e ∙ k .2))))))
+        (holds-or-not (decides-eq (v .taken) (setAt j)));
+  }
+
 -- ---- all sets
--- The loop of the walk at place j: marks are right, and the page has all that stands at the places before j.
-pub record Going (ws ranks : List ℕ) (root : Bounds) (q : Task) (first at : ℕ) (m o : List ℕ) (j k : ℕ) (n p : List ℕ) : Type 0 where
+-- The loop of the walk at place j: marks are right and tell of the places before j, and the page has all that stands at those places.
+pub record Going (ws ranks : List ℕ) (root : Bounds) (q : Task) (first : ℕ) (known : Bool) (at : ℕ) (m o : List ℕ) (j k : ℕ) (n p : List ℕ) : Type 0 where
   pub from : first ≤ j
   pub to : j ≤ sets
   pub fits : Fits ws ranks p q k
   pub marks : MarksRight ws (q .rules) ranks root m n
-  pub page : (b : Book) (from : Point) → Serves b ws ranks root q → RightMarks b m → LawfulPoint b from → Beyond from first
+  pub ready : Ready ws (q .rules) ranks root first m → Ready ws (q .rules) ranks root j n
+  pub page : (b : Book) (from : Point) → Serves b ws ranks root q → RightMarks b m → (known ≡ true → Ready ws (q .rules) ranks root first m) → LawfulPoint b from → Beyond from first
       → (start : List ℕ) (xs : List Pair) → Part b from (Passed first) xs → Page (q .room) 0 start o xs at
       → (ys : List Pair) × Part b from (Passed j) ys × Page (q .room) 0 start p ys k
 
 fits-again : (ws ranks o o′ : List ℕ) (q : Task) (at r : ℕ) → Fits ws ranks o q at → length o′ ≡ length o → r ≤ q .room → Fits ws ranks o′ q r
 fits-again ws ranks o o′ q at r f e h = record { suits = f .suits; place = h; long = rw e (f .long) }
 
-module _ (ws ranks : List ℕ) (root : Bounds) (q : Task) (first at : ℕ) (m o : List ℕ) where
-  pub going-first : Fits ws ranks o q at → first ≤ sets → Going ws ranks root q first at m o first at m o
+module _ (ws ranks : List ℕ) (root : Bounds) (q : Task) (first : ℕ) (known : Bool) (at : ℕ) (m o : List ℕ) where
+  pub going-first : Fits ws ranks o q at → first ≤ sets → Going ws ranks root q first known at m o first at m o
   going-first f h = record {
     from = le-refl first;
     to = h;
     fits = f;
-    marks = record { stay = λ b r w. w };
-    page = λ b from s w l y start xs p g. (xs, p, g);
+    marks = marks-same ws (q .rules) ranks root m;
+    ready = λ r. r;
+    page = λ b from s w e l y start xs p g. (xs, p, g);
   }
 
-  module _ (j k : ℕ) (n p : List ℕ) (g : Going ws ranks root q first at m o j k n p) where
-    pub going-next : j < sets → (t : ℕ) → t ≡ setAt j → (n′ p′ : List ℕ) (r : ℕ) → SetListed ws ranks root q t false k n n′ p p′ r → length p′ ≡ length p
-        → Going ws ranks root q first at m o (j + 1) r n′ p′
+  module _ (j k : ℕ) (n p : List ℕ) (g : Going ws ranks root q first known at m o j k n p) where
+    pub going-next : j < sets → (t : ℕ) → t ≡ setAt j → (n′ p′ : List ℕ) (r : ℕ) → SetListed ws ranks root q t false known k n n′ p p′ r → length p′ ≡ length p
+        → Going ws ranks root q first known at m o (j + 1) r n′ p′
     going-next h t et n′ p′ r s e = record {
       from = omega (arith, g .from);
       to = omega arith;
       fits = fits-again ws ranks p p′ q k r (g .fits) e (s .most);
-      marks = record { stay = λ b x w. s .marks .stay b x (g .marks .stay b x w) };
-      page = λ b from x w l y start xs u v.
-          let c = g .page b from x w l y start xs u v in
-          let d = s .part b from x (g .marks .stay b (x .rooted) w) (record { within = λ f. absurd (clash f); before = λ f i z. y .later j (g .from) h i (sym et ∙ sym z) }) in (
+      marks = marks-more ws (q .rules) ranks root m n n′ (g .marks) (s .marks);
+      ready = λ x. let y = g .ready x in ready-next ws (q .rules) ranks root j n n′ y (s .marks) (rw et at (s .told (y .full)));
+      page = λ b from x w f l y start xs u v.
+          let c = g .page b from x w f l y start xs u v in
+          let d = s .part b from x (g .marks .stay b (x .rooted) w) (λ a i. rw et (ready-minimal ws (q .rules) ranks root j n h (g .ready (f a)) (rw et at i))) (record { within = λ f. absurd (clash f); before = λ f i z. y .later j (g .from) h i (sym et ∙ sym z) }) in (
             c .0 ++ d .0,
             rw (add-one j) (one-more b from j (c .0) (d .0) h (c .1) (part-same b from (λ i. i .taken ≡ t) (λ i. setAt j ≡ i .taken) (d .0) (λ i a z. sym et ∙ sym z) (λ i a z. sym z ∙ sym et) (d .2))),
             page-append (q .room) 0 k r start p p′ (c .0) (d .0) (c .2) (d .1),
@@ -106,19 +142,19 @@ module _ (ws ranks : List ℕ) (root : Bounds) (q : Task) (first at : ℕ) (m o 
     }
 
     -- All places have been passed.
-    pub walked-all : sets ≤ j → Walked ws ranks root q first at m o p k
+    pub walked-all : sets ≤ j → Walked ws ranks root q first known at m o p k
     walked-all h = record {
-      whole = λ b from x w l y start xs u v.
-          let c = g .page b from x w l y start xs u v in
+      whole = λ b from x w f l y start xs u v.
+          let c = g .page b from x w f l y start xs u v in
           let e : j ≡ sets = omega (arith, g .to) in
           (c .0, all-places b from (x .few) (c .0) (rw e at (c .1)), c .2);
     }
 
     -- The page is full.
-    pub walked-full : q .room ≤ k → Walked ws ranks root q first at m o p k
+    pub walked-full : q .room ≤ k → Walked ws ranks root q first known at m o p k
     walked-full h = record {
-      whole = λ b from x w l y start xs u v.
-          let c = g .page b from x w l y start xs u v in
+      whole = λ b from x w f l y start xs u v.
+          let c = g .page b from x w f l y start xs u v in
           let d = cut-short b from (x .few) l j (c .0) (c .1) in
           (c .0 ++ d .0, d .1, page-append (q .room) 0 k k start p p (c .0) (d .0) (c .2) (page-full (q .room) k p (d .0) h));
     }
@@ -132,16 +168,13 @@ last-place t j h e n =
     (omega arith, rw l at (k .2))
 
 -- ---- whole pages
--- Nothing is marked at first.
 pub none-marked : (b : Book) (k : ℕ) → RightMarks b (replicate k 0)
-none-marked b k = record {
-  right = λ t x. absurd (x (⊎-elim (λ h. getD-replicate k t 0 0 h) (λ h. List·getD-eq-default (replicate k 0) 0 (rw (length-replicate {A = ℕ} k 0) h)) (lt-or-le t k)));
-}
+none-marked b k = record { right = λ t x. absurd (unmarked k t x) }
 
 module _ (ws ranks : List ℕ) (root : Bounds) (q : Task) (k : ℕ) (o : List ℕ) where
-  pub first-walked : (o′ : List ℕ) (r : ℕ) → Walked ws ranks root q 0 0 (replicate k 0) o o′ r → FirstPage ws ranks root q o o′ r
-  first-walked o′ r w = record {
-    page = λ b s. w .whole b meaning.start s (none-marked b k) tt (record { later = λ i h l p e. tt }) o [] (none-yet b meaning.start) (page-none (q .room) 0 o);
+  pub first-walked : sets ≤ k → (o′ : List ℕ) (r : ℕ) → Walked ws ranks root q 0 true 0 (replicate k 0) o o′ r → FirstPage ws ranks root q o o′ r
+  first-walked h o′ r w = record {
+    page = λ b s. w .whole b meaning.start s (none-marked b k) (λ e. ready-none ws (q .rules) ranks root k h) tt (record { later = λ i d l p e. tt }) o [] (none-yet b meaning.start) (page-none (q .room) 0 o);
   }
 
   module _ (j : ℕ) (h : j < sets) (e : setAt j ≡ q .point .taken) where
@@ -149,14 +182,14 @@ module _ (ws ranks : List ℕ) (root : Bounds) (q : Task) (k : ℕ) (o : List �
     not-later : (b : Book) → Part b (meaning.at (q .point)) (Passed j) []
     not-later b = part-none b (meaning.at (q .point)) (Passed j) (λ p r l s. before-irreflexive p (before-transitive p (q .point) p (at-or-past j j (le-refl j) h p (q .point) s e) l))
 
-    pub after-walked : (m : List ℕ) (o′ o″ : List ℕ) (r r′ : ℕ) → SetListed ws ranks root q (q .point .taken) true 0 (replicate k 0) m o o′ r
-        → Walked ws ranks root q (j + 1) r m o′ o″ r′ → PageAfter ws ranks root q o o″ r′
+    pub after-walked : (m : List ℕ) (o′ o″ : List ℕ) (r r′ : ℕ) → SetListed ws ranks root q (q .point .taken) true false 0 (replicate k 0) m o o′ r
+        → Walked ws ranks root q (j + 1) false r m o′ o″ r′ → PageAfter ws ranks root q o o″ r′
     after-walked m o′ o″ r r′ s w = record { page = page }
       where
         page : (b : Book) → Serves b ws ranks root q → Lawful b (q .point) → (zs : List Pair) × AllLater b (meaning.at (q .point)) zs × Page (q .room) 0 o o″ zs r′
         page b x l =
             let from : Point = meaning.at (q .point) in
-            let d = s .part b from x (none-marked b k) (record { within = λ f. (refl, l, refl); before = λ f. absurd (clash (sym f)) }) in
+            let d = s .part b from x (none-marked b k) (λ f. absurd (clash f)) (record { within = λ f. (refl, l, refl); before = λ f. absurd (clash (sym f)) }) in
             let y = one-more b from j [] (d .0) h (not-later b) (part-same b from (λ i. i .taken ≡ q .point .taken) (λ i. setAt j ≡ i .taken) (d .0) (λ i a z. e ∙ sym z) (λ i a z. sym z ∙ e) (d .2)) in
-            w .whole b from x (s .marks .stay b (x .rooted) (none-marked b k)) l
+            w .whole b from x (s .marks .stay b (x .rooted) (none-marked b k)) (λ f. absurd (clash f)) l
             (record { later = λ i n z p f. at-or-past (suc j) i (omega arith) z (q .point) p (inr e) f }) o (d .0) (rw (add-one j) y) (d .1)

@@ -1,19 +1,21 @@
 -- What the walk knows of the book whose words it reads, and what it says of a set of exceptions.
-use Prim.Native.Nat.{ℕ, _^_, _<_}
+use Prim.Native.Nat.{ℕ, _^_, _<_, _≤_}
 use mathlib.Core.Path.{_≡_}
 use mathlib.Core.Bool.{Bool, true, false}
 use mathlib.Core.List.{List}
 use lib.Bits.{bitAnd, bitOr}
 use lib.ListN.{length}
 use Rattle.sets.specs.declared.Pair.{Pair}
+use Rattle.sets.specs.Sets.{Within}
+use Rattle.book.specs.Kinds.{sets}
 use Rattle.masks.specs.declared.Bounds.{Bounds}
 use Rattle.masks.specs.Views.{MaskView}
 use Rattle.bounds.specs.Sound.{In}
-use Rattle.admissible.specs.Admissible.{Admissible}
+use Rattle.admissible.specs.Admissible.{Minimal, Admissible}
 use Rattle.meaning.specs.Books.{Book}
 use Rattle.resolution.specs.Rooted.{Rooted}
 use Rattle.walk.specs.declared.Range.{Range}
-use Rattle.walk.specs.Marks.{NoneAt, RightMarks}
+use Rattle.walk.specs.Marks.{IsMarked, NoneAt, RightMarks}
 
 -- The bounds root with only the sets of exceptions from lo to hi.
 unfoldable pub withSets : Bounds → ℕ → ℕ → Bounds
@@ -30,13 +32,29 @@ pub record NoView (ws : List ℕ) (n : ℕ) (ranks : List ℕ) (root : Bounds) (
 pub record Wider (ws : List ℕ) (n : ℕ) (ranks : List ℕ) (root : Bounds) (s r : Range) : Type 0 where
   pub still : NoView ws n ranks root (s .lo) (s .hi) → NoView ws n ranks root (r .lo) (r .hi)
 
--- Marks that are right for the book stay so.
+-- If a view has the set u, every proper superset of u is marked.
+pub record Told (ws : List ℕ) (n : ℕ) (ranks : List ℕ) (root : Bounds) (marks : List ℕ) (u : ℕ) : Type 0 where
+  pub above : (v : Pair) → MaskView ws n ranks v → In root v → v .taken ≡ u → (t : ℕ) → t < sets → Within u t → (t ≡ u → ⊥) → IsMarked marks t
+
+-- There is a mark for every set, and that is so of each marked set.
+pub record Full (ws : List ℕ) (n : ℕ) (ranks : List ℕ) (root : Bounds) (marks : List ℕ) : Type 0 where
+  pub long : sets ≤ length marks
+  pub told : (u : ℕ) → IsMarked marks u → Told ws n ranks root marks u
+
+-- Marks that are right for the book stay so; what is marked stays marked; full marks stay full.
 pub record MarksRight (ws : List ℕ) (n : ℕ) (ranks : List ℕ) (root : Bounds) (before after : List ℕ) : Type 0 where
   pub stay : (b : Book) → Rooted b ws n ranks root → RightMarks b before → RightMarks b after
+  pub kept : (t : ℕ) → IsMarked before t → IsMarked after t
+  pub full : Full ws n ranks root before → Full ws n ranks root after
 
--- Whether a resolution can have the set t: if not, none has it; if so, the set is admissible. Marks that were right stay right.
-pub record Admits (ws : List ℕ) (n : ℕ) (ranks : List ℕ) (root : Bounds) (t : ℕ) (before after : List ℕ) (r : Bool) : Type 0 where
+-- Where known is true, t is minimal if it is not marked.
+abbrev pub Rests : List ℕ → ℕ → List ℕ → Bounds → ℕ → Bool → List ℕ → Type 0
+Rests ws n ranks root t known marks = known ≡ true → (IsMarked marks t → ⊥) → Minimal ws n ranks root t
+
+-- Whether a resolution can have the set t: if not, none has it; if so, the set is admissible. The marks stay right, and tell of t afterwards.
+pub record Admits (ws : List ℕ) (n : ℕ) (ranks : List ℕ) (root : Bounds) (t : ℕ) (known : Bool) (before after : List ℕ) (r : Bool) : Type 0 where
   pub marks : MarksRight ws n ranks root before after
+  pub told : Full ws n ranks root before → Told ws n ranks root after t
   pub refuses : r ≡ false → (b : Book) → Rooted b ws n ranks root → RightMarks b before → NoneAt b t
-  pub accepts : r ≡ true → Admissible ws n ranks root t
+  pub accepts : r ≡ true → Rests ws n ranks root t known before → Admissible ws n ranks root t
   pub lawful : r ≡ true → (b : Book) → Rooted b ws n ranks root → t < 2 ^ length (b .exceptions)

@@ -1,7 +1,7 @@
 -- The walk over the sets of exceptions: what has been passed, and the page that it leaves.
 use Prim.Native.Nat.{ℕ, zero, suc, _<_, _≤_}
 use mathlib.Core.Path.{_≡_}
-use mathlib.Core.Bool.{Bool, false}
+use mathlib.Core.Bool.{Bool, true}
 use mathlib.Core.List.{List}
 use mathlib.Core.Logic.{_⊎_}
 use lib.ListN.{length}
@@ -18,7 +18,7 @@ use Rattle.meaning.specs.Order.{Point, start, at, LawfulPoint, Later, AllLater}
 use Rattle.meaning.proofs.Parts.{Part}
 use Rattle.walk.specs.Marks.{RightMarks}
 use Rattle.resolution.specs.Rooted.{Rooted}
-use Rattle.walk.specs.Plans.{MarksRight}
+use Rattle.walk.specs.Plans.{Told, Full, MarksRight, Rests}
 
 -- The pair's set of exceptions stands at one of the first j places of the order.
 abbrev pub Passed : ℕ → Pair → Type 0
@@ -32,19 +32,25 @@ pub record Serves (b : Book) (ws ranks : List ℕ) (root : Bounds) (q : Task) : 
   pub few : length (b .exceptions) ≤ exceptions
 
 -- One set of exceptions: the page of the resolutions that have it and are later than the point.
-pub record SetListed (ws ranks : List ℕ) (root : Bounds) (q : Task) (t : ℕ) (after : Bool) (k : ℕ) (m m′ o o′ : List ℕ) (r : ℕ) : Type 0 where
+pub record SetListed (ws ranks : List ℕ) (root : Bounds) (q : Task) (t : ℕ) (after known : Bool) (k : ℕ) (m m′ o o′ : List ℕ) (r : ℕ) : Type 0 where
   pub most : r ≤ q .room
   pub marks : MarksRight ws (q .rules) ranks root m m′
-  pub part : (b : Book) (from : Point) → Serves b ws ranks root q → RightMarks b m → Begins b from t after (q .point)
+  pub told : Full ws (q .rules) ranks root m → Told ws (q .rules) ranks root m′ t
+  pub part : (b : Book) (from : Point) → Serves b ws ranks root q → RightMarks b m → Rests ws (q .rules) ranks root t known m → Begins b from t after (q .point)
       → (ys : List Pair) × Page (q .room) k o o′ ys r × Part b from (λ p. p .taken ≡ t) ys
 
 -- From place j on every pair is later than the point.
 pub record Beyond (from : Point) (j : ℕ) : Type 0 where
   pub later : (i : ℕ) → j ≤ i → i < sets → (p : Pair) → setAt i ≡ p .taken → Later from p
 
+-- The sets at the places before j have been walked with these marks: the marks tell of each of them, and of each marked set.
+pub record Ready (ws : List ℕ) (n : ℕ) (ranks : List ℕ) (root : Bounds) (j : ℕ) (marks : List ℕ) : Type 0 where
+  pub full : Full ws n ranks root marks
+  pub told : (i : ℕ) → i < j → Told ws n ranks root marks (setAt i)
+
 -- The walk from place j: with the page of all that stands at the places before it, it makes the page of all later resolutions.
-pub record Walked (ws ranks : List ℕ) (root : Bounds) (q : Task) (j k : ℕ) (m o o′ : List ℕ) (r : ℕ) : Type 0 where
-  pub whole : (b : Book) (from : Point) → Serves b ws ranks root q → RightMarks b m → LawfulPoint b from → Beyond from j
+pub record Walked (ws ranks : List ℕ) (root : Bounds) (q : Task) (j : ℕ) (known : Bool) (k : ℕ) (m o o′ : List ℕ) (r : ℕ) : Type 0 where
+  pub whole : (b : Book) (from : Point) → Serves b ws ranks root q → RightMarks b m → (known ≡ true → Ready ws (q .rules) ranks root j m) → LawfulPoint b from → Beyond from j
       → (blank : List ℕ) (xs : List Pair) → Part b from (Passed j) xs → Page (q .room) 0 blank o xs k
       → (zs : List Pair) × AllLater b from zs × Page (q .room) 0 blank o′ zs r
 

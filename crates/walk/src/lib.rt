@@ -1,11 +1,13 @@
 // The walk over all sets of exceptions in their order: which of them a resolution can have.
 ghost use mathlib.Core.Path.{_≡_};
 ghost use mathlib.Core.Bool.{true, false};
-ghost use Prim.Native.Nat.{_*_, _<_, _≤_};
+ghost use Prim.Native.Nat.{_+_, _*_, _<_, _≤_};
 ghost use lib.ListN.{length};
+ghost use Rattle.logic.specs.Tests.{Decides};
 ghost use Rattle.book.specs.Kinds.{sets};
-ghost use Rattle.walk.specs.Marks.{Struck, Marked, Outranked, WithRank};
+ghost use Rattle.walk.specs.Marks.{Struck, Marked, Stands, Next, Outranked, WithRank, Surpassed};
 ghost use Rattle.order.specs.Order.{order, setAt};
+ghost use Rattle.queue.specs.Chains.{Chains};
 ghost use Rattle.page.specs.Pages.{Fits};
 ghost use Rattle.walk.specs.Walks.{SetListed, Walked, FirstPage, PageAfter};
 ghost use Rattle.walk.specs.Plans.{withSets, NoView, Wider, MarksRight, Admits};
@@ -31,7 +33,7 @@ pub struct Strike {
 
 // The set t is one to mark.
 pub fn struck(s: Strike, t: u64) -> bool
-    ensures { λ r. ⌜ (r ≡ true → Struck s t) ⌝ }
+    ensures { λ r. ⌜ Decides r (Struck s t) ⌝ }
 {
     if t & s.any != 0 {
         return true;
@@ -45,21 +47,35 @@ pub fn struck(s: Strike, t: u64) -> bool
     t != s.but
 }
 
-// Marks the set t if it is one to mark.
-pub fn mark_one(marks: &mut Marks, s: Strike, t: usize)
+// Marks the set t if it is one to mark. The result is how many sets are newly marked.
+pub fn mark_one(marks: &mut Marks, s: Strike, t: usize) -> u64
     requires { ⌜ t < sets ⌝ }
-    ensures { λ _. ⌜ Marked (now (marks .entry)) s (now (marks .exit)) ⌝ }
+    ensures { λ _. ⌜ Marked (now (marks .entry)) s t (t + 1) (now (marks .exit)) ⌝ }
 {
+    if marks[t] != 0 {
+        return 0;
+    }
     if !struck(s, t as u64) {
-        return;
+        return 0;
     }
     marks[t] = 1;
+    1
+}
+
+// The first set that may be one to mark: where no member is asked for, lo itself.
+pub fn first_set(s: Strike) -> usize
+    ensures { λ r. ⌜ Next s 0 r ⌝ }
+{
+    if s.any != 0 {
+        return 0;
+    }
+    s.lo as usize
 }
 
 // The next set after t that may be one to mark: where no member is asked for, the next one that has all of lo.
 pub fn next_set(s: Strike, t: usize) -> usize
-    requires { ⌜ t < sets ⌝ }
-    ensures { λ r. ⌜ t < r ⌝ }
+    requires { ⌜ (t < sets) × Stands s t ⌝ }
+    ensures { λ r. ⌜ (t < r) × Next s (t + 1) r ⌝ }
 {
     if s.any != 0 {
         return t + 1;
@@ -67,15 +83,17 @@ pub fn next_set(s: Strike, t: usize) -> usize
     (t + 1) | (s.lo as usize)
 }
 
-// Marks every set that is one to mark.
-pub fn mark(marks: &mut Marks, s: Strike)
-    ensures { λ _. ⌜ Marked (now (marks .entry)) s (now (marks .exit)) ⌝ }
+// Marks every set that is one to mark. The result is how many sets are newly marked.
+pub fn mark(marks: &mut Marks, s: Strike) -> u64
+    ensures { λ _. ⌜ Marked (now (marks .entry)) s 0 sets (now (marks .exit)) ⌝ }
 {
-    let mut t: usize = 0;
+    let mut count = 0;
+    let mut t = first_set(s);
     while t < Book::SETS {
-        mark_one(marks, s, t);
+        count = std::num::wrapping_add_u64(count, mark_one(marks, s, t));
         t = next_set(s, t);
     }
+    count
 }
 
 // The set b with those of `rank`, if the exception at place a is taken.
@@ -101,6 +119,23 @@ pub fn outranked(ranks: &[u64], taken: u64) -> u64
         a += 1;
     }
     b
+}
+
+// Marks the sets that a view with the exceptions `taken` surpasses: those above its set, and those with a member that it outranks.
+pub fn mark_surpassed(ranks: &[u64], taken: u64, marks: &mut Marks)
+    requires { ⌜ length (now ranks) ≤ 64 ⌝ }
+    ensures { λ _. ⌜ Surpassed (now (ranks .entry)) taken (now (marks .entry)) (now (marks .exit)) ⌝ }
+{
+    let any = outranked(ranks, taken);
+    mark(
+        marks,
+        Strike {
+            lo: taken,
+            hi: 0xffff_ffff_ffff_ffff,
+            but: taken,
+            any,
+        },
+    );
 }
 
 // The bounds root with only the sets of exceptions from lo to hi.
@@ -131,11 +166,12 @@ pub fn refuted(
     lo: u64,
     hi: u64,
 ) -> bool
-    requires { ⌜ (n * 8 ≤ length (now words)) × (length (now ranks) ≤ 64) ⌝ }
+    requires { ⌜ (n * 8 ≤ length (now words)) × (length (now ranks) ≤ 64) × Chains (now words) n (now index) ⌝ }
     ensures { λ r. ⌜ (r ≡ true → NoView (now (words .entry)) n (now (ranks .entry)) root lo hi) ⌝ }
 {
     let b = with_sets(root, lo, hi);
-    let o = queue::propagate(words, n, ranks, index, index::changed(index, root, b), b);
+    let rest = queue::propagate(words, n, ranks, index, index::changed(index, root, b), b);
+    let o = rest.bounds;
     !sets::within(o.lo, o.hi)
 }
 
@@ -155,7 +191,7 @@ pub fn wider(
     s: Range,
     e: u64,
 ) -> Range
-    requires { ⌜ (n * 8 ≤ length (now words)) × (length (now ranks) ≤ 64) × (e < 64) ⌝ }
+    requires { ⌜ (n * 8 ≤ length (now words)) × (length (now ranks) ≤ 64) × (e < 64) × Chains (now words) n (now index) ⌝ }
     ensures { λ r. ⌜ Wider (now (words .entry)) n (now (ranks .entry)) root s r ⌝ }
 {
     let bit = 1 << e;
@@ -169,7 +205,7 @@ pub fn wider(
 
 // A range of sets without a view around one that has none.
 pub fn widened(words: &[u64], n: usize, ranks: &[u64], index: &Index, root: Bounds, t: u64) -> Range
-    requires { ⌜ (n * 8 ≤ length (now words)) × (length (now ranks) ≤ 64) ⌝ }
+    requires { ⌜ (n * 8 ≤ length (now words)) × (length (now ranks) ≤ 64) × Chains (now words) n (now index) ⌝ }
     ensures { λ r. ⌜ Wider (now (words .entry)) n (now (ranks .entry)) root (record { lo = t; hi = t }) r ⌝ }
 {
     let mut s = Range { lo: t, hi: t };
@@ -187,23 +223,11 @@ pub struct Admission {
     pub credit: u64,
 }
 
-// What is left to spend after a range around t was marked: marking is worth while where ranges are wide, and hardly where no set of theirs
-// has more than t.
-pub fn spent(s: Range, t: u64, credit: u64) -> u64 {
-    let mut cost = 0;
-    if u64::count_ones(s.lo ^ s.hi) < 4 {
-        cost = 1;
-    }
-    if s.hi == t {
-        cost = 16;
-    }
-    if credit < cost {
-        return 0;
-    }
-    credit - cost
-}
+// How many looks it costs to widen a range.
+const WIDENING: u64 = 12;
 
-// Marks a range of sets around t, which has no view.
+// Marks a range of sets around t, which has no view, if there is credit for it: widening costs twelve looks, and each set newly marked
+// earns one. The result is the credit that is left.
 pub fn mark_around(
     words: &[u64],
     n: usize,
@@ -214,14 +238,14 @@ pub fn mark_around(
     credit: u64,
     marks: &mut Marks,
 ) -> u64
-    requires { ⌜ (n * 8 ≤ length (now words)) × (length (now ranks) ≤ 64) ⌝ }
+    requires { ⌜ (n * 8 ≤ length (now words)) × (length (now ranks) ≤ 64) × Chains (now words) n (now index) ⌝ }
     ensures { λ _. ⌜ (NoView (now (words .entry)) n (now (ranks .entry)) root t t → MarksRight (now (words .entry)) n (now (ranks .entry)) root (now (marks .entry)) (now (marks .exit))) ⌝ }
 {
-    if credit == 0 {
-        return 0;
+    if credit < WIDENING {
+        return credit;
     }
     let s = widened(words, n, ranks, index, root, t);
-    mark(
+    let earned = mark(
         marks,
         Strike {
             lo: s.lo,
@@ -230,10 +254,11 @@ pub fn mark_around(
             any: 0,
         },
     );
-    spent(s, t, credit)
+    std::num::wrapping_add_u64(credit - WIDENING, earned)
 }
 
-// Whether a resolution can have the set t, of which a view may be found. A view that is found marks the sets that it surpasses.
+// Whether a resolution can have the set t, of which a view may be found. A view that is found marks the sets that it surpasses. Where `known`
+// is true, every set before t in the order has been walked with these marks: if a view had a proper subset of t, then t would be marked.
 pub fn tested(
     words: &[u64],
     n: usize,
@@ -241,10 +266,11 @@ pub fn tested(
     index: &Index,
     root: Bounds,
     t: u64,
+    known: bool,
     marks: &mut Marks,
 ) -> bool
-    requires { ⌜ (n * 8 ≤ length (now words)) × (length (now ranks) ≤ 64) × (t < sets) ⌝ }
-    ensures { λ r. ⌜ Admits (now (words .entry)) n (now (ranks .entry)) root t (now (marks .entry)) (now (marks .exit)) r ⌝ }
+    requires { ⌜ (n * 8 ≤ length (now words)) × (length (now ranks) ≤ 64) × (t < sets) × Chains (now words) n (now index) ⌝ }
+    ensures { λ r. ⌜ Admits (now (words .entry)) n (now (ranks .entry)) root t known (now (marks .entry)) (now (marks .exit)) r ⌝ }
 {
     let b = with_sets(root, t, t);
     let w = index::changed(index, root, b);
@@ -252,27 +278,21 @@ pub fn tested(
     match a {
         Answer::Nothing => false,
         Answer::Found(v) => {
-            let taken = v.taken;
-            let any = outranked(ranks, taken);
-            mark(
-                marks,
-                Strike {
-                    lo: taken,
-                    hi: 0xffff_ffff_ffff_ffff,
-                    but: taken,
-                    any,
-                },
-            );
+            mark_surpassed(ranks, v.taken, marks);
             let place = t as usize;
             if marks[place] != 0 {
                 return false;
+            }
+            if known {
+                return admissible::undominated(words, n, ranks, index, root, t);
             }
             admissible::admissible(words, n, ranks, index, root, t)
         }
     }
 }
 
-// Whether a resolution can have the set t: not where it is marked, nor where propagation shows that it has no view.
+// Whether a resolution can have the set t: not where it is marked, nor where propagation shows that it has no view. Where `known` is true,
+// every set before t has been walked with these marks.
 pub fn admits(
     words: &[u64],
     n: usize,
@@ -280,11 +300,12 @@ pub fn admits(
     index: &Index,
     root: Bounds,
     t: u64,
+    known: bool,
     credit: u64,
     marks: &mut Marks,
 ) -> Admission
-    requires { ⌜ (n * 8 ≤ length (now words)) × (length (now ranks) ≤ 64) × (t < sets) ⌝ }
-    ensures { λ r. ⌜ Admits (now (words .entry)) n (now (ranks .entry)) root t (now (marks .entry)) (now (marks .exit)) (r .ok) ⌝ }
+    requires { ⌜ (n * 8 ≤ length (now words)) × (length (now ranks) ≤ 64) × (t < sets) × Chains (now words) n (now index) ⌝ }
+    ensures { λ r. ⌜ Admits (now (words .entry)) n (now (ranks .entry)) root t known (now (marks .entry)) (now (marks .exit)) (r .ok) ⌝ }
 {
     let place = t as usize;
     if marks[place] != 0 {
@@ -303,7 +324,7 @@ pub fn admits(
             credit: left,
         };
     }
-    let ok = tested(words, n, ranks, index, root, t, marks);
+    let ok = tested(words, n, ranks, index, root, t, known, marks);
     Admission { ok, credit }
 }
 
@@ -313,7 +334,8 @@ pub struct Filled {
     pub credit: u64,
 }
 
-// Puts the resolutions with the set t on the page; where `after` is true only those later than the task's point, which has that set.
+// Puts the resolutions with the set t on the page; where `after` is true only those later than the task's point, which has that set. Where
+// `known` is true, every set before t has been walked with these marks.
 pub fn list_set(
     words: &[u64],
     ranks: &[u64],
@@ -322,12 +344,13 @@ pub fn list_set(
     task: Task,
     t: u64,
     after: bool,
+    known: bool,
     filled: Filled,
     marks: &mut Marks,
     out: &mut [u64],
 ) -> Filled
-    requires { ⌜ Fits (now words) (now ranks) (now out) task (filled .at) × (t < sets) ⌝ }
-    ensures { λ r. ⌜ SetListed (now (words .entry)) (now (ranks .entry)) root task t after (filled .at) (now (marks .entry)) (now (marks .exit)) (now (out .entry)) (now (out .exit)) (r .at) ⌝ }
+    requires { ⌜ Fits (now words) (now ranks) (now out) task (filled .at) × (t < sets) × Chains (now words) (task .rules) (now index) ⌝ }
+    ensures { λ r. ⌜ SetListed (now (words .entry)) (now (ranks .entry)) root task t after known (filled .at) (now (marks .entry)) (now (marks .exit)) (now (out .entry)) (now (out .exit)) (r .at) ⌝ }
 {
     let a = admits(
         words,
@@ -336,6 +359,7 @@ pub fn list_set(
         index,
         root,
         t,
+        known,
         filled.credit,
         marks,
     );
@@ -348,7 +372,8 @@ pub fn list_set(
     Filled { at: r, credit }
 }
 
-// Puts the resolutions with the sets from place `from` on on the page, until it is full. The table is the order of the sets.
+// Puts the resolutions with the sets from place `from` on on the page, until it is full. The table is the order of the sets. Where `known` is
+// true, the sets before that place have been walked with these marks.
 pub fn walk(
     words: &[u64],
     ranks: &[u64],
@@ -357,19 +382,19 @@ pub fn walk(
     task: Task,
     table: &Table,
     from: usize,
+    known: bool,
     filled: Filled,
     marks: &mut Marks,
     out: &mut [u64],
 ) -> usize
-    requires { ⌜ Fits (now words) (now ranks) (now out) task (filled .at) × (from ≤ sets) × (now table ≡ order) ⌝ }
-    ensures { λ r. ⌜ Walked (now (words .entry)) (now (ranks .entry)) root task from (filled .at) (now (marks .entry)) (now (out .entry)) (now (out .exit)) r ⌝ }
+    requires { ⌜ Fits (now words) (now ranks) (now out) task (filled .at) × (from ≤ sets) × (now table ≡ order) × Chains (now words) (task .rules) (now index) ⌝ }
+    ensures { λ r. ⌜ Walked (now (words .entry)) (now (ranks .entry)) root task from known (filled .at) (now (marks .entry)) (now (out .entry)) (now (out .exit)) r ⌝ }
 {
     let mut f = filled;
     let mut j = from;
     while j < Book::SETS {
-        let at = f.at;
-        if task.room <= at {
-            return at;
+        if task.room <= f.at {
+            return f.at;
         }
         f = list_set(
             words,
@@ -379,6 +404,7 @@ pub fn walk(
             task,
             order::set_in(table, j),
             false,
+            known,
             f,
             marks,
             out,
@@ -403,7 +429,7 @@ pub fn place_of(table: &Table, t: u64) -> usize
     j
 }
 
-// How much may be spent on marking ranges of sets that have no view.
+// How many looks may be spent at first on widening ranges of sets that have no view.
 const CREDIT: u64 = 64;
 
 // The page of the first resolutions of a book, whose views are within root.
@@ -415,7 +441,7 @@ pub fn first_page(
     task: Task,
     out: &mut [u64],
 ) -> usize
-    requires { ⌜ Fits (now words) (now ranks) (now out) task 0 ⌝ }
+    requires { ⌜ Fits (now words) (now ranks) (now out) task 0 × Chains (now words) (task .rules) (now index) ⌝ }
     ensures { λ r. ⌜ FirstPage (now (words .entry)) (now (ranks .entry)) root task (now (out .entry)) (now (out .exit)) r ⌝ }
 {
     let mut marks = [0u8; Book::SETS];
@@ -432,6 +458,7 @@ pub fn first_page(
         task,
         &table,
         0,
+        true,
         filled,
         &mut marks,
         out,
@@ -447,7 +474,7 @@ pub fn page_after(
     task: Task,
     out: &mut [u64],
 ) -> usize
-    requires { ⌜ Fits (now words) (now ranks) (now out) task 0 × (task .point .taken < sets) ⌝ }
+    requires { ⌜ Fits (now words) (now ranks) (now out) task 0 × (task .point .taken < sets) × Chains (now words) (task .rules) (now index) ⌝ }
     ensures { λ r. ⌜ PageAfter (now (words .entry)) (now (ranks .entry)) root task (now (out .entry)) (now (out .exit)) r ⌝ }
 {
     let mut marks = [0u8; Book::SETS];
@@ -466,6 +493,7 @@ pub fn page_after(
         task,
         t,
         true,
+        false,
         filled,
         &mut marks,
         out,
@@ -478,6 +506,7 @@ pub fn page_after(
         task,
         &table,
         place + 1,
+        false,
         f,
         &mut marks,
         out,

@@ -1,31 +1,22 @@
-use Rattle.bounds.proofs.Steps.{step-fails, step-taken, step-sure, step-constraint, step-head}
+use Rattle.bounds.proofs.Steps.{step-taken, step-sure, step-constraint, step-head}
 use borrow.Author.Needs.{needs}
 use Rattle.bounds.proofs.step.Statement.{statement}
 use Rattle.bounds.proofs.step.Tie as tie
 
-fires-requires : tie.Need-fires-requires
-fires-requires c κs = search needs
-
-untaken-requires : tie.Need-untaken-requires
-untaken-requires c κs = search needs
-
-returns : tie.Need-returns
-returns c = step-fails _ _ _ _ (c .before .before .fires .ensures) (search needs) (c .untaken .ensures)
-
 forced-requires : tie.Need-forced-requires
 forced-requires c κs = search needs
 
-returns-2 : tie.Need-returns-2
-returns-2 c = step-taken _ _ _ (search needs) (c .forced .ensures)
+returns : tie.Need-returns
+returns c = step-taken _ _ _ (search needs) (c .forced .ensures)
 
-fires-requires-2 : tie.Need-fires-requires-2
-fires-requires-2 c κs = search needs
+fires-requires : tie.Need-fires-requires
+fires-requires c κs = search needs
 
 forced-requires-2 : tie.Need-forced-requires-2
 forced-requires-2 c κs = search needs
 
-returns-3 : tie.Need-returns-3
-returns-3 c = step-sure _ _ _ _ (c .before .before .fires2 .ensures) (search needs) (c .forced2 .ensures)
+returns-2 : tie.Need-returns-2
+returns-2 c = step-sure _ _ _ _ (c .before .before .fires .ensures) (search needs) (c .forced2 .ensures)
 
 constraint-requires : tie.Need-constraint-requires
 constraint-requires c κs = search needs
@@ -33,8 +24,8 @@ constraint-requires c κs = search needs
 falsified-requires : tie.Need-falsified-requires
 falsified-requires c κs = search needs
 
-returns-4 : tie.Need-returns-4
-returns-4 c = step-constraint _ _ _ _ (c .before .before .constraint .ensures) (search needs) (c .falsified .ensures)
+returns-3 : tie.Need-returns-3
+returns-3 c = step-constraint _ _ _ _ (c .before .before .constraint .ensures) (search needs) (c .falsified .ensures)
 
 within-requires : tie.Need-within-requires
 within-requires c κs = search needs
@@ -42,28 +33,25 @@ within-requires c κs = search needs
 falsified-requires-2 : tie.Need-falsified-requires-2
 falsified-requires-2 c κs = search needs
 
-returns-5 : tie.Need-returns-5
-returns-5 c = step-head _ _ _ _ (c .before .before .within .ensures) (search needs) (c .falsified2 .ensures)
+returns-4 : tie.Need-returns-4
+returns-4 c = step-head _ _ _ _ (c .before .before .within .ensures) (search needs) (c .falsified2 .ensures)
 
-returns-6 : tie.Need-returns-6
-returns-6 c = search needs
+returns-5 : tie.Need-returns-5
+returns-5 c = search needs
 
 pub step-spec : {M : Type 1} → statement M
 step-spec =
     tie.close
     (tie.spec
-    fires-requires
-    untaken-requires
-    returns
     forced-requires
-    returns-2
-    fires-requires-2
+    returns
+    fires-requires
     forced-requires-2
-    returns-3
+    returns-2
     constraint-requires
     falsified-requires
-    returns-4
+    returns-3
     within-requires
     falsified-requires-2
-    returns-5
-    returns-6)
+    returns-4
+    returns-5)

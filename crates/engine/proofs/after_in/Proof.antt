@@ -14,7 +14,7 @@ root-of-requires : tie.Need-root-of-requires
 root-of-requires c κs = search needs
 
 page-after-requires : tie.Need-page-after-requires
-page-after-requires c κs = search needs
+page-after-requires c κs = (search needs, search needs, c .before .before .before .before .before .before .fill .ensures)
 
 same-length : tie.Need-same-length
 same-length c = search needs

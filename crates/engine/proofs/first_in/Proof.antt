@@ -14,7 +14,7 @@ root-of-requires : tie.Need-root-of-requires
 root-of-requires c κs = search needs
 
 first-page-requires : tie.Need-first-page-requires
-first-page-requires c κs = search needs
+first-page-requires c κs = (search needs, c .before .before .before .before .before .before .fill .ensures)
 
 same-length : tie.Need-same-length
 same-length c = search needs

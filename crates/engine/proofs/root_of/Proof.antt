@@ -9,15 +9,15 @@ add-n c = search needs
 root-requires : tie.Need-root-requires
 root-requires c κs = search needs
 
-everything-requires : tie.Need-everything-requires
-everything-requires c κs = search needs
+all-requires : tie.Need-all-requires
+all-requires c κs = search needs
 
 propagate-requires : tie.Need-propagate-requires
 propagate-requires c κs = search needs
 
 returns : tie.Need-returns
-returns c = root-is _ _ _ _ _ (c .before .before .before .before .root .ensures) (c .propagate .ensures)
+returns c = root-is _ _ _ _ _ (c .before .before .before .before .before .root .ensures) (c .before .propagate .ensures)
 
 pub root-of-spec : {M : Type 1} → statement M
 root-of-spec =
-    tie.close (tie.spec add-n root-requires everything-requires propagate-requires returns)
+    tie.close (tie.spec add-n root-requires all-requires propagate-requires returns)

@@ -12,6 +12,7 @@ use Rattle.page.proofs.values.Kinds as values-kinds
 use Rattle.page.proofs.+settle+values.Lts-values as values-lts
 use Rattle.page.proofs.branch_of.Reads as branch-of-reads
 use Rattle.page.proofs.finish.Reads as finish-reads
+use Rattle.std.proofs.num.wrapping_add_u64.Reads as wrapping-add-u64-reads
 use Rattle.page.proofs.+settle+values.{statement}
 use Rattle.page.proofs.+settle+values.Tie.{close}
 
@@ -47,6 +48,8 @@ values-callees t = (
   branch-of-reads.Learnt,
   values-below t,
   values.Post,
+  wrapping-add-u64-reads.Asked,
+  wrapping-add-u64-reads.Learnt,
   settle-below t,
   settle.Post,
 )
@@ -63,7 +66,7 @@ settle-returns t c = settle-last _ _ _ _ _ _ _ _ _ (search needs) (c .before .be
 settle-values-requires : (t : ℕ) → settle-lts.Need-values-requires (settle-callees t) (settle-at t) settle.Post
 settle-values-requires t c κs =
     let pre = c .before .before .before .before .before .pre in
-    (omega (arith, pre .0), (pre .1 .0, omega arith, omega arith))
+    (omega (arith, pre .0), (pre .1 .0, omega arith, omega arith, pre .1 .2))
 
 settle-same-length-2 : (t : ℕ) → settle-lts.Need-same-length-2 (settle-callees t) (settle-at t) settle.Post
 settle-same-length-2 t c = search needs
@@ -76,60 +79,63 @@ values-returns t c = try-none _ _ _ _ _ _ _ _ (c .before .before .before .before
 
 values-returns-2 : (t : ℕ) → values-lts.Need-returns-2 (values-callees t) (values-at t) values.Post
 values-returns-2 t c =
-    let pre = c .before .before .before .before .before .before .pre in
+    let pre = c .before .before .before .before .before .before .before .pre in
     try-full _ _ _ _ _ _ _ _ (pre .1 .0) (pre .1 .1) (search needs)
 
 values-sub-branch-of : (t : ℕ) → values-lts.Need-sub-branch-of (values-callees t) (values-at t) values.Post
-values-sub-branch-of t c = omega (arith, c .before .before .before .before .before .before .pre .1 .1)
+values-sub-branch-of t c = omega (arith, c .before .before .before .before .before .before .before .pre .1 .1)
 
 values-sub-branch-of-2 : (t : ℕ) → values-lts.Need-sub-branch-of-2 (values-callees t) (values-at t) values.Post
-values-sub-branch-of-2 t c = omega (arith, c .before .before .before .before .before .before .pre .1 .2)
+values-sub-branch-of-2 t c = omega (arith, c .before .before .before .before .before .before .before .pre .1 .2)
 
 values-branch-of-requires : (t : ℕ) → values-lts.Need-branch-of-requires (values-callees t) (values-at t) values.Post
 values-branch-of-requires t c κs =
-    let pre = c .before .before .before .before .before .before .pre in
-    branch-ready _ _ _ _ 0 _ _ _ (pre .1 .0) (pre .1 .1) _ (omega (arith, pre .1 .2, c .before .before .if1 .left))
+    let pre = c .before .before .before .before .before .before .before .pre in
+    (branch-ready _ _ _ _ 0 _ _ _ (pre .1 .0) (pre .1 .1) _ (omega (arith, pre .1 .2, c .before .before .before .if1 .left)), pre .1 .3)
 
 values-enum-told : (t : ℕ) → values-lts.Need-enum-told (values-callees t) (values-at t) values.Post
 values-enum-told t c = search needs
 
 values-sub-values : (t : ℕ) → values-lts.Need-sub-values (values-callees t) (values-at t) values.Post
-values-sub-values t c = omega (arith, c .before .before .before .before .before .if1 .left)
+values-sub-values t c = omega (arith, c .before .before .before .before .before .before .if1 .left)
 
 values-values-requires : (t : ℕ) → values-lts.Need-values-requires (values-callees t) (values-at t) values.Post
 values-values-requires t c κs =
-    let pre = c .before .before .before .before .before .before .before .before .before .before .pre in
-    (omega (arith, pre .0, c .before .before .before .before .before .before .if1 .left), (pre .1 .0, pre .1 .1, omega (arith, pre .1 .2)))
+    let pre = c .before .before .before .before .before .before .before .before .before .before .before .pre in
+    (omega (arith, pre .0, c .before .before .before .before .before .before .before .if1 .left), (pre .1 .0, pre .1 .1, omega (arith, pre .1 .2), pre .1 .3))
 
 values-enum-known-b : (t : ℕ) → values-lts.Need-enum-known-b (values-callees t) (values-at t) values.Post
 values-enum-known-b t c = search needs
 
+values-wrapping-add-u64-requires : (t : ℕ) → values-lts.Need-wrapping-add-u64-requires (values-callees t) (values-at t) values.Post
+values-wrapping-add-u64-requires t c κs = search needs
+
 values-sub-settle : (t : ℕ) → values-lts.Need-sub-settle (values-callees t) (values-at t) values.Post
-values-sub-settle t c = omega (arith, c .before .before .before .before .before .before .before .before .before .before .pre .1 .1)
+values-sub-settle t c = omega (arith, c .before .before .before .before .before .before .before .before .before .before .before .before .pre .1 .1)
 
 values-settle-requires : (t : ℕ) → values-lts.Need-settle-requires (values-callees t) (values-at t) values.Post
 values-settle-requires t c κs =
-    let pre = c .before .before .before .before .before .before .before .before .before .before .before .pre in
-    let if1 = c .before .before .before .before .before .before .before .if1 in
-    (omega (arith, pre .0, pre .1 .1), (child-ready _ _ _ _ _ _ _ _ (pre .1 .0) (pre .1 .1) (if1 .left) _ (c .before .before .before .before .branch-of .ensures) _ (search needs), omega (arith, c .before .before .before .before .before .if2 .left)))
+    let pre = c .before .before .before .before .before .before .before .before .before .before .before .before .before .pre in
+    let if1 = c .before .before .before .before .before .before .before .before .before .if1 in
+    (omega (arith, pre .0, pre .1 .1), (child-ready _ _ _ _ _ _ _ _ (pre .1 .0) (pre .1 .1) (if1 .left) _ (c .before .before .before .before .before .branch-of .ensures) _ (search needs), omega (arith, c .before .before .before .before .before .before .if2 .left), pre .1 .3))
 
 values-sub-values-2 : (t : ℕ) → values-lts.Need-sub-values-2 (values-callees t) (values-at t) values.Post
-values-sub-values-2 t c = omega (arith, c .before .before .before .before .before .before .before .before .before .before .if1 .left)
+values-sub-values-2 t c = omega (arith, c .before .before .before .before .before .before .before .before .before .before .before .before .if1 .left)
 
 values-values-requires-2 : (t : ℕ) → values-lts.Need-values-requires-2 (values-callees t) (values-at t) values.Post
 values-values-requires-2 t c κs =
-    let pre = c .before .before .before .before .before .before .before .before .before .before .before .before .before .before .before .pre in
-    let if1 = c .before .before .before .before .before .before .before .before .before .before .before .if1 in
+    let pre = c .before .before .before .before .before .before .before .before .before .before .before .before .before .before .before .before .before .pre in
+    let if1 = c .before .before .before .before .before .before .before .before .before .before .before .before .before .if1 in
     let settled = c .before .before .before .settle in
-    (omega (arith, pre .0, if1 .left), (ready-again _ _ _ _ _ _ _ _ _ (pre .1 .0) (settled .kept .1 .1 .1 .1 .1 .1 .0) (settled .ensures .most), pre .1 .1, omega (arith, pre .1 .2)))
+    (omega (arith, pre .0, if1 .left), (ready-again _ _ _ _ _ _ _ _ _ (pre .1 .0) (settled .kept .1 .1 .1 .1 .1 .1 .0) (settled .ensures .most), pre .1 .1, omega (arith, pre .1 .2), pre .1 .3))
 
 values-same-length : (t : ℕ) → values-lts.Need-same-length (values-callees t) (values-at t) values.Post
 values-same-length t c = search needs
 
 values-returns-3 : (t : ℕ) → values-lts.Need-returns-3 (values-callees t) (values-at t) values.Post
 values-returns-3 t c =
-    let pre = c .before .before .before .before .before .before .before .before .before .before .before .before .before .pre in
-    let if1 = c .before .before .before .before .before .before .before .before .before .if1 in
+    let pre = c .before .before .before .before .before .before .before .before .before .before .before .before .before .before .pre in
+    let if1 = c .before .before .before .before .before .before .before .before .before .before .if1 in
     try-cut _ _ _ _ _ _ _ _ (pre .1 .0) (pre .1 .1) (if1 .left) _ (c .before .before .before .before .before .before .branch-of .ensures) (search needs) _ _ (c .before .before .values .ensures)
 
 values-same-length-2 : (t : ℕ) → values-lts.Need-same-length-2 (values-callees t) (values-at t) values.Post
@@ -137,9 +143,9 @@ values-same-length-2 t c = search needs
 
 values-returns-4 : (t : ℕ) → values-lts.Need-returns-4 (values-callees t) (values-at t) values.Post
 values-returns-4 t c =
-    let pre = c .before .before .before .before .before .before .before .before .before .before .before .before .before .before .before .before .before .before .pre in
-    let if1 = c .before .before .before .before .before .before .before .before .before .before .before .before .before .before .if1 in
-    let branch = c .before .before .before .before .before .before .before .before .before .before .before .branch-of in
+    let pre = c .before .before .before .before .before .before .before .before .before .before .before .before .before .before .before .before .before .before .before .before .pre in
+    let if1 = c .before .before .before .before .before .before .before .before .before .before .before .before .before .before .before .before .if1 in
+    let branch = c .before .before .before .before .before .before .before .before .before .before .before .before .branch-of in
     try-open _ _ _ _ _ _ _ _ (pre .1 .0) (pre .1 .1) (if1 .left) _ (branch .ensures) _ (search needs) _ _ _ _ (c .before .before .before .before .before .before .settle .ensures) (c .before .before .values2 .ensures)
 
 pub +settle+values-spec : {M : Type 1} → statement M
@@ -164,6 +170,7 @@ pub +settle+values-spec : {M : Type 1} → statement M
     (values-sub-values t)
     (values-values-requires t)
     (values-enum-known-b t)
+    (values-wrapping-add-u64-requires t)
     (values-sub-settle t)
     (values-settle-requires t)
     (values-sub-values-2 t)

@@ -1,4 +1,5 @@
-use Rattle.page.proofs.Branches.{branch-before, branch-clash, branch-open}
+use native.Mathlib.Omega.{arith}
+use Rattle.page.proofs.Branches.{branch-before, branch-barren, branch-clash, branch-open}
 use borrow.Author.Needs.{needs}
 use Rattle.page.proofs.branch_of.Statement.{statement}
 use Rattle.page.proofs.branch_of.Tie as tie
@@ -13,7 +14,7 @@ earlier-requires : tie.Need-earlier-requires
 earlier-requires c κs = search needs
 
 returns : tie.Need-returns
-returns c = branch-before _ _ _ _ _ _ (c .before .before .before .before .before .before .pre) _ (c .before .before .value-at .ensures) _ (c .before .earlier .ensures) (search needs)
+returns c = branch-before _ _ _ _ _ _ (c .before .before .before .before .before .before .pre .0) _ (c .before .before .value-at .ensures) _ (c .before .earlier .ensures) (search needs)
 
 narrow-requires : tie.Need-narrow-requires
 narrow-requires c κs = search needs
@@ -22,16 +23,22 @@ within-requires : tie.Need-within-requires
 within-requires c κs = search needs
 
 returns-2 : tie.Need-returns-2
-returns-2 c = branch-clash _ _ _ _ _ _ (c .before .before .before .before .before .before .before .before .before .pre) _ (c .before .before .before .before .before .value-at .ensures) _ (c .before .before .before .before .earlier .ensures) (search needs) _ (c .before .before .narrow .ensures) _ (c .before .within .ensures) (search needs)
+returns-2 c = branch-clash _ _ _ _ _ _ (c .before .before .before .before .before .before .before .before .before .before .before .pre .0) _ (c .before .before .before .before .before .before .before .value-at .ensures) _ (c .before .before .before .before .before .before .earlier .ensures) (search needs) _ (c .before .before .before .before .narrow .ensures) _ (c .before .within .ensures) (search needs)
 
 still-requires : tie.Need-still-requires
 still-requires c κs = search needs
 
-given-requires : tie.Need-given-requires
-given-requires c κs = search needs
+barren-requires : tie.Need-barren-requires
+barren-requires c κs = (c .before .before .before .before .before .before .before .before .before .before .before .before .pre .0 .suits .rules, c .before .before .before .before .before .before .before .before .before .before .before .before .pre .0 .suits .ranked, c .before .before .before .before .before .before .before .before .before .before .before .before .pre .1)
 
 returns-3 : tie.Need-returns-3
-returns-3 c = branch-open _ _ _ _ _ _ (c .before .before .before .before .before .before .before .before .before .before .before .pre) _ (c .before .before .before .before .before .before .before .value-at .ensures) _ (c .before .before .before .before .before .before .earlier .ensures) (search needs) _ (c .before .before .before .before .narrow .ensures) _ _ (c .before .still .ensures) (c .given .ensures)
+returns-3 c = branch-barren _ _ _ _ _ _ (c .before .before .before .before .before .before .before .before .before .before .before .before .before .before .pre .0) _ (c .before .before .before .before .before .before .before .before .before .before .value-at .ensures) _ (c .before .before .before .before .before .before .before .before .before .earlier .ensures) (search needs) _ (c .before .before .before .before .before .before .before .narrow .ensures) (c .before .barren .ensures (search needs))
+
+given-requires : tie.Need-given-requires
+given-requires c κs = (omega (arith, c .before .before .before .before .before .before .before .before .before .before .before .before .before .before .pre .0 .unsettled), omega (arith, c .before .before .before .before .before .before .before .before .before .before .before .before .before .before .pre .0 .suits .few))
+
+returns-4 : tie.Need-returns-4
+returns-4 c = branch-open _ _ _ _ _ _ (c .before .before .before .before .before .before .before .before .before .before .before .before .before .before .before .pre .0) _ (c .before .before .before .before .before .before .before .before .before .before .before .value-at .ensures) _ (c .before .before .before .before .before .before .before .before .before .before .earlier .ensures) (search needs) _ (c .before .before .before .before .before .before .before .before .narrow .ensures) _ _ _ (c .before .before .before .still .ensures) (c .given .ensures)
 
 pub branch-of-spec : {M : Type 1} → statement M
 branch-of-spec =
@@ -45,5 +52,7 @@ branch-of-spec =
     within-requires
     returns-2
     still-requires
+    barren-requires
+    returns-3
     given-requires
-    returns-3)
+    returns-4)

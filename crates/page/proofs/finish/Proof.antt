@@ -15,18 +15,18 @@ returns-2 c = finish-not _ _ _ _ _ _ (c .before .before .before .before .before 
 put-requires : tie.Need-put-requires
 put-requires c κs = search needs
 
-add-result : tie.Need-add-result
-add-result c = search needs
+add-t12 : tie.Need-add-t12
+add-t12 c = search needs
 
 same-length : tie.Need-same-length
 same-length c = search needs
 
 returns-3 : tie.Need-returns-3
 returns-3 c =
-    let pre = c .before .before .before .before .before .before .before .before .before .before .pre in
-    finish-put _ _ _ _ _ _ (pre .1) (search needs) _ (c .before .before .before .before .before .is-view .ensures) _ (search needs) (c .before .before .put .ensures)
+    let pre = c .before .before .before .before .before .before .before .before .before .before .before .pre in
+    finish-put _ _ _ _ _ _ (pre .1) (search needs) _ (c .before .before .before .before .before .before .is-view .ensures) _ (search needs) (c .before .before .before .put .ensures)
 
 pub finish-spec : {M : Type 1} → statement M
 finish-spec =
     tie.close
-    (tie.spec returns is-view-requires returns-2 put-requires add-result same-length returns-3)
+    (tie.spec returns is-view-requires returns-2 put-requires add-t12 same-length returns-3)

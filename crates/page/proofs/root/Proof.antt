@@ -3,8 +3,8 @@ use borrow.Author.Needs.{needs}
 use Rattle.page.proofs.root.Statement.{statement}
 use Rattle.page.proofs.root.Tie as tie
 
-everything-requires : tie.Need-everything-requires
-everything-requires c κs = search needs
+all-requires : tie.Need-all-requires
+all-requires c κs = search needs
 
 propagate-requires : tie.Need-propagate-requires
 propagate-requires c κs = search needs
@@ -13,4 +13,4 @@ returns : tie.Need-returns
 returns c = root-keeps _ _ _ _ _ (c .propagate .ensures)
 
 pub root-spec : {M : Type 1} → statement M
-root-spec = tie.close (tie.spec everything-requires propagate-requires returns)
+root-spec = tie.close (tie.spec all-requires propagate-requires returns)

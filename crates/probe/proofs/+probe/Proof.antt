@@ -10,7 +10,7 @@ use Rattle.probe.proofs.+probe.Lts-probe as probe-lts
 use Rattle.bounds.proofs.into.Reads as into-reads
 use Rattle.bounds.proofs.out.Reads as out-reads
 use Rattle.probe.proofs.visit.Reads as visit-reads
-use Rattle.queue.proofs.index.changed.Reads as changed-reads
+use Rattle.queue.proofs.index.among.Reads as among-reads
 use Rattle.probe.proofs.+probe.{statement}
 use Rattle.probe.proofs.+probe.Tie.{close}
 
@@ -29,8 +29,8 @@ callees t = (
   visit-reads.Learnt,
   out-reads.Asked,
   out-reads.Learnt,
-  changed-reads.Asked,
-  changed-reads.Learnt,
+  among-reads.Asked,
+  among-reads.Learnt,
   probe-below t,
   probe.Post,
   into-reads.Asked,
@@ -52,11 +52,11 @@ probe-enum-known-x-2 t c = search needs
 probe-out-requires : (t : ℕ) → probe-lts.Need-out-requires (callees t) (probe-at t) probe.Post
 probe-out-requires t c κs = search needs
 
-probe-changed-requires : (t : ℕ) → probe-lts.Need-changed-requires (callees t) (probe-at t) probe.Post
-probe-changed-requires t c κs = search needs
+probe-among-requires : (t : ℕ) → probe-lts.Need-among-requires (callees t) (probe-at t) probe.Post
+probe-among-requires t c κs = search needs
 
 probe-probe-requires : (t : ℕ) → probe-lts.Need-probe-requires (callees t) (probe-at t) probe.Post
-probe-probe-requires t c κs = let h = out-less (c .before .before .before .before .before .visit .ensures) _ _ (search needs) _ (c .before .out .ensures) in (omega (arith, c .before .before .before .before .before .before .before .before .pre .0), c .before .before .before .before .before .before .before .before .pre .1)
+probe-probe-requires t c κs = let h = out-less (c .before .before .before .before .before .visit .ensures) _ _ _ (c .before .before .before .x2 .given .1) _ (c .before .out .ensures) in (omega (arith, c .before .before .before .before .before .before .before .before .pre .0), c .before .before .before .before .before .before .before .before .pre .1)
 
 probe-enum-known-a : (t : ℕ) → probe-lts.Need-enum-known-a (callees t) (probe-at t) probe.Post
 probe-enum-known-a t c = search needs
@@ -67,11 +67,11 @@ probe-enum-told-2 t c = search needs
 probe-into-requires : (t : ℕ) → probe-lts.Need-into-requires (callees t) (probe-at t) probe.Post
 probe-into-requires t c κs = search needs
 
-probe-changed-requires-2 : (t : ℕ) → probe-lts.Need-changed-requires-2 (callees t) (probe-at t) probe.Post
-probe-changed-requires-2 t c κs = search needs
+probe-among-requires-2 : (t : ℕ) → probe-lts.Need-among-requires-2 (callees t) (probe-at t) probe.Post
+probe-among-requires-2 t c κs = search needs
 
 probe-probe-requires-2 : (t : ℕ) → probe-lts.Need-probe-requires-2 (callees t) (probe-at t) probe.Post
-probe-probe-requires-2 t c κs = let h = into-less (c .before .before .before .before .before .before .before .before .before .before .visit .ensures) _ _ (search needs) _ (c .before .into .ensures) in (omega (arith, c .before .before .before .before .before .before .before .before .before .before .before .before .before .pre .0), c .before .before .before .before .before .before .before .before .before .before .before .before .before .pre .1)
+probe-probe-requires-2 t c κs = let h = into-less (c .before .before .before .before .before .before .before .before .before .before .visit .ensures) _ _ _ (c .before .before .before .before .before .before .before .before .x2 .given .1) _ (c .before .into .ensures) in (omega (arith, c .before .before .before .before .before .before .before .before .before .before .before .before .before .pre .0), c .before .before .before .before .before .before .before .before .before .before .before .before .before .pre .1)
 
 probe-returns : (t : ℕ) → probe-lts.Need-returns (callees t) (probe-at t) probe.Post
 probe-returns t c = probed-view (c .before .before .before .visit .ensures) _ (search needs)
@@ -80,10 +80,10 @@ probe-returns-2 : (t : ℕ) → probe-lts.Need-returns-2 (callees t) (probe-at t
 probe-returns-2 t c = probed-empty (c .before .before .visit .ensures) (search needs)
 
 probe-returns-3 : (t : ℕ) → probe-lts.Need-returns-3 (callees t) (probe-at t) probe.Post
-probe-returns-3 t c = probed-out (c .before .before .before .before .before .before .before .before .before .visit .ensures) _ _ (search needs) _ _ _ (c .before .before .before .before .before .out .ensures) (c .before .before .before .probe .ensures) (search needs)
+probe-returns-3 t c = probed-out (c .before .before .before .before .before .before .before .before .before .visit .ensures) _ _ _ (c .before .before .before .before .before .before .before .x2 .given .1) _ _ _ (c .before .before .before .before .before .out .ensures) (c .before .before .before .probe .ensures) (search needs)
 
 probe-returns-4 : (t : ℕ) → probe-lts.Need-returns-4 (callees t) (probe-at t) probe.Post
-probe-returns-4 t c = probed-into (c .before .before .before .before .before .before .before .before .before .before .before .visit .ensures) _ _ (c .before .before .before .before .before .before .before .before .before .x2 .given .1) _ _ _ _ (c .before .before .before .before .before .before .before .out .ensures) (c .before .before .before .before .before .probe .ensures) (search needs) (c .before .before .into .ensures) (c .probe2 .ensures)
+probe-returns-4 t c = probed-into (c .before .before .before .before .before .before .before .before .before .before .before .visit .ensures) _ _ _ (c .before .before .before .before .before .before .before .before .before .x2 .given .1) _ _ _ _ (c .before .before .before .before .before .before .before .out .ensures) (c .before .before .before .before .before .probe .ensures) (search needs) (c .before .before .into .ensures) (c .probe2 .ensures)
 
 pub +probe-spec : {M : Type 1} → statement M
 +probe-spec = close μ-probe λ t. probe-lts.spec (callees t)
@@ -94,12 +94,12 @@ pub +probe-spec : {M : Type 1} → statement M
     (probe-enum-told t)
     (probe-enum-known-x-2 t)
     (probe-out-requires t)
-    (probe-changed-requires t)
+    (probe-among-requires t)
     (probe-probe-requires t)
     (probe-enum-known-a t)
     (probe-enum-told-2 t)
     (probe-into-requires t)
-    (probe-changed-requires-2 t)
+    (probe-among-requires-2 t)
     (probe-probe-requires-2 t)
     (probe-returns t)
     (probe-returns-2 t)

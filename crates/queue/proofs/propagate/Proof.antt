@@ -1,6 +1,6 @@
-use Prim.Native.Nat.{_-_, _≤_}
-use native.Mathlib.Omega.{arith}
 use borrow.Author.Needs.{needs}
+use native.Mathlib.Omega.{arith}
+use Prim.Native.Nat.{_-_, _≤_}
 use Rattle.masks.specs.Views.{MaskView}
 use Rattle.bounds.specs.Sound.{Keeps}
 use Rattle.bounds.proofs.Steps.{keeps-same, keeps-then, by-rules, propagated}
@@ -8,10 +8,10 @@ use Rattle.queue.proofs.propagate.Statement.{statement}
 use Rattle.queue.proofs.propagate.Tie as tie
 
 abbrev Inv-loop : tie.InvT-loop
-Inv-loop words n ranks index b o₀ t₀ k₀ o t k = (k ≤ 512) × Keeps (MaskView words n ranks) b o
+Inv-loop words n ranks index b q₀ k₀ q k = (k ≤ 512) × Keeps (MaskView words n ranks) b (q .bounds)
 
 abbrev μ-loop : tie.MeasureT-loop
-μ-loop words n ranks index b o₀ t₀ k₀ o t k = 512 - k
+μ-loop words n ranks index b q₀ k₀ q k = 512 - k
 
 loop-holds : tie.Need-loop-holds Inv-loop μ-loop
 loop-holds c = (omega arith, keeps-same _)
@@ -26,7 +26,7 @@ narrowed-requires : tie.Need-narrowed-requires Inv-loop μ-loop
 narrowed-requires c κs = search needs
 
 returns : tie.Need-returns Inv-loop μ-loop
-returns c = propagated _ _ _ _ _ _ (keeps-then (c .before .before .before .before .before .loop .inv .1) (by-rules (c .before .before .before .run .ensures))) (c .narrowed .ensures)
+returns c = propagated _ _ _ _ _ _ (keeps-then (c .before .before .before .before .before .before .before .loop .inv .1) (by-rules (c .before .before .before .before .before .run .ensures))) (c .narrowed .ensures)
 
 whole-requires : tie.Need-whole-requires Inv-loop μ-loop
 whole-requires c κs = search needs
@@ -38,10 +38,10 @@ narrowed-requires-2 : tie.Need-narrowed-requires-2 Inv-loop μ-loop
 narrowed-requires-2 c κs = search needs
 
 returns-2 : tie.Need-returns-2 Inv-loop μ-loop
-returns-2 c = propagated _ _ _ _ _ _ (keeps-then (c .before .before .before .before .before .before .before .before .loop .inv .1) (keeps-then (by-rules (c .before .before .before .before .before .before .run .ensures)) (c .before .before .before .whole .ensures))) (c .narrowed2 .ensures)
+returns-2 c = propagated _ _ _ _ _ _ (keeps-then (c .before .before .before .before .before .before .before .before .before .before .loop .inv .1) (keeps-then (by-rules (c .before .before .before .before .before .before .before .before .run .ensures)) (c .before .before .before .whole .ensures))) (c .narrowed2 .ensures)
 
-changed-requires : tie.Need-changed-requires Inv-loop μ-loop
-changed-requires c κs = search needs
+among-requires : tie.Need-among-requires Inv-loop μ-loop
+among-requires c κs = search needs
 
 add-k : tie.Need-add-k Inv-loop μ-loop
 add-k c = search needs
@@ -50,13 +50,13 @@ loop-less : tie.Need-loop-less Inv-loop μ-loop
 loop-less c = search needs
 
 loop-again : tie.Need-loop-again Inv-loop μ-loop
-loop-again c = (omega arith, keeps-then (c .before .before .before .before .before .before .before .before .loop .inv .1) (keeps-then (by-rules (c .before .before .before .before .before .before .run .ensures)) (c .before .before .before .whole .ensures)))
+loop-again c = (omega arith, keeps-then (c .before .before .before .before .before .before .before .before .before .before .loop .inv .1) (keeps-then (by-rules (c .before .before .before .before .before .before .before .before .run .ensures)) (c .before .before .before .whole .ensures)))
 
 narrowed-requires-3 : tie.Need-narrowed-requires-3 Inv-loop μ-loop
 narrowed-requires-3 c κs = search needs
 
 returns-3 : tie.Need-returns-3 Inv-loop μ-loop
-returns-3 c = propagated _ _ _ _ _ _ (c .before .before .loop .inv .1) (c .narrowed3 .ensures)
+returns-3 c = propagated _ _ _ _ _ _ (c .before .before .before .loop .inv .1) (c .narrowed3 .ensures)
 
 pub propagate-spec : {M : Type 1} → statement M
 propagate-spec =
@@ -73,7 +73,7 @@ propagate-spec =
     unchanged-requires
     narrowed-requires-2
     returns-2
-    changed-requires
+    among-requires
     add-k
     loop-less
     loop-again

@@ -1,16 +1,16 @@
-use Prim.Native.Nat.{_-_, _≤_}
-use native.Mathlib.Omega.{arith}
 use borrow.Author.Needs.{needs}
+use native.Mathlib.Omega.{arith}
+use Prim.Native.Nat.{_-_, _≤_}
 use Rattle.bounds.specs.Sound.{Keeps, Ruled}
-use Rattle.bounds.proofs.Steps.{keeps-same, keeps-then, by-rule, by-coherence}
+use Rattle.bounds.proofs.Steps.{keeps-same, keeps-then, by-coherence}
 use Rattle.queue.proofs.run.Statement.{statement}
 use Rattle.queue.proofs.run.Tie as tie
 
 abbrev Inv-loop : tie.InvT-loop
-Inv-loop words n index o₀ t₀ k₀ o t k = (k ≤ 100000) × Keeps (Ruled words n) o₀ o
+Inv-loop words n index q₀ k₀ q k = (k ≤ 100000) × Keeps (Ruled words n) (q₀ .bounds) (q .bounds)
 
 abbrev μ-loop : tie.MeasureT-loop
-μ-loop words n index o₀ t₀ k₀ o t k = 100000 - k
+μ-loop words n index q₀ k₀ q k = 100000 - k
 
 loop-holds : tie.Need-loop-holds Inv-loop μ-loop
 loop-holds c = (omega arith, keeps-same _)
@@ -18,29 +18,23 @@ loop-holds c = (omega arith, keeps-same _)
 next-requires : tie.Need-next-requires Inv-loop μ-loop
 next-requires c κs = search needs
 
+idle-requires : tie.Need-idle-requires Inv-loop μ-loop
+idle-requires c κs = search needs
+
 returns : tie.Need-returns Inv-loop μ-loop
-returns c = c .before .before .before .loop .inv .1
+returns c = c .before .before .before .before .loop .inv .1
 
-masks-at-requires : tie.Need-masks-at-requires Inv-loop μ-loop
-masks-at-requires c κs = search needs
+turn-requires : tie.Need-turn-requires Inv-loop μ-loop
+turn-requires c κs = search needs
 
-step-requires : tie.Need-step-requires Inv-loop μ-loop
-step-requires c κs = search needs
-
-coheres-requires : tie.Need-coheres-requires Inv-loop μ-loop
-coheres-requires c κs = search needs
-
-without-requires : tie.Need-without-requires Inv-loop μ-loop
-without-requires c κs = search needs
-
-marked-requires : tie.Need-marked-requires Inv-loop μ-loop
-marked-requires c κs = search needs
+moved-requires : tie.Need-moved-requires Inv-loop μ-loop
+moved-requires c κs = search needs
 
 within-requires : tie.Need-within-requires Inv-loop μ-loop
 within-requires c κs = search needs
 
 returns-2 : tie.Need-returns-2 Inv-loop μ-loop
-returns-2 c = keeps-then (c .before .before .before .before .before .before .before .before .before .before .loop .inv .1) (keeps-then (by-rule _ _ (c .before .before .before .before .before .before .before .if1 .left) (c .before .before .before .before .before .before .masks-at .ensures) (c .before .before .before .before .before .step .ensures)) (by-coherence (c .before .before .before .before .coheres .ensures)))
+returns-2 c = keeps-then (c .before .before .before .before .before .before .before .before .loop .inv .1) (keeps-then (c .before .before .before .turn .ensures) (by-coherence (c .before .before .moved .ensures)))
 
 add-k : tie.Need-add-k Inv-loop μ-loop
 add-k c = search needs
@@ -49,7 +43,7 @@ loop-less : tie.Need-loop-less Inv-loop μ-loop
 loop-less c = search needs
 
 loop-again : tie.Need-loop-again Inv-loop μ-loop
-loop-again c = (omega arith, keeps-then (c .before .before .before .before .before .before .before .before .before .before .loop .inv .1) (keeps-then (by-rule _ _ (c .before .before .before .before .before .before .before .if1 .left) (c .before .before .before .before .before .before .masks-at .ensures) (c .before .before .before .before .before .step .ensures)) (by-coherence (c .before .before .before .before .coheres .ensures))))
+loop-again c = (omega arith, keeps-then (c .before .before .before .before .before .before .before .before .loop .inv .1) (keeps-then (c .before .before .before .turn .ensures) (by-coherence (c .before .before .moved .ensures))))
 
 returns-3 : tie.Need-returns-3 Inv-loop μ-loop
 returns-3 c = c .before .loop .inv .1
@@ -62,12 +56,10 @@ run-spec =
     μ-loop
     loop-holds
     next-requires
+    idle-requires
     returns
-    masks-at-requires
-    step-requires
-    coheres-requires
-    without-requires
-    marked-requires
+    turn-requires
+    moved-requires
     within-requires
     returns-2
     add-k

@@ -6,33 +6,29 @@ use Rattle.queue.proofs.whole.Tie as tie
 levels-requires : tie.Need-levels-requires
 levels-requires c κs = search needs
 
-support-requires : tie.Need-support-requires
-support-requires c κs = search needs
-
 unchanged-requires : tie.Need-unchanged-requires
 unchanged-requires c κs = search needs
 
 returns : tie.Need-returns
-returns c = keeps-then (by-level (c .before .before .before .levels .ensures)) (by-rules (c .before .before .support .ensures))
+returns c = by-level (c .before .before .levels .ensures)
 
 element-copy-out-if2 : tie.Need-element-copy-out-if2
 element-copy-out-if2 c = search needs
 
 returns-2 : tie.Need-returns-2
-returns-2 c = keeps-then (by-level (c .before .before .before .before .before .levels .ensures)) (by-rules (c .before .before .before .before .support .ensures))
+returns-2 c = by-level (c .before .before .before .before .levels .ensures)
 
 upper-requires : tie.Need-upper-requires
 upper-requires c κs = search needs
 
 returns-3 : tie.Need-returns-3
-returns-3 c = keeps-then (by-level (c .before .before .before .before .before .before .levels .ensures)) (keeps-then (by-rules (c .before .before .before .before .before .support .ensures)) (by-rules (c .upper .ensures)))
+returns-3 c = keeps-then (by-level (c .before .before .before .before .before .levels .ensures)) (by-rules (c .upper .ensures))
 
 pub whole-spec : {M : Type 1} → statement M
 whole-spec =
     tie.close
     (tie.spec
     levels-requires
-    support-requires
     unchanged-requires
     returns
     element-copy-out-if2

@@ -7,13 +7,13 @@ element-copy-out-if1 : tie.Need-element-copy-out-if1
 element-copy-out-if1 c = search needs
 
 returns : tie.Need-returns
-returns c = admits-marked _ _ _ _ _ _ (search needs)
+returns c = admits-marked _ _ _ _ _ _ _ (search needs)
 
 returns-2 : tie.Need-returns-2
-returns-2 c = admits-beyond _ _ _ _ _ _ (search needs)
+returns-2 c = admits-beyond _ _ _ _ _ _ _ (search needs)
 
 returns-3 : tie.Need-returns-3
-returns-3 c = admits-short _ _ _ _ _ _ (search needs)
+returns-3 c = admits-short _ _ _ _ _ _ _ (search needs)
 
 refuted-requires : tie.Need-refuted-requires
 refuted-requires c κs = search needs
@@ -22,7 +22,7 @@ mark-around-requires : tie.Need-mark-around-requires
 mark-around-requires c κs = search needs
 
 returns-4 : tie.Need-returns-4
-returns-4 c = admits-none _ _ _ _ _ _ _ (c .before .before .before .refuted .ensures (search needs)) (c .mark-around .ensures (c .before .before .before .refuted .ensures (search needs)))
+returns-4 c = admits-none _ _ _ _ _ _ _ _ (c .before .before .before .refuted .ensures (search needs)) (c .mark-around .ensures (c .before .before .before .refuted .ensures (search needs)))
 
 tested-requires : tie.Need-tested-requires
 tested-requires c κs = search needs

@@ -1,3 +1,4 @@
+use native.Mathlib.Nat.{le-refl}
 use Rattle.book.specs.Kinds.{sets}
 use Rattle.walk.proofs.Walks.{first-walked}
 use borrow.Author.Needs.{needs}
@@ -14,7 +15,7 @@ same-length : tie.Need-same-length
 same-length c = search needs
 
 returns : tie.Need-returns
-returns c = first-walked _ _ _ _ sets _ _ _ (c .before .before .walk .ensures)
+returns c = first-walked _ _ _ _ sets _ (le-refl sets) _ _ (c .before .before .walk .ensures)
 
 pub first-page-spec : {M : Type 1} → statement M
 first-page-spec = tie.close (tie.spec table-requires walk-requires same-length returns)

@@ -1,10 +1,10 @@
-use Rattle.walk.proofs.Plans.{range-marked}
+use Rattle.walk.proofs.Plans.{marks-same, range-marked}
 use borrow.Author.Needs.{needs}
 use Rattle.walk.proofs.mark_around.Statement.{statement}
 use Rattle.walk.proofs.mark_around.Tie as tie
 
 returns : tie.Need-returns
-returns c = search needs
+returns c = λ x. marks-same _ _ _ _ _
 
 widened-requires : tie.Need-widened-requires
 widened-requires c κs = search needs
@@ -12,12 +12,12 @@ widened-requires c κs = search needs
 mark-requires : tie.Need-mark-requires
 mark-requires c κs = search needs
 
-spent-requires : tie.Need-spent-requires
-spent-requires c κs = search needs
+wrapping-add-u64-requires : tie.Need-wrapping-add-u64-requires
+wrapping-add-u64-requires c κs = search needs
 
 returns-2 : tie.Need-returns-2
 returns-2 c = range-marked _ _ _ _ _ _ _ _ _ (c .before .before .before .widened .ensures) (c .before .mark .ensures)
 
 pub mark-around-spec : {M : Type 1} → statement M
 mark-around-spec =
-    tie.close (tie.spec returns widened-requires mark-requires spent-requires returns-2)
+    tie.close (tie.spec returns widened-requires mark-requires wrapping-add-u64-requires returns-2)

@@ -16,7 +16,7 @@ within-requires : tie.Need-within-requires
 within-requires c κs = search needs
 
 returns : tie.Need-returns
-returns c = refuted-none _ _ _ _ _ _ _ _ _ (c .before .before .before .with-sets .ensures) (c .before .propagate .ensures) (c .within .ensures)
+returns c = refuted-none _ _ _ _ _ _ _ _ _ (c .before .before .before .before .with-sets .ensures) (c .before .before .propagate .ensures) (c .within .ensures)
 
 pub refuted-spec : {M : Type 1} → statement M
 refuted-spec =

@@ -17,7 +17,7 @@ loop-holds : tie.Need-loop-holds Inv-loop μ-loop
 loop-holds c = (omega arith, wider-same _ _ _ _ _)
 
 wider-requires : tie.Need-wider-requires Inv-loop μ-loop
-wider-requires c κs = omega arith
+wider-requires c κs = (c .before .before .before .before .pre .0, c .before .before .before .before .pre .1, omega (arith, c .before .before .before .before .pre .1), c .before .before .before .before .pre .2)
 
 add-e : tie.Need-add-e Inv-loop μ-loop
 add-e c = search needs

@@ -1,22 +1,28 @@
-use Prim.Native.Nat.{_-_, _≤_}
 use borrow.Author.Needs.{needs}
+use Prim.Native.Nat.{_-_, _≤_}
 use Rattle.probe.proofs.weights.heaviest.Statement.{statement}
 use Rattle.probe.proofs.weights.heaviest.Tie as tie
 
 abbrev Inv-loop : tie.InvT-loop
-Inv-loop words n b free t₀ k₀ t k = k ≤ n
+Inv-loop words n free t₀ rest₀ k₀ t rest k = k ≤ 256
 
 abbrev μ-loop : tie.MeasureT-loop
-μ-loop words n b free t₀ k₀ t k = n - k
+μ-loop words n free t₀ rest₀ k₀ t rest k = 256 - k
 
 loop-holds : tie.Need-loop-holds Inv-loop μ-loop
 loop-holds c = search needs
+
+next-requires : tie.Need-next-requires Inv-loop μ-loop
+next-requires c κs = search needs
 
 masks-at-requires : tie.Need-masks-at-requires Inv-loop μ-loop
 masks-at-requires c κs = search needs
 
 add-rule-requires : tie.Need-add-rule-requires Inv-loop μ-loop
 add-rule-requires c κs = search needs
+
+without-requires : tie.Need-without-requires Inv-loop μ-loop
+without-requires c κs = search needs
 
 add-k : tie.Need-add-k Inv-loop μ-loop
 add-k c = search needs
@@ -46,8 +52,10 @@ heaviest-spec =
     Inv-loop
     μ-loop
     loop-holds
+    next-requires
     masks-at-requires
     add-rule-requires
+    without-requires
     add-k
     loop-less
     loop-again

@@ -1,5 +1,5 @@
-use Prim.Native.Nat.{_-_, _≤_}
 use borrow.Author.Needs.{needs}
+use Prim.Native.Nat.{_-_, _≤_}
 use Rattle.queue.proofs.index.fill.Statement.{statement}
 use Rattle.queue.proofs.index.fill.Tie as tie
 
@@ -11,9 +11,6 @@ abbrev μ-loop : tie.MeasureT-loop
 
 loop-holds : tie.Need-loop-holds Inv-loop μ-loop
 loop-holds c = search needs
-
-returns : tie.Need-returns Inv-loop μ-loop
-returns c = search needs
 
 masks-at-requires : tie.Need-masks-at-requires Inv-loop μ-loop
 masks-at-requires c κs = search needs
@@ -36,11 +33,11 @@ circular-requires c κs = search needs
 element-write-index : tie.Need-element-write-index Inv-loop μ-loop
 element-write-index c = search needs
 
-returns-2 : tie.Need-returns-2 Inv-loop μ-loop
-returns-2 c = search needs
+chains-requires : tie.Need-chains-requires Inv-loop μ-loop
+chains-requires c κs = search needs
 
-returns-3 : tie.Need-returns-3 Inv-loop μ-loop
-returns-3 c = search needs
+returns : tie.Need-returns Inv-loop μ-loop
+returns c = search needs
 
 pub fill-spec : {M : Type 1} → statement M
 fill-spec =
@@ -49,7 +46,6 @@ fill-spec =
     Inv-loop
     μ-loop
     loop-holds
-    returns
     masks-at-requires
     put-rule-requires
     add-k
@@ -57,5 +53,5 @@ fill-spec =
     loop-again
     circular-requires
     element-write-index
-    returns-2
-    returns-3)
+    chains-requires
+    returns)

@@ -1,0 +1,192 @@
+-- The chains of rules by their heads. A rule that is put in front has the head of one chain alone, so it moves no other; along a chain
+-- every rule with its head is met, so what the chain does not name cannot give the conclusion.
+use mathlib.Core.Path.{_≡_, refl, sym, ap, _∙_}
+use mathlib.Core.Bool.{Bool, true, false, not}
+use mathlib.Core.List.{List}
+use mathlib.Core.Logic.{_⊎_, inl, inr, ⊎-elim}
+use Prim.Native.Nat.{ℕ, zero, suc, _+_, _-_, _*_, _^_, _<_, _≤_}
+use native.Mathlib.Nat.{le-refl}
+use native.Mathlib.Omega.{arith}
+use borrow.Author.Tests.{eqb-true, not-true, not-false}
+use lib.Dec.{eqb}
+use lib.ListN.{length, getD, set, length-set}
+use lib.Seq.{getD-set-same, getD-set-other}
+use Rattle.logic.specs.Tests.{Decides}
+use Rattle.logic.proofs.Decide.{clash, holds-or-not, decides-eq}
+use Rattle.sets.specs.declared.Pair.{Pair}
+use Rattle.sets.specs.Sets.{bitOf, Within}
+use Rattle.sets.specs.Pairs.{Sub, Off}
+use Rattle.sets.proofs.Digits.{bit-zero, bit-single, lt-or-le}
+use Rattle.sets.proofs.Words.{single-has}
+use Rattle.masks.specs.declared.Masks.{Masks}
+use Rattle.masks.specs.declared.Bounds.{Bounds}
+use Rattle.masks.specs.Views.{masksAt, Fires, Constraint}
+use Rattle.bounds.specs.Singles.{oneOf}
+use Rattle.queue.specs.declared.heads.Givers.{Givers}
+use Rattle.queue.specs.Chains.{firstAt, nextAt, Gives, ChainsFrom, Chains, Chained, headless, headed, Seen, Counted, idle, sole, more, Given}
+
+-- ---- one conclusion
+same-place : (i j : ℕ) → Within (2 ^ i) (2 ^ j) → i ≡ j
+same-place i j f = sym (eqb-true j i (sym (bit-single j i) ∙ ap (λ (x : ℕ). eqb x 1) (single-has i (2 ^ j) f)))
+
+none-has : (i : ℕ) → Within (2 ^ i) 0 → ⊥
+none-has i f = let e = single-has i 0 f in let z = bit-zero i in omega arith
+
+-- A conclusion within one conclusion is that one.
+pub one-same : (s i t j : ℕ) → s < 2 → t < 2 → Sub (oneOf s i) (oneOf t j) → (s ≡ t) × (i ≡ j)
+unfolding oneOf
+one-same zero i zero j h g f = (refl, same-place i j (f .held))
+one-same zero i (suc zero) j h g f = absurd (none-has i (f .held))
+one-same zero i (suc (suc t)) j h g f = absurd (omega arith)
+one-same (suc zero) i zero j h g f = absurd (none-has i (f .denied))
+one-same (suc zero) i (suc zero) j h g f = (refl, same-place i j (f .denied))
+one-same (suc zero) i (suc (suc t)) j h g f = absurd (omega arith)
+one-same (suc (suc s)) i t j h g f = absurd (omega arith)
+
+-- A constraint has none in its head.
+pub none-given : (r : Masks) (s i : ℕ) → s < 2 → Constraint r → Sub (oneOf s i) (r .head) → ⊥
+unfolding oneOf
+none-given r zero i h c f = none-has i (rw (c .held) at (f .held))
+none-given r (suc zero) i h c f = none-has i (rw (c .denied) at (f .denied))
+none-given r (suc (suc s)) i h c f = absurd (omega arith)
+
+-- ---- what becomes of the index
+module _ (index : List ℕ) (r : Masks) (k : ℕ) where
+  pub chained-none : (w : Bool) → Decides w (Constraint r) → w ≡ true → _≡_ {A = Bool} true true → Chained index r k index
+  chained-none w d e t = headless (d .yes e) refl
+
+  pub chained-not : (index′ : List ℕ) → false ≡ true → Chained index r k index′
+  chained-not index′ e = absurd (clash e)
+
+  pub chained-one : (s i : ℕ) (m : Pair) (w : Bool) (index′ : List ℕ) → s < 2 → i < 64 → m ≡ oneOf s i → Decides w (r .head ≡ m) → not w ≡ false
+      → index′ ≡ set (set index (nextAt k) (getD index (firstAt s i) 0)) (firstAt s i) k → _≡_ {A = Bool} true true → Chained index r k index′
+  chained-one s i m w index′ hs hi em d e ei t = headed s i hs hi (d .yes (not-false w e) ∙ em) ei
+
+-- ---- chains grow from the last rule to the first
+module _ (ws : List ℕ) (n : ℕ) where
+  pub chains-none : (index : List ℕ) → ChainsFrom ws n index n
+  chains-none index = record { first = λ s i k a b f g. absurd (omega arith); next = λ s i j k a b f g h. absurd (omega arith) }
+
+  -- The first of two numbers, or a later one.
+  from-or-past : (k j : ℕ) → k ≤ j → (j ≡ k) ⊎ (k + 1 ≤ j)
+  from-or-past k j h = ⊎-elim (λ l. inr (omega arith)) (λ l. inl (omega arith)) (lt-or-le k j)
+
+  module _ (index : List ℕ) (long : length index ≡ 1154) (k : ℕ) (few : k < 256) (c : ChainsFrom ws n index (k + 1)) (r : Masks) (er : r ≡ masksAt ws k) where
+    chain-headless : Constraint r → ChainsFrom ws n index k
+    chain-headless q = record {
+      first = λ s i j a b f g e. ⊎-elim (λ x. absurd (not-k s i a (rw x at e))) (λ x. c .first s i j a b x g e) (from-or-past k j f);
+      next = λ s i j l a b f g h e d. ⊎-elim (λ x. absurd (not-k s i a (rw x at e))) (λ x. c .next s i j l a b x g h e d) (from-or-past k j f);
+    }
+      where
+        not-k : (s i : ℕ) → s < 2 → Gives ws s i k → ⊥
+        not-k s i a e = none-given r s i a q (rw er e)
+
+    module _ (s i : ℕ) (hs : s < 2) (hi : i < 64) (eh : r .head ≡ oneOf s i) where
+      abbrev before : List ℕ
+      before = set index (nextAt k) (getD index (firstAt s i) 0)
+
+      abbrev after : List ℕ
+      after = set before (firstAt s i) k
+
+      -- Rule k gives this conclusion alone.
+      own : (t j : ℕ) → t < 2 → Gives ws t j k → (t ≡ s) × (j ≡ i)
+      own t j h e =
+          let f : Sub (oneOf t j) (r .head) = rw er e in
+          one-same t j s i h hs (rw eh at f)
+
+      -- What the index has afterwards.
+      at-first : getD after (firstAt s i) 0 ≡ k
+      at-first = getD-set-same before (firstAt s i) k 0 (rw (length-set index (nextAt k) (getD index (firstAt s i) 0), long) (omega arith))
+
+      at-next : getD after (nextAt k) 0 ≡ getD index (firstAt s i) 0
+      at-next = getD-set-other before (firstAt s i) (nextAt k) k 0 (λ x. omega arith) ∙ getD-set-same index (nextAt k) (getD index (firstAt s i) 0) 0 (rw long (omega arith))
+
+      elsewhere : (p : ℕ) → (p ≡ firstAt s i → ⊥) → (p ≡ nextAt k → ⊥) → getD after p 0 ≡ getD index p 0
+      elsewhere p f g = getD-set-other before (firstAt s i) p k 0 f ∙ getD-set-other index (nextAt k) p (getD index (firstAt s i) 0) 0 g
+
+      first-after : (t j l : ℕ) → t < 2 → j < 64 → k ≤ l → l < n → Gives ws t j l → getD after (firstAt t j) 0 ≤ l
+      first-after t j l a b f g e = ⊎-elim (λ x. rw (x .0, x .1, at-first) f) (λ x. ⊎-elim (λ y. absurd (x (own t j a (rw y at e)))) (λ y. rw (elsewhere (firstAt t j) (λ z. x (place t j a b z)) (λ z. omega arith)) (c .first t j l a b y g e)) (from-or-past k l f)) (same-or-not t j)
+        where
+          place : (t j : ℕ) → t < 2 → j < 64 → firstAt t j ≡ firstAt s i → (t ≡ s) × (j ≡ i)
+          place t j a b z = (omega arith, omega arith)
+
+          same-or-not : (t j : ℕ) → ((t ≡ s) × (j ≡ i)) ⊎ ((t ≡ s) × (j ≡ i) → ⊥)
+          same-or-not t j = ⊎-elim (λ x. ⊎-elim (λ y. inl (x, y)) (λ y. inr (λ z. y (z .1))) (holds-or-not (decides-eq j i))) (λ x. inr (λ z. x (z .0))) (holds-or-not (decides-eq t s))
+
+      next-after : (t j l m : ℕ) → t < 2 → j < 64 → k ≤ l → l < m → m < n → Gives ws t j l → Gives ws t j m → getD after (nextAt l) 0 ≤ m
+      next-after t j l m a b f g h e d =
+          ⊎-elim (λ x. let o = own t j a (rw x at e) in
+          let q : getD after (nextAt l) 0 ≡ getD index (firstAt s i) 0 = ap (λ (y : ℕ). getD after (nextAt y) 0) x ∙ at-next in
+          rw q (c .first s i m hs hi (omega arith) h (rw (sym (o .0), sym (o .1)) d)))
+          (λ x. rw (elsewhere (nextAt l) (λ z. omega arith) (λ z. omega arith)) (c .next t j l m a b x g h e d))
+          (from-or-past k l f)
+
+      chain-headed : ChainsFrom ws n after k
+      chain-headed = record { first = first-after; next = next-after }
+
+    pub chain-more : (index′ : List ℕ) → Chained index r k index′ → ChainsFrom ws n index′ k
+    chain-more index′ (headless q e) = rw e (chain-headless q)
+    chain-more index′ (headed s i hs hi eh e) = rw e (chain-headed s i hs hi eh)
+
+-- ---- all rules
+module _ (ws : List ℕ) (n : ℕ) where
+  -- Rule k is the next, going down; w says whether every rule so far has one conclusion for its head, or none.
+  pub chains-turn : (index index′ : List ℕ) → length index ≡ 1154 → (k l w : ℕ) → l ≡ k - 1 → 0 < k → k ≤ n → n ≤ 256 → (w ≡ 1 → ChainsFrom ws n index k) → (r : Masks) → r ≡ masksAt ws l
+      → (z : Bool) → (z ≡ true → Chained index r l index′) → not z ≡ false → w ≡ 1 → ChainsFrom ws n index′ l
+  chains-turn index index′ long k l w el p h few c r er z f e ew =
+      let ek : k ≡ l + 1 = omega arith in
+      chain-more ws n index long l (omega arith) (rw ek at (c ew)) r er index′ (f (not-false z e))
+
+  pub chains-done : (index : List ℕ) → length index ≡ 1154 → (k w : ℕ) → k ≤ 0 → n ≤ 256 → (w ≡ 1 → ChainsFrom ws n index k) → Chains ws n (set index 1153 w)
+  chains-done index long k w h few c = record {
+    few = few;
+    whole = λ e.
+        let d = c (sym (getD-set-same index 1153 w 0 (rw long (omega arith))) ∙ e) in
+        record {
+          first = λ s i j a b f g x. rw (getD-set-other index 1153 (firstAt s i) w 0 (λ z. omega arith)) (d .first s i j a b (omega arith) g x);
+          next = λ s i j l a b f g z x y. rw (getD-set-other index 1153 (nextAt j) w 0 (λ u. omega arith)) (d .next s i j l a b (omega arith) g z x y);
+        };
+  }
+
+-- ---- along a chain
+pub gives-is : (ws : List ℕ) (s i k : ℕ) (m : Pair) (r : Masks) (w : Bool) → m ≡ oneOf s i → r ≡ masksAt ws k → Decides w (Sub m (r .head)) → not w ≡ false → Gives ws s i k
+gives-is ws s i k m r w em er d e = rw (em, er) at (d .yes (not-false w e))
+
+module _ (r : Masks) (b : Bounds) (k : ℕ) (g : Givers) where
+  pub counted-idle : (w : Bool) → Decides w (Fires r (b .lo) (b .hi)) → not w ≡ true → Counted r b k g g
+  counted-idle w d e = idle (d .no (not-true w e)) refl
+
+  pub counted-sole : g .count ≡ 0 → Counted r b k g (record { count = 1; rule = k })
+  counted-sole e = sole e refl
+
+  pub counted-more : (h : Givers) → h .count ≡ 2 → Counted r b k g h
+  counted-more h e = more e
+
+module _ (ws : List ℕ) (n : ℕ) (m : Pair) (b : Bounds) where
+  -- The first of the chain has no rule with its head before it.
+  pub seen-first : (p : ℕ) → ((k : ℕ) → k < n → Sub m (masksAt ws k .head) → p ≤ k) → (g : Givers) → g ≡ record { count = 0; rule = 0 } → Seen ws n p m b g
+  seen-first p f g e = rw e (record { most = omega arith; rule = λ q. absurd (omega arith); only = λ k h l x y. let z = f k h y in absurd (omega arith) })
+
+  -- Rule p and the next of its chain.
+  pub seen-next : (p q : ℕ) (r : Masks) (g h : Givers) → Seen ws n p m b g → p < n → r ≡ masksAt ws p → Counted r b p g h → (h .count ≡ 2 → ⊥)
+      → ((k : ℕ) → p < k → k < n → Sub m (masksAt ws k .head) → q ≤ k) → Seen ws n q m b h
+  seen-next p q r g h s l er (idle x e) n2 f = rw e (record { most = s .most; rule = s .rule; only = only })
+    where
+      only : (k : ℕ) → k < n → k < q → Fires (masksAt ws k) (b .lo) (b .hi) → Sub m (masksAt ws k .head) → (g .count ≡ 1) × (k ≡ g .rule)
+      only k a c y z = ⊎-elim (λ u. s .only k a u y z) (λ u. ⊎-elim (λ v. let w = f k v a z in absurd (omega arith)) (λ v. absurd (x (rw er (rw (same k p u v) at y)))) (lt-or-le p k)) (lt-or-le k p)
+        where
+          same : (k p : ℕ) → p ≤ k → k ≤ p → k ≡ p
+          same k p u v = omega arith
+  seen-next p q r g h s l er (sole x e) n2 f = rw e (record { most = le-refl 1; rule = λ u. l; only = only })
+    where
+      only : (k : ℕ) → k < n → k < q → Fires (masksAt ws k) (b .lo) (b .hi) → Sub m (masksAt ws k .head) → (_≡_ {A = ℕ} 1 1) × (k ≡ p)
+      only k a c y z = ⊎-elim (λ u. let w = s .only k a u y z in absurd (omega (arith, w .0))) (λ u. ⊎-elim (λ v. let w = f k v a z in absurd (omega arith)) (λ v. (refl, omega arith)) (lt-or-le p k)) (lt-or-le k p)
+  seen-next p q r g h s l er (more x) n2 f = absurd (n2 x)
+
+  -- The end of the chain.
+  pub given-seen : (p : ℕ) (g : Givers) → n ≤ p → Seen ws n p m b g → Given ws n m b g
+  given-seen p g l s = record { seen = λ c. record { most = s .most; rule = s .rule; only = λ k h x. s .only k h (omega arith) } }
+
+  -- Nothing is known.
+  pub given-more : (g : Givers) → g .count ≡ 2 → Given ws n m b g
+  given-more g e = record { seen = λ c. absurd (c e) }

@@ -1,0 +1,72 @@
+use mathlib.Core.Path.{sym, _∙_}
+use lib.ListN.{length-set}
+use borrow.Author.Needs.{needs}
+use mathlib.Core.Path.{_≡_}
+use native.Mathlib.Omega.{arith}
+use lib.ListN.{length}
+use Prim.Native.Nat.{_-_, _≤_}
+use Rattle.queue.specs.Chains.{ChainsFrom}
+use Rattle.queue.proofs.Chains.{chains-none, chains-turn, chains-done}
+use Rattle.queue.proofs.heads.chains.Statement.{statement}
+use Rattle.queue.proofs.heads.chains.Tie as tie
+
+abbrev Inv-loop : tie.InvT-loop
+Inv-loop words n index₀ whole₀ k₀ index whole k = (k ≤ n) × (length index ≡ 1154) × (whole ≡ 1 → ChainsFrom words n index k)
+
+abbrev μ-loop : tie.MeasureT-loop
+μ-loop words n index₀ whole₀ k₀ index whole k = k
+
+clear-requires : tie.Need-clear-requires Inv-loop μ-loop
+clear-requires c κs = search needs
+
+loop-holds : tie.Need-loop-holds Inv-loop μ-loop
+loop-holds c = (omega arith, search needs, λ e. chains-none _ _ _)
+
+sub-k : tie.Need-sub-k Inv-loop μ-loop
+sub-k c = search needs
+
+masks-at-requires : tie.Need-masks-at-requires Inv-loop μ-loop
+masks-at-requires c κs = search needs
+
+chain-requires : tie.Need-chain-requires Inv-loop μ-loop
+chain-requires c κs = (omega (arith, c .before .before .before .before .before .before .before .before .before .before .pre .1), c .before .before .before .loop .inv .1)
+
+loop-less : tie.Need-loop-less Inv-loop μ-loop
+loop-less c = search needs
+
+loop-again : tie.Need-loop-again Inv-loop μ-loop
+loop-again c = (omega arith, search needs, λ e. absurd (omega arith))
+
+loop-less-2 : tie.Need-loop-less-2 Inv-loop μ-loop
+loop-less-2 c = search needs
+
+loop-again-2 : tie.Need-loop-again-2 Inv-loop μ-loop
+loop-again-2 c = (omega arith, search needs, chains-turn _ _ _ _ (c .before .before .before .before .before .before .before .loop .inv .1) _ _ _ (search needs) (search needs) (c .before .before .before .before .before .before .before .loop .inv .0) (c .before .before .before .before .before .before .before .before .before .before .before .before .before .before .pre .1) (c .before .before .before .before .before .before .before .loop .inv .2) _ (c .before .before .before .before .masks-at .ensures) _ (c .before .before .before .chain .ensures) (search needs))
+
+slice-write-index : tie.Need-slice-write-index Inv-loop μ-loop
+slice-write-index c = search needs
+
+same-length : tie.Need-same-length Inv-loop μ-loop
+same-length c = length-set (c .before .loop .index) 1153 (c .before .loop .whole) ∙ c .before .loop .inv .1 ∙ sym (c .before .before .before .before .before .before .before .before .pre .2)
+
+returns : tie.Need-returns Inv-loop μ-loop
+returns c = chains-done _ _ _ (c .before .loop .inv .1) _ _ (search needs) (c .before .before .before .before .before .before .before .before .pre .1) (c .before .loop .inv .2)
+
+pub chains-spec : {M : Type 1} → statement M
+chains-spec =
+    tie.close
+    (tie.spec
+    Inv-loop
+    μ-loop
+    clear-requires
+    loop-holds
+    sub-k
+    masks-at-requires
+    chain-requires
+    loop-less
+    loop-again
+    loop-less-2
+    loop-again-2
+    slice-write-index
+    same-length
+    returns)

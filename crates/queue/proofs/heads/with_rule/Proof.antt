@@ -1,0 +1,20 @@
+use mathlib.Core.Path.{refl}
+use Rattle.queue.proofs.Chains.{counted-idle, counted-sole, counted-more}
+use borrow.Author.Needs.{needs}
+use Rattle.queue.proofs.heads.with_rule.Statement.{statement}
+use Rattle.queue.proofs.heads.with_rule.Tie as tie
+
+fires-requires : tie.Need-fires-requires
+fires-requires c κs = search needs
+
+returns : tie.Need-returns
+returns c = counted-idle _ _ _ _ _ (c .before .fires .ensures) (search needs)
+
+returns-2 : tie.Need-returns-2
+returns-2 c = counted-sole _ _ _ _ (search needs)
+
+returns-3 : tie.Need-returns-3
+returns-3 c = counted-more _ _ _ _ _ refl
+
+pub with-rule-spec : {M : Type 1} → statement M
+with-rule-spec = tie.close (tie.spec fires-requires returns returns-2 returns-3)

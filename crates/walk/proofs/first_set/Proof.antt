@@ -1,0 +1,13 @@
+use Rattle.walk.proofs.Marks.{next-any, first-lo}
+use borrow.Author.Needs.{needs}
+use Rattle.walk.proofs.first_set.Statement.{statement}
+use Rattle.walk.proofs.first_set.Tie as tie
+
+returns : tie.Need-returns
+returns c = next-any _ (search needs) _
+
+returns-2 : tie.Need-returns-2
+returns-2 c = first-lo _ (search needs)
+
+pub first-set-spec : {M : Type 1} → statement M
+first-set-spec = tie.close (tie.spec returns returns-2)
