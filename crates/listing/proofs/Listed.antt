@@ -11,6 +11,7 @@ use lib.Seq.{sets, take-all, take-take, length-take-le}
 use Rattle.sets.specs.declared.Pair.{Pair}
 use Rattle.sets.specs.Pairs.{flat}
 use Rattle.book.specs.declared.Shape.{Shape}
+use Rattle.book.specs.Limits as limit
 use Rattle.text.specs.Reading.{over}
 use Rattle.meaning.specs.Books.{Book, Lawful}
 use Rattle.meaning.specs.Meant.{bookOf}
@@ -20,7 +21,7 @@ use Rattle.fields.proofs.Puts.{sets-append}
 use Rattle.answers.specs.Ways.{linesOf, listed, printed, mostLines}
 use Rattle.line.specs.Parts.{lineBytes}
 use Rattle.engine.specs.Loaded.{Loaded, PageIs}
-use Rattle.listing.specs.Parts.{pairsIn}
+use Rattle.listing.specs.Parts.{pairsIn, longestLine}
 use Rattle.listing.proofs.Pages.{lastPoint, page-full, page-same, page-take, page-length, pairs-front, pairs-length}
 use Rattle.listing.proofs.Printed.{lines-length, printed-past, printed-ended, printed-cut, front-is}
 
@@ -52,8 +53,8 @@ module _ (b : Book) (k m : ℕ) (from : Point) where
       ∙ sym (printed-cut m (b .statements) (take (suc m) (pageFrom b k from)) (omega (arith, n))))
 
 -- ---- buffers
-pub at-most : (k m n : ℕ) → k ≤ m → n ≤ 48 → k * lineBytes n ≤ m * 102
-at-most k m n h g = le-trans (mul-le-mul-right (lineBytes n) h) (mul-le-mul-left m (let f : lineBytes n ≤ 102 = omega arith in f))
+pub at-most : (k m n : ℕ) → k ≤ m → n ≤ limit.statements → k * lineBytes n ≤ m * longestLine
+at-most k m n h g = le-trans (mul-le-mul-right (lineBytes n) h) (mul-le-mul-left m (let f : lineBytes n ≤ longestLine = omega arith in f))
 
 shown : (l l₁ xs : List ℕ) (i : ℕ) → l₁ ≡ sets l 0 xs → i ≡ length xs → length xs ≤ length l → take i l₁ ≡ xs
 shown l l₁ xs i e f h = rw (e, f) (front-is l xs h)

@@ -32,16 +32,16 @@ use Rattle.line.specs.Parts.{lineBytes}
 use Rattle.engine.specs.Loaded.{Loaded, PageIs}
 use Rattle.listing.specs.declared.Part.{Part}
 use Rattle.listing.specs.declared.Begun.{Begun}
-use Rattle.listing.specs.Parts.{pairAt, pairsIn, partLines, Closes, Fills, Prints, Lists, Prepared, Ready, Begins, GoesOn}
+use Rattle.listing.specs.Parts.{pairAt, pairsIn, partLines, longestLine, partBytes, Closes, Fills, Prints, Lists, Prepared, Ready, Begins, GoesOn}
 use Rattle.listing.proofs.Pages.{lastPoint, page-lawful, last-point}
 use Rattle.listing.proofs.Printed.{front-is}
 use Rattle.listing.proofs.Listed.{front-listed, ended-listed, cut-listed, at-most, statements-same, page-count, page-few, page-pairs, page-all, lines-shown, closed-shown}
 
 -- ---- a page in lines
 module _ (n : ℕ) (ns : List ℕ) (k : ℕ) (out out₁ : List ℕ) (i : ℕ) (e : out₁ ≡ sets out 0 (linesOf n (pairsIn ns 0 k))) (ei : i ≡ k * lineBytes n)
-    (hn : n ≤ 48) (hk : k ≤ 512) (ho : length out ≡ 52226) where
-  room : i ≤ 52224
-  room = rw ei (at-most k 512 n hk hn)
+    (hn : n ≤ limit.statements) (hk : k ≤ partLines) (ho : length out ≡ partBytes) where
+  room : i ≤ partLines * longestLine
+  room = rw ei (at-most k partLines n hk hn)
 
   pub closes : (x : ℕ) (out₂ : List ℕ) (p : Pair) → out₂ ≡ sets out₁ i (x ∷ 10 ∷ []) → length out₂ ≡ length out → Closes n ns k x out₂ (record { bytes = i + 2; full = false; last = p })
   closes x out₂ p g h = record {
@@ -50,7 +50,7 @@ module _ (n : ℕ) (ns : List ℕ) (k : ℕ) (out out₁ : List ℕ) (i : ℕ) (
     is = closed-shown n ns k out out₁ i e ei x out₂ g (let r = room in omega arith);
   }
 
-  pub fills : (p : Pair) → length out₁ ≡ length out → p ≡ pairAt ns 511 → Fills n ns k out₁ (record { bytes = i; full = true; last = p })
+  pub fills : (p : Pair) → length out₁ ≡ length out → p ≡ pairAt ns (partLines - 1) → Fills n ns k out₁ (record { bytes = i; full = true; last = p })
   fills p h ep = record {
     fits = let r = room in omega arith;
     is-full = refl;
@@ -59,68 +59,68 @@ module _ (n : ℕ) (ns : List ℕ) (k : ℕ) (out out₁ : List ℕ) (i : ℕ) (
   }
 
 module _ (n : ℕ) (ns : List ℕ) (k m : ℕ) (o : List ℕ) (r : Part) where
-  pub prints-ended : k < 512 → k ≤ m → Closes n ns k 69 o r → Prints n ns k m o r
+  pub prints-ended : k < partLines → k ≤ m → Closes n ns k 69 o r → Prints n ns k m o r
   prints-ended h g c = record { ended = λ _ _. c; cut = λ a _. absurd (omega arith); filled = λ a _. absurd (omega arith) }
 
-  pub prints-cut : m < k → m < 512 → Closes n ns m 77 o r → Prints n ns k m o r
+  pub prints-cut : m < k → m < partLines → Closes n ns m 77 o r → Prints n ns k m o r
   prints-cut h g c = record { ended = λ _ d. absurd (omega arith); cut = λ _ _. c; filled = λ _ d. absurd (omega arith) }
 
-  pub prints-filled : 512 ≤ k → 512 ≤ m → Fills n ns 512 o r → Prints n ns k m o r
+  pub prints-filled : partLines ≤ k → partLines ≤ m → Fills n ns partLines o r → Prints n ns k m o r
   prints-filled h g f = record { ended = λ a _. absurd (omega arith); cut = λ _ d. absurd (omega arith); filled = λ e _. rw e f }
 
   -- Which of the three a page is.
-  pub three-ways : k ≤ 512 → (k < 512 × k ≤ m) ⊎ ((m < k × m < 512) ⊎ (k ≡ 512 × 512 ≤ m))
+  pub three-ways : k ≤ partLines → (k < partLines × k ≤ m) ⊎ ((m < k × m < partLines) ⊎ (k ≡ partLines × partLines ≤ m))
   three-ways h =
-      ⊎-elim (λ a. ⊎-elim (λ c. inl (c, omega arith)) (λ c. inr (inr (omega arith, omega arith))) (lt-or-le k 512))
-      (λ a. ⊎-elim (λ c. inr (inl (omega arith, c))) (λ c. inr (inr (omega arith, c))) (lt-or-le m 512)) (lt-or-le k (suc m))
+      ⊎-elim (λ a. ⊎-elim (λ c. inl (c, omega arith)) (λ c. inr (inr (omega arith, omega arith))) (lt-or-le k partLines))
+      (λ a. ⊎-elim (λ c. inr (inl (omega arith, c))) (λ c. inr (inr (omega arith, c))) (lt-or-le m partLines)) (lt-or-le k (suc m))
 
 -- ---- a part of a book
-module _ (s : Shape) (ws ranks : List ℕ) (from : Point) (m : ℕ) (o o′ : List ℕ) (k : ℕ) (eo : length o ≡ 1536) (f : PageIs s ws ranks from o o′ k) where
-  room-is : length o / 3 ≡ 512
+module _ (s : Shape) (ws ranks : List ℕ) (from : Point) (m : ℕ) (o o′ : List ℕ) (k : ℕ) (eo : length o ≡ partLines * 3) (f : PageIs s ws ranks from o o′ k) where
+  room-is : length o / 3 ≡ partLines
   room-is = rw eo refl
 
-  pub part-few : (rows : List ℤ) → Loaded s rows ws ranks → LawfulPoint (bookOf s rows) from → k ≤ 512
-  part-few rows d l = page-few s ws ranks from 512 o o′ k room-is f rows d l
+  pub part-few : (rows : List ℤ) → Loaded s rows ws ranks → LawfulPoint (bookOf s rows) from → k ≤ partLines
+  part-few rows d l = page-few s ws ranks from partLines o o′ k room-is f rows d l
 
-  module _ (out : List ℕ) (r : Part) (p : Prints (s .statements) o′ k m out r) (few : k ≤ 512) where
+  module _ (out : List ℕ) (r : Part) (p : Prints (s .statements) o′ k m out r) (few : k ≤ partLines) where
     module _ (rows : List ℤ) (d : Loaded s rows ws ranks) (l : LawfulPoint (bookOf s rows) from) where
-      count : k ≡ length (pageFrom (bookOf s rows) 512 from)
-      count = page-count s ws ranks from 512 o o′ k room-is f rows d l
+      count : k ≡ length (pageFrom (bookOf s rows) partLines from)
+      count = page-count s ws ranks from partLines o o′ k room-is f rows d l
 
-      pairs-all : linesOf (s .statements) (pairsIn o′ 0 k) ≡ linesOf (bookOf s rows .statements) (pageFrom (bookOf s rows) 512 from)
-      pairs-all = rw (page-all s ws ranks from 512 o o′ k room-is f rows d l, statements-same s rows) refl
+      pairs-all : linesOf (s .statements) (pairsIn o′ 0 k) ≡ linesOf (bookOf s rows .statements) (pageFrom (bookOf s rows) partLines from)
+      pairs-all = rw (page-all s ws ranks from partLines o o′ k room-is f rows d l, statements-same s rows) refl
 
-    ended : k < 512 → k ≤ m → Lists s ws ranks from m out r
+    ended : k < partLines → k ≤ m → Lists s ws ranks from m out r
     ended h g = let c = p .ended h g in record {
       fits = c .fits;
       fewer = λ t. absurd (clash (sym (c .not-full) ∙ t));
-      whole = λ rows d l t. c .is ∙ ap (λ (x : List ℕ). x ++ (69 ∷ 10 ∷ [])) (pairs-all rows d l) ∙ ended-listed (bookOf s rows) 512 m from (let e = count rows d l in omega arith) (let e = count rows d l in omega arith);
+      whole = λ rows d l t. c .is ∙ ap (λ (x : List ℕ). x ++ (69 ∷ 10 ∷ [])) (pairs-all rows d l) ∙ ended-listed (bookOf s rows) partLines m from (let e = count rows d l in omega arith) (let e = count rows d l in omega arith);
       lawful = λ rows d l t. absurd (clash (sym (c .not-full) ∙ t));
       front = λ rows d l t. absurd (clash (sym (c .not-full) ∙ t));
     }
 
-    cut : m < k → m < 512 → Lists s ws ranks from m out r
+    cut : m < k → m < partLines → Lists s ws ranks from m out r
     cut h g = let c = p .cut h g in record {
       fits = c .fits;
       fewer = λ t. absurd (clash (sym (c .not-full) ∙ t));
       whole = λ rows d l t.
-          let q : linesOf (s .statements) (pairsIn o′ 0 m) ≡ linesOf (bookOf s rows .statements) (take m (pageFrom (bookOf s rows) 512 from)) = rw (page-pairs s ws ranks from 512 o o′ k room-is f rows d l m (omega arith), statements-same s rows) refl in
-          c .is ∙ ap (λ (x : List ℕ). x ++ (77 ∷ 10 ∷ [])) q ∙ cut-listed (bookOf s rows) 512 m from (let e = count rows d l in omega arith);
+          let q : linesOf (s .statements) (pairsIn o′ 0 m) ≡ linesOf (bookOf s rows .statements) (take m (pageFrom (bookOf s rows) partLines from)) = rw (page-pairs s ws ranks from partLines o o′ k room-is f rows d l m (omega arith), statements-same s rows) refl in
+          c .is ∙ ap (λ (x : List ℕ). x ++ (77 ∷ 10 ∷ [])) q ∙ cut-listed (bookOf s rows) partLines m from (let e = count rows d l in omega arith);
       lawful = λ rows d l t. absurd (clash (sym (c .not-full) ∙ t));
       front = λ rows d l t. absurd (clash (sym (c .not-full) ∙ t));
     }
 
-    filled : k ≡ 512 → 512 ≤ m → Lists s ws ranks from m out r
+    filled : k ≡ partLines → partLines ≤ m → Lists s ws ranks from m out r
     filled h g = let c = p .filled h g in record {
       fits = c .fits;
       fewer = λ t. g;
       whole = λ rows d l t. absurd (clash (sym t ∙ c .is-full));
-      lawful = λ rows d l t. rw (leads rows d l) at (page-lawful (bookOf s rows) 512 from l);
-      front = λ rows d l t. rw (c .is ∙ pairs-all rows d l) (front-listed (bookOf s rows) 512 m from (r .last) (sym (count rows d l) ∙ h) (leads rows d l) g);
+      lawful = λ rows d l t. rw (leads rows d l) at (page-lawful (bookOf s rows) partLines from l);
+      front = λ rows d l t. rw (c .is ∙ pairs-all rows d l) (front-listed (bookOf s rows) partLines m from (r .last) (sym (count rows d l) ∙ h) (leads rows d l) g);
     }
       where
-        leads : (rows : List ℤ) → Loaded s rows ws ranks → LawfulPoint (bookOf s rows) from → lastPoint from (pageFrom (bookOf s rows) 512 from) ≡ at (r .last)
-        leads rows d l = ap (lastPoint from) (sym (rw h at (page-all s ws ranks from 512 o o′ k room-is f rows d l))) ∙ last-point 511 0 from o′ ∙ ap at (sym (p .filled h g .last))
+        leads : (rows : List ℤ) → Loaded s rows ws ranks → LawfulPoint (bookOf s rows) from → lastPoint from (pageFrom (bookOf s rows) partLines from) ≡ at (r .last)
+        leads rows d l = ap (lastPoint from) (sym (rw h at (page-all s ws ranks from partLines o o′ k room-is f rows d l))) ∙ last-point (partLines - 1) 0 from o′ ∙ ap at (sym (p .filled h g .last))
 
     pub lists : Lists s ws ranks from m out r
     lists = ⊎-elim (λ a. ended (a .0) (a .1)) (λ a. ⊎-elim (λ c. cut (c .0) (c .1)) (λ c. filled (c .0) (c .1)) a) (three-ways (s .statements) o′ k m out r few)
@@ -132,12 +132,13 @@ few-taken s ws ranks p d =
 
 -- ---- from the text
 module _ (bs : List ℕ) (q : Refusal) (r : readText bs ≡ refused (q .number) (q .line)) where
-  longest-is : longest ≡ 8392
+  -- The longest text has fewer bytes, and so fewer lines, than a field of 4 columns can say.
+  longest-short : suc longest < 10000
   unfolding longest most bytes kinds
-  longest-is = refl
+  longest-short = omega arith
 
   pub refusal-short : (q .number < 10000) × (q .line < 10000)
-  refusal-short = let k = rw r at (text-known bs) in let h = k .0 .high in let g = k .1 in let l = longest-is in (omega arith, omega arith)
+  refusal-short = let k = rw r at (text-known bs) in let h = k .0 .high in let g = k .1 in let l = longest-short in (omega arith, omega arith)
 
   pub begins-refused : (out out₁ ws ranks : List ℕ) (s : Shape) (p : Pair) → 10 ≤ length out → length out₁ ≡ length out → out₁ ≡ sets out 0 (failed (q .number) (q .line))
       → Begins bs ws ranks out₁ (record { part = record { bytes = 10; full = false; last = p }; shape = s })

@@ -7,20 +7,29 @@ use lib.IntN.{ℤ}
 use lib.ListN.{length, take, getD}
 use Rattle.sets.specs.declared.Pair.{Pair}
 use Rattle.book.specs.declared.Shape.{Shape}
+use Rattle.book.specs.Limits as limit
 use Rattle.meaning.specs.Books.{Lawful}
 use Rattle.meaning.specs.Meant.{bookOf}
 use Rattle.meaning.specs.Order.{Point, start, at, LawfulPoint}
 use Rattle.answers.specs.Ways.{linesOf, listed, mostLines, waysOf}
+use Rattle.line.specs.Parts.{lineBytes}
 use Rattle.engine.specs.Loaded.{Loaded}
 use Rattle.listing.specs.declared.Part.{Part}
 use Rattle.listing.specs.declared.Begun.{Begun}
 
--- The most lines that a part has, and the bytes that it may need: so many of the longest lines, and the closing line.
+-- The most lines that a part has. Nothing else in the definitions or proofs of this crate repeats this number.
 abbrev pub partLines : ℕ
-partLines = 512
+partLines = 1024
+
+-- The bytes of the longest line, of the closing line, and those that a part may need: so many of the longest lines, and the closing line.
+abbrev pub longestLine : ℕ
+longestLine = lineBytes limit.statements
+
+abbrev pub closingBytes : ℕ
+closingBytes = 2
 
 abbrev pub partBytes : ℕ
-partBytes = 52226
+partBytes = partLines * longestLine + closingBytes
 
 -- The pair at a place of a page, and the k pairs from there on.
 unfoldable pub pairAt : List ℕ → ℕ → Pair
@@ -41,7 +50,7 @@ pub record Closes (n : ℕ) (ns : List ℕ) (k letter : ℕ) (o′ : List ℕ) (
 pub record Fills (n : ℕ) (ns : List ℕ) (k : ℕ) (o′ : List ℕ) (r : Part) : Type 0 where
   pub fits : r .bytes ≤ length o′
   pub is-full : r .full ≡ true
-  pub last : r .last ≡ pairAt ns 511
+  pub last : r .last ≡ pairAt ns (partLines - 1)
   pub is : take (r .bytes) o′ ≡ linesOf n (pairsIn ns 0 k)
 
 -- A page of k pairs where m lines are left: `E` where that is all, `M` where it is more than may be printed, else the listing goes on.

@@ -4,10 +4,11 @@ ghost use mathlib.Core.List.{[], _∷_};
 ghost use Prim.Native.Nat.{_+_, _*_, _<_, _≤_};
 ghost use lib.ListN.{length};
 ghost use lib.Seq.{sets};
+ghost use Rattle.book.specs.Limits as limit;
 ghost use Rattle.meaning.specs.Order.{start, at};
 ghost use Rattle.answers.specs.Ways.{linesOf, mostLines, failed as failedOf};
 ghost use Rattle.line.specs.Parts.{lineBytes};
-ghost use Rattle.listing.specs.Parts.{pairAt, pairsIn, partLines, partBytes, Prepared, Ready, Closes, Prints, Lists, Begins};
+ghost use Rattle.listing.specs.Parts.{pairAt, pairsIn, partLines, closingBytes, partBytes, Prepared, Ready, Closes, Prints, Lists, Begins};
 use book::Book;
 use book::Shape;
 use engine::Ranks;
@@ -19,7 +20,7 @@ use text::Refusal;
 // The most lines that are printed, and the most that a part has.
 pub const MOST: usize = 9999;
 
-pub const PART: usize = 512;
+pub const PART: usize = 1024;
 
 // The bytes of the longest line, and of the closing line.
 pub const LONGEST: usize = 1 + (1 + Book::EXCEPTIONS) * Book::COLUMNS + Book::STATEMENTS + 1;
@@ -44,7 +45,7 @@ pub fn pair_at(pairs: &[u64], k: usize) -> Pair
 
 // The lines of the first k pairs of a page, in front of a buffer; how many bytes they have.
 pub fn put_lines(out: &mut [u8], n: usize, pairs: &[u64], k: usize) -> usize
-    requires { ⌜ (n ≤ 48) × (k ≤ 10000) × (k * 3 ≤ length (now pairs)) × (k * lineBytes n ≤ length (now out)) ⌝ }
+    requires { ⌜ (n ≤ limit.statements) × (k * 3 ≤ length (now pairs)) × (k * lineBytes n ≤ length (now out)) ⌝ }
     ensures { λ r. ⌜ (now (out .exit) ≡ sets (now (out .entry)) 0 (linesOf n (pairsIn (now (pairs .entry)) 0 k))) × (r ≡ k * lineBytes n) ⌝ }
 {
     let w = LONGEST - Book::STATEMENTS + n;
@@ -61,7 +62,7 @@ pub fn put_lines(out: &mut [u8], n: usize, pairs: &[u64], k: usize) -> usize
 
 // A letter and a line feed at a place of a buffer.
 pub fn put_closing(out: &mut [u8], at: usize, letter: u8)
-    requires { ⌜ at + 2 ≤ length (now out) ⌝ }
+    requires { ⌜ at + closingBytes ≤ length (now out) ⌝ }
     ensures { λ r. ⌜ now (out .exit) ≡ sets (now (out .entry)) at (letter ∷ 10 ∷ []) ⌝ }
 {
     out[at] = letter;
@@ -77,7 +78,7 @@ pub struct Part {
 
 // The first k pairs of a page in lines, and a closing line: no part follows.
 pub fn close_part(out: &mut [u8], n: usize, pairs: &[u64], k: usize, letter: u8) -> Part
-    requires { ⌜ (n ≤ 48) × (k ≤ partLines) × (k * 3 ≤ length (now pairs)) × (length (now out) ≡ partBytes) ⌝ }
+    requires { ⌜ (n ≤ limit.statements) × (k ≤ partLines) × (k * 3 ≤ length (now pairs)) × (length (now out) ≡ partBytes) ⌝ }
     ensures { λ r. ⌜ Closes n (now (pairs .entry)) k letter (now (out .exit)) r ⌝ }
 {
     let at = put_lines(out, n, pairs, k);
@@ -95,7 +96,7 @@ pub fn close_part(out: &mut [u8], n: usize, pairs: &[u64], k: usize, letter: u8)
 
 // The lines of a page of k pairs, where m lines are left to be printed: the closing line too, unless the page is full and more may come.
 pub fn put_part(out: &mut [u8], n: usize, pairs: &[u64], k: usize, m: usize) -> Part
-    requires { ⌜ (n ≤ 48) × (k ≤ partLines) × (length (now pairs) ≡ partLines * 3) × (length (now out) ≡ partBytes) ⌝ }
+    requires { ⌜ (n ≤ limit.statements) × (k ≤ partLines) × (length (now pairs) ≡ partLines * 3) × (length (now out) ≡ partBytes) ⌝ }
     ensures { λ r. ⌜ Prints n (now (pairs .entry)) k m (now (out .exit)) r ⌝ }
 {
     if k < PART {

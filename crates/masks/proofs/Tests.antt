@@ -11,8 +11,9 @@ use lib.Bits.{bitAnd, bitOr}
 use lib.Dec.{eqb}
 use lib.ListN.{length, getD}
 use borrow.Author.Count.{below-more}
+use borrow.Author.Tests.{not-false}
 use Rattle.logic.specs.Tests.{Decides}
-use Rattle.logic.proofs.Decide.{holds-or-not, reworded}
+use Rattle.logic.proofs.Decide.{clash, holds-or-not, reworded}
 use Rattle.sets.specs.declared.Pair.{Pair}
 use Rattle.sets.specs.Sets.{bitOf, Apart}
 use Rattle.sets.specs.Pairs.{Sub, Off}
@@ -20,10 +21,12 @@ use Rattle.sets.proofs.Digits.{bit-lt}
 use Rattle.sets.proofs.Words.{decide, or-zero, off-is, and-none, none-and}
 use Rattle.sets.proofs.Pairs.{sub-refl, sub-trans, meet-l, sub-both}
 use Rattle.masks.specs.declared.Masks.{Masks}
+use Rattle.masks.specs.declared.Outcome.{Outcome}
 use Rattle.masks.specs.Views.{masksAt, Fires, Constraint, Meets, MeetsAll, Level, MaskView}
-use Rattle.masks.specs.Closures.{Closure}
+use Rattle.masks.specs.Closures.{Passed, Closure, only, bare, Swept}
 use Rattle.masks.proofs.Booleans.{refused, granted, decides-true, decides-false}
 use Rattle.masks.proofs.Facts.{bounded}
+use Rattle.masks.proofs.Closures.{pass-over, first-below, closure-full, next-start, next-below}
 
 -- ---- one rule
 module _ (r : Masks) (v c : Pair) (w : Bool) (d : Decides w (Sub (r .need) c)) where
@@ -57,15 +60,15 @@ module _ (r : Masks) (v : Pair) (w : Bool) (d : Decides w (Fires r v v)) where
 
 -- ---- all rules
 module _ (ws : List ℕ) (k : ℕ) (v : Pair) where
-  module _ (r : Masks) (w : Bool) (e : r ≡ masksAt ws k) (d : Decides w (Meets r v)) where
+  module _ (r : Masks) (w : Bool) (e : r ≡ masksAt ws k) (m : Decides w (Meets r v)) where
     pub rules-turn : MeetsAll ws k v → not w ≡ false → MeetsAll ws (k + 1) v
-    rules-turn f q = below-more _ k f (rw e at (granted d q))
+    rules-turn f q = below-more _ k f (rw e at (granted m q))
 
-    pub rules-lost : (n : ℕ) → k < n → not w ≡ true → Decides false (MeetsAll ws n v)
-    rules-lost n h q = decides-false (λ f. refused d q (rw e (f k h)))
+    pub rules-lost : (n : ℕ) (d : Pair) → k < n → not w ≡ true → Swept ws n v (record { ok = false; reached = d })
+    rules-lost n d h q = record { exact = decides-false (λ f. refused m q (rw e (f k h))); passed = λ z. absurd (clash z) }
 
-  pub rules-won : (n : ℕ) → n ≤ k → MeetsAll ws k v → Decides true (MeetsAll ws n v)
-  rules-won n h f = decides-true (λ j l. f j (omega arith))
+  pub rules-won : (n : ℕ) (d : Pair) → k ≤ n → n ≤ k → MeetsAll ws k v → Passed ws k (only v) (bare v) d → Swept ws n v (record { ok = true; reached = d })
+  rules-won n d l h f p = record { exact = decides-true (λ j i. f j (omega arith)); passed = λ z. pass-over _ k _ _ _ _ l h p }
 
 -- ---- preferences
 pub level-idle : (rank a taken : ℕ) → bitOf taken a ≡ 0 → Decides true (bitOf taken a ≡ 1 → Apart rank taken)
@@ -100,19 +103,28 @@ module _ (ws : List ℕ) (n : ℕ) (ranks : List ℕ) (v : Pair) where
   pub view-level : (a : Bool) → Decides a (Level ranks (v .taken)) → not a ≡ true → Decides false (MaskView ws n ranks v)
   view-level a d e = decides-false (λ w. refused d e (w .level))
 
-  pub view-rules : (a : Bool) → Decides a (MeetsAll ws n v) → not a ≡ true → Decides false (MaskView ws n ranks v)
-  view-rules a d e = decides-false (λ w. refused d e (w .rules))
+  module _ (s : Outcome) (p : Swept ws n v s) where
+    pub view-rules : not (s .ok) ≡ true → Decides false (MaskView ws n ranks v)
+    view-rules e = decides-false (λ w. refused (p .exact) e (w .rules))
 
-  -- The closure within the bounds [v, v] is v exactly where v is least.
-  pub view-least : (a b o : Bool) (c : Pair) → bitAnd (v .held) (v .denied) ≡ 0 → Decides a (Level ranks (v .taken)) → not a ≡ false
-      → Decides b (MeetsAll ws n v) → not b ≡ false → Closure ws n (record { lo = v; hi = v }) c → Decides o (c ≡ v) → Decides o (MaskView ws n ranks v)
-  view-least a b o c e0 da ea db eb cl dc =
-      reworded dc
-      (λ q. record {
-        coherent = and-none _ _ e0;
-        rules = granted db eb;
-        least = λ t ht f. rw (← q) (cl .least t (λ i. let z = ap (λ (x : ℕ). bitOf x i) ht in omega arith) (λ k h x. sub-trans (meet-l _ _) (f k h x)));
-        level = granted da ea;
-      })
-      (λ w. sub-both (cl .least v (λ i. le-refl _) (λ k h x. sub-trans (meet-l _ _) (w .rules k h .closed x)))
-      (bounded w v v c (sub-refl v) (sub-refl v) (cl .start) (cl .stable)))
+    module _ (a : Bool) (e0 : bitAnd (v .held) (v .denied) ≡ 0) (da : Decides a (Level ranks (v .taken))) (ea : not a ≡ false) (es : not (s .ok) ≡ false) where
+      -- The closure within the bounds [v, v] is v exactly where v is least.
+      pub view-least : (o : Bool) (c : Pair) → Closure ws n (only v) c → Decides o (c ≡ v) → Decides o (MaskView ws n ranks v)
+      view-least o c cl dc =
+          reworded dc
+          (λ q. record {
+            coherent = and-none _ _ e0;
+            rules = granted (p .exact) es;
+            least = λ t ht f. rw (← q) (cl .least t (λ i. let z = ap (λ (x : ℕ). bitOf x i) ht in omega arith) (λ k h x. sub-trans (meet-l _ _) (f k h x)));
+            level = granted da ea;
+          })
+          (λ w. sub-both (cl .least v (λ i. le-refl _) (λ k h x. sub-trans (meet-l _ _) (w .rules k h .closed x)))
+          (bounded w v v c (sub-refl v) (sub-refl v) (cl .start) (cl .stable)))
+
+      -- A sweep that reaches v has reached the closure.
+      pub view-reached : (w : Bool) → Decides w (s .reached ≡ v) → w ≡ true → Decides true (MaskView ws n ranks v)
+      view-reached w d e =
+          let f = p .passed (not-false (s .ok) es) in
+          view-least true (s .reached)
+          (closure-full ws n (only v) (s .reached) w d e (next-start ws n (only v) (bare v) _ f (λ i. le-refl _)) (next-below ws n (only v) (bare v) _ f (first-below ws n (only v))))
+          (decides-true (d .yes e))

@@ -1,12 +1,16 @@
 -- What the functions that compute a closure within bounds promise.
 use Prim.Native.Nat.{ℕ, _<_}
+use mathlib.Core.Path.{_≡_}
+use mathlib.Core.Bool.{true}
 use mathlib.Core.List.{List}
+use Rattle.logic.specs.Tests.{Decides}
 use Rattle.sets.specs.declared.Pair.{Pair}
 use Rattle.sets.specs.Sets.{Within}
 use Rattle.sets.specs.Pairs.{Sub, meetOf}
 use Rattle.masks.specs.declared.Masks.{Masks}
 use Rattle.masks.specs.declared.Bounds.{Bounds}
-use Rattle.masks.specs.Views.{masksAt, Fires}
+use Rattle.masks.specs.declared.Outcome.{Outcome}
+use Rattle.masks.specs.Views.{masksAt, Fires, MeetsAll}
 
 -- If the rule can fire from t within the bounds, what it adds within them is in t already.
 abbrev pub StableAt : Masks → Bounds → Pair → Type 0
@@ -33,3 +37,15 @@ pub record Closure (ws : List ℕ) (n : ℕ) (b : Bounds) (c : Pair) : Type 0 wh
   pub start : Within (b .hi .taken) (c .taken)
   pub stable : Stable ws n b c
   pub least : (t : Pair) → Within (b .hi .taken) (t .taken) → Stable ws n b t → Sub c t
+
+-- The bounds from v to v, and the pair from which a closure within them starts.
+abbrev pub only : Pair → Bounds
+only v = record { lo = v; hi = v }
+
+abbrev pub bare : Pair → Pair
+bare v = record { taken = v .taken; held = 0; denied = 0 }
+
+-- What a sweep over the first n rules tells of v. Where v meets them all, the sweep is a pass too.
+pub record Swept (ws : List ℕ) (n : ℕ) (v : Pair) (s : Outcome) : Type 0 where
+  pub exact : Decides (s .ok) (MeetsAll ws n v)
+  pub passed : s .ok ≡ true → Passed ws n (only v) (bare v) (s .reached)

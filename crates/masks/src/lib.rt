@@ -4,8 +4,8 @@ ghost use Prim.Native.Nat.{_+_, _*_, _<_, _≤_};
 ghost use lib.ListN.{length};
 ghost use Rattle.logic.specs.Tests.{Decides};
 ghost use Rattle.sets.specs.Sets.{bitOf, Apart};
-ghost use Rattle.masks.specs.Views.{masksAt, Fires, Constraint, Meets, MeetsAll, Level, MaskView};
-ghost use Rattle.masks.specs.Closures.{Fired, Passed, Closure};
+ghost use Rattle.masks.specs.Views.{masksAt, Fires, Constraint, Meets, Level, MaskView};
+ghost use Rattle.masks.specs.Closures.{Fired, Passed, Closure, Swept};
 use sets::Pair;
 
 // A rule: its head, its needed entries (the rule's own exception among them), its barred entries.
@@ -123,19 +123,39 @@ pub fn meets(r: Masks, v: Pair) -> bool
     r.need.taken & v.taken == 0
 }
 
-// The same of the first n rules.
-pub fn meets_all(words: &[u64], n: usize, v: Pair) -> bool
+// What one sweep over the rules tells of a pair: whether it meets them all, and what they add to its exceptions alone.
+pub struct Outcome {
+    pub ok: bool,
+    pub reached: Pair,
+}
+
+// One sweep over the first n rules. It ends at the first rule that v does not meet.
+pub fn sweep(words: &[u64], n: usize, v: Pair) -> Outcome
     requires { ⌜ n * 8 ≤ length (now words) ⌝ }
-    ensures { λ o. ⌜ Decides o (MeetsAll (now (words .entry)) n v) ⌝ }
+    ensures { λ s. ⌜ Swept (now (words .entry)) n v s ⌝ }
 {
+    let b = Bounds { lo: v, hi: v };
+    let mut d = Pair {
+        taken: v.taken,
+        held: 0,
+        denied: 0,
+    };
     let mut k = 0;
     while k < n {
-        if !meets(masks_at(words, k), v) {
-            return false;
+        let r = masks_at(words, k);
+        if !meets(r, v) {
+            return Outcome {
+                ok: false,
+                reached: d,
+            };
         }
+        d = fire(r, b, d);
         k += 1;
     }
-    true
+    Outcome {
+        ok: true,
+        reached: d,
+    }
 }
 
 // The exception at place a is not taken, or none of those that it outranks is.
@@ -178,8 +198,12 @@ pub fn is_view(words: &[u64], n: usize, ranks: &[u64], v: Pair) -> bool
     if !level(ranks, taken) {
         return false;
     }
-    if !meets_all(words, n, v) {
+    let s = sweep(words, n, v);
+    if !s.ok {
         return false;
+    }
+    if sets::same(s.reached, v) {
+        return true;
     }
     sets::same(closure(words, n, Bounds { lo: v, hi: v }), v)
 }

@@ -22,6 +22,7 @@ use Rattle.bounds.specs.Sound.{Keeps}
 use Rattle.meaning.specs.Order.{value}
 use Rattle.meaning.specs.Twins.Tables.{differsFrom}
 use Rattle.queue.specs.declared.waiting.Waiting.{Waiting}
+use Rattle.probe.specs.declared.Answer.the-variants.{Found, Nothing}
 use Rattle.page.specs.declared.Task.{Task}
 use Rattle.page.specs.declared.Node.{Node}
 use Rattle.page.specs.declared.Branch.the-variants.{Cut, Open}
@@ -116,10 +117,10 @@ module _ (ws ranks : List ℕ) (q : Task) (left w : ℕ) (d : Node) (rd : Branch
       pub branch-clash : (z : Bool) → Decides z (Sub (b .lo) (b .hi)) → not z ≡ true → Branched ws ranks q left w d Cut
       branch-clash z dz ez = branch-barren (record { none = λ v k x. refused dz ez (sub-trans (x .lo) (x .hi)) })
 
-      pub branch-open : (e : Bool) (p : Pair) (live : Waiting) → e ≡ both (d .equal) (eqb w own) → p ≡ given (d .pair) (q .statements - left) w
-          → Branched ws ranks q left w d (Open (record { equal = e; pair = p; bounds = b; live = live }))
+      pub branch-open : (e : Bool) (p : Pair) (live : Waiting) (hint : Pair) → e ≡ both (d .equal) (eqb w own) → p ≡ given (d .pair) (q .statements - left) w
+          → Branched ws ranks q left w d (Open (record { equal = e; pair = p; bounds = b; live = live; hint = hint }))
       unfolding passes listFrom
-      branch-open e p live ee ep = record {
+      branch-open e p live hint ee ep = record {
         cut = λ y g tg. absurd (let x : _≡_ {A = ℕ} 0 1 = cc in omega arith);
         opened = λ c y. rw (← child c y) (record {
           pair = ep;
@@ -129,5 +130,9 @@ module _ (ws ranks : List ℕ) (q : Task) (left w : ℕ) (d : Node) (rd : Branch
         });
       }
         where
-          child : (c : Node) → Open (record { equal = e; pair = p; bounds = b; live = live }) ≡ Open c → record { equal = e; pair = p; bounds = b; live = live } ≡ c
+          child : (c : Node) → Open (record { equal = e; pair = p; bounds = b; live = live; hint = hint }) ≡ Open c → record { equal = e; pair = p; bounds = b; live = live; hint = hint } ≡ c
           child c y = cc
+
+-- What is found is not nothing.
+pub found-not : (v : Pair) {P : Type 0} → Found v ≡ Nothing → P
+found-not v e = absurd (let x : _≡_ {A = ℕ} 0 1 = cc in omega arith)

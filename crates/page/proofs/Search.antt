@@ -157,8 +157,8 @@ module _ (ws ranks : List ℕ) (q : Task) (taken : ℕ) (t : Bool) (at : ℕ) (o
   pub list-full : q .room ≤ at → Listed ws ranks q taken t at o o at
   list-full l = record { most = f .place; page = λ g tg. page-full (q .room) at o _ l }
 
-  pub root-ready : (b : Bounds) (live : Waiting) → Rooted ws (q .rules) ranks taken b → Ready ws ranks o q (q .statements) (record { equal = t; pair = bare taken; bounds = b; live = live }) at
-  root-ready b live rb =
+  pub root-ready : (b : Bounds) (live : Waiting) (hint : Pair) → Rooted ws (q .rules) ranks taken b → Ready ws ranks o q (q .statements) (record { equal = t; pair = bare taken; bounds = b; live = live; hint = hint }) at
+  root-ready b live hint rb =
       let n : ℕ = q .statements in
       let xs : List Pair = allFrom n n (bare taken) in
       record {
@@ -173,6 +173,6 @@ module _ (ws ranks : List ℕ) (q : Task) (taken : ℕ) (t : Bool) (at : ℕ) (o
         };
       }
 
-  pub list-settled : (b : Bounds) (live : Waiting) (o′ : List ℕ) (r : ℕ) → Settled ws ranks q (q .statements) (record { equal = t; pair = bare taken; bounds = b; live = live }) at o o′ r → Listed ws ranks q taken t at o o′ r
+  pub list-settled : (b : Bounds) (live : Waiting) (hint : Pair) (o′ : List ℕ) (r : ℕ) → Settled ws ranks q (q .statements) (record { equal = t; pair = bare taken; bounds = b; live = live; hint = hint }) at o o′ r → Listed ws ranks q taken t at o o′ r
   unfolding listFrom
-  list-settled b live o′ r w = record { most = w .most; page = w .page }
+  list-settled b live hint o′ r w = record { most = w .most; page = w .page }

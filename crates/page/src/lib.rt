@@ -9,6 +9,7 @@ ghost use lib.Seq.{sets};
 ghost use Rattle.logic.specs.Tests.{both};
 ghost use Rattle.bounds.specs.Sound.{Keeps};
 ghost use Rattle.queue.specs.Chains.{Chains};
+ghost use Rattle.probe.specs.declared.Answer.the-variants.{Nothing};
 ghost use Rattle.meaning.specs.Order.{value as valueOf};
 ghost use Rattle.page.specs.Orders.{about as aboutOf, said as saidOf, given as givenOf};
 ghost use Rattle.sets.specs.Pairs.{flat};
@@ -46,12 +47,13 @@ pub struct Task {
 }
 
 // Where the search stands: the pair as far as settled, whether that is the same as in the point, bounds for the views that come from it,
-// and the rules that are live within them.
+// the rules that are live within them, and perhaps a view that was found within them.
 pub struct Node {
     pub equal: bool,
     pub pair: Pair,
     pub bounds: Bounds,
     pub live: Waiting,
+    pub hint: Pair,
 }
 
 // How far the page is filled, and how many branches were opened since the last find.
@@ -173,9 +175,9 @@ pub fn still(equal: bool, value: u64, own: u64) -> bool
     false
 }
 
-// No view is within the bounds, as a search for one shows: asked only after many branches without a find,
-// and not where the point's own branch goes on.
-pub fn barren(
+// Whether any view is within the bounds: asked only after many branches without a find, not where the point's own branch goes on, and not
+// where the hint is within them. If the answer is that there is none, that is so; what is found may be no more than the hint.
+pub fn glimpse(
     words: &[u64],
     n: usize,
     ranks: &[u64],
@@ -184,21 +186,21 @@ pub fn barren(
     equal: bool,
     live: Waiting,
     b: Bounds,
-) -> bool
+    hint: Pair,
+) -> Answer
     requires { ⌜ (n * 8 ≤ length (now words)) × (length (now ranks) ≤ 64) × Chains (now words) n (now index) ⌝ }
-    ensures { λ r. ⌜ (r ≡ true → Barren (now (words .entry)) n (now (ranks .entry)) b) ⌝ }
+    ensures { λ r. ⌜ (r ≡ Nothing → Barren (now (words .entry)) n (now (ranks .entry)) b) ⌝ }
 {
     if dry < MANY {
-        return false;
+        return Answer::Found(hint);
     }
     if equal {
-        return false;
+        return Answer::Found(hint);
     }
-    let a = probe::probe(words, n, ranks, index, waiting::none(live), b);
-    match a {
-        Answer::Found(_) => false,
-        Answer::Nothing => true,
+    if sets::within(b.lo, hint) && sets::within(hint, b.hi) {
+        return Answer::Found(hint);
     }
+    probe::probe(words, n, ranks, index, waiting::none(live), b)
 }
 
 // The branch of a value at a statement that `left` others follow: cut if it comes before the point, forced conclusions clash,
@@ -237,15 +239,27 @@ pub fn branch_of(
         return Branch::Cut;
     }
     let equal = still(node.equal, value, own);
-    if barren(words, task.rules, ranks, index, dry, equal, live, bounds) {
-        return Branch::Cut;
-    }
-    Branch::Open(Node {
+    let a = glimpse(
+        words,
+        task.rules,
+        ranks,
+        index,
+        dry,
         equal,
-        pair: given(node.pair, i, value),
-        bounds,
         live,
-    })
+        bounds,
+        node.hint,
+    );
+    match a {
+        Answer::Nothing => Branch::Cut,
+        Answer::Found(hint) => Branch::Open(Node {
+            equal,
+            pair: given(node.pair, i, value),
+            bounds,
+            live,
+            hint,
+        }),
+    }
 }
 
 // Writes the pair at place `at`.
@@ -397,6 +411,11 @@ pub fn list_views(
         },
         bounds,
         live,
+        hint: Pair {
+            taken: EVERY,
+            held: EVERY,
+            denied: EVERY,
+        },
     };
     let place = Place { at, dry: 0 };
     settle(words, ranks, index, task, task.statements, node, out, place).at

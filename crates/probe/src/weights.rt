@@ -34,17 +34,45 @@ pub fn add_pair(t: &mut Weights, x: Pair, w: u64) {
     add(t, 128, x.taken, w);
 }
 
+// The word without its lowest member.
+pub fn fewer(x: u64) -> u64 {
+    waiting::cleared(x, waiting::low(x))
+}
+
+// How many members a word has, from 4 on counted as 4.
+pub fn few(x: u64) -> u64
+    ensures { λ k. ⌜ k ≤ 4 ⌝ }
+{
+    if x == 0 {
+        return 0;
+    }
+    let y = fewer(x);
+    if y == 0 {
+        return 1;
+    }
+    let z = fewer(y);
+    if z == 0 {
+        return 2;
+    }
+    if fewer(z) == 0 {
+        return 3;
+    }
+    4
+}
+
 // About how many conditions a body has open: a statement of which both sides are asked for counts once.
-pub fn conditions(x: Pair, y: Pair) -> u32 {
-    let k = sets::size(x.held | x.denied | y.held | y.denied);
+pub fn conditions(x: Pair, y: Pair) -> u64
+    ensures { λ k. ⌜ k ≤ 5 ⌝ }
+{
+    let k = few(x.held | x.denied | y.held | y.denied);
     if x.taken == 0 {
         return k;
     }
-    std::num::wrapping_add_u32(k, 1)
+    k + 1
 }
 
 // 4 to the minus k, as a part of 256.
-pub fn weight(k: u32) -> u64
+pub fn weight(k: u64) -> u64
     ensures { λ w. ⌜ w ≤ 64 ⌝ }
 {
     if k == 1 {

@@ -16,7 +16,7 @@ use Rattle.masks.proofs.Facts.{unsupported, only-support}
 use Rattle.bounds.specs.Singles.{oneOf}
 use Rattle.bounds.specs.Sound.{In, Keeps, outOf, Firing, Idle, Ruled}
 use Rattle.bounds.proofs.Singles.{one-atom, one-some}
-use Rattle.bounds.proofs.Steps.{in-out, can}
+use Rattle.bounds.proofs.Steps.{keeps-same, in-out, can}
 use Rattle.queue.specs.declared.heads.Givers.{Givers}
 use Rattle.queue.specs.Chains.{Given}
 
@@ -56,3 +56,10 @@ module _ (ws : List ℕ) (n s i : ℕ) (hs : s < 2) (b : Bounds) (g : Givers) (d
 -- A rule that cannot fire within the bounds is not satisfied by any view within them.
 pub failing : (r : Masks) (b o : Bounds) (w : Bool) → Decides w (Fires r (b .lo) (b .hi)) → w ≡ false → Keeps (Idle r) b o → Keeps (Meets r) b o
 failing r b o w d e g = record { kept = λ v k x. g .kept v (record { meets = k; fails = λ f. d .no e (can x f) }) x }
+
+-- Only what is asked for has changed; or the bounds too, as a conclusion's support has it.
+pub asking-same : (ws : List ℕ) (n : ℕ) (b c : Bounds) → c ≡ b → Keeps (Ruled ws n) b c
+asking-same ws n b c e = rw e (keeps-same b)
+
+pub asking-kept : (ws : List ℕ) (n : ℕ) (b o c : Bounds) → Keeps (Ruled ws n) b o → c ≡ o → Keeps (Ruled ws n) b c
+asking-kept ws n b o c f e = rw e f

@@ -159,19 +159,7 @@ pub fn support(words: &[u64], n: usize, index: &Index, s: u64, i: u64, b: Bounds
     b
 }
 
-// The same of a conclusion of x, if x has any.
-pub fn supported(words: &[u64], n: usize, index: &Index, x: Pair, b: Bounds) -> Bounds
-    requires { ⌜ (n * 8 ≤ length (now words)) × Chains (now words) n (now index) ⌝ }
-    ensures { λ o. ⌜ Keeps (Ruled (now (words .entry)) n) b o ⌝ }
-{
-    let i = place(x);
-    if 64 <= i {
-        return b;
-    }
-    support(words, n, index, side(x), i, b)
-}
-
-// The conclusions x without that one.
+// The conclusions x without the one at that place.
 pub fn others(x: Pair) -> Pair {
     if x.held != 0 {
         return Pair {

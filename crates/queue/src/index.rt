@@ -2,8 +2,8 @@
 ghost use Prim.Native.Nat.{_+_, _*_, _<_, _≤_};
 ghost use lib.ListN.{length};
 ghost use Rattle.queue.specs.Chains.{Chains};
-use crate::waiting;
 use crate::heads;
+use crate::waiting;
 use crate::waiting::Waiting;
 use crate::waiting::Work;
 use masks::Bounds;

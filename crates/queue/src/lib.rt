@@ -1,11 +1,14 @@
 // Propagation: sound steps from a queue until nothing changes. Only the rules wait that mention what has changed.
-ghost use Prim.Native.Nat.{_*_, _<_, _≤_};
+ghost use mathlib.Core.Path.{_≡_};
+ghost use Prim.Native.Nat.{_*_, _≤_};
 ghost use lib.ListN.{length};
-ghost use Rattle.masks.specs.Views.{MaskView};
+ghost use Rattle.logic.specs.Tests.{Decides};
+ghost use Rattle.masks.specs.Views.{Fires, Meets, MaskView};
 ghost use Rattle.bounds.specs.Sound.{Keeps, Coherent, Ruled, Propagated};
 ghost use Rattle.queue.specs.Chains.{Chains};
 use index::Index;
 use masks::Bounds;
+use masks::Masks;
 use sets::Pair;
 use waiting::Waiting;
 use waiting::Work;
@@ -26,59 +29,126 @@ pub struct Rest {
     pub live: Waiting,
 }
 
-// The step of rule j. A rule whose body surely fails is live no longer, and its head asks for support.
-pub fn stepped(words: &[u64], n: usize, j: usize, q: State) -> State
-    requires { ⌜ (n * 8 ≤ length (now words)) × (j < n) ⌝ }
-    ensures { λ p. ⌜ Keeps (Ruled (now (words .entry)) n) (q .bounds) (p .bounds) ⌝ }
-{
-    let r = masks::masks_at(words, j);
-    let b = q.bounds;
-    let rules = waiting::without(q.work.rules, j as u64);
-    let live = q.work.live;
-    let asked = q.work.asked;
-    if masks::fires(r, b.lo, b.hi) {
-        return State {
-            bounds: bounds::step(r, b),
-            work: Work { rules, asked, live },
-        };
+// The word has two members at least.
+pub fn several(x: u64) -> bool {
+    x ^ (x & (1 << (waiting::low(x) % 64))) != 0
+}
+
+// The rule says nothing new within the bounds. No contract depends on this: a wrong answer costs time, not truth.
+pub fn quiet(r: Masks, b: Bounds, alive: bool) -> bool {
+    if !alive {
+        return r.need.taken & b.hi.taken == 0;
     }
-    State {
-        bounds: bounds::untaken(r, b),
-        work: Work {
-            rules,
-            asked: sets::join(asked, r.head),
-            live: waiting::without(live, j as u64),
-        },
+    let x = sets::minus(r.need, b.lo);
+    let y = sets::meet(r.bar, b.hi);
+    let open = x.held | x.denied | x.taken | y.held | y.denied;
+    if open == 0 {
+        return !masks::constraint(r) && sets::within(r.head, b.lo);
+    }
+    if r.need.taken & b.lo.taken != 0 {
+        return false;
+    }
+    !sets::apart(r.head, b.hi) || several(open)
+}
+
+// What a rule says: `alive` tells whether its body may hold.
+pub fn said(r: Masks, b: Bounds, alive: bool) -> Bounds
+    requires { ⌜ Decides alive (Fires r (b .lo) (b .hi)) ⌝ }
+    ensures { λ o. ⌜ Keeps (Meets r) b o ⌝ }
+{
+    if alive {
+        return bounds::step(r, b);
+    }
+    bounds::untaken(r, b)
+}
+
+// The work without rule j. If its body surely fails it is live no longer, and its head asks for support.
+pub fn without_rule(w: Work, j: u64, head: Pair, alive: bool) -> Work {
+    let rules = waiting::without(w.rules, j);
+    let asked = w.asked;
+    let live = w.live;
+    if alive {
+        return Work { rules, asked, live };
+    }
+    Work {
+        rules,
+        asked: sets::join(asked, head),
+        live: waiting::without(live, j),
     }
 }
 
-// The support of one of the conclusions asked for that are still possible.
+// The rules that wait, one after the other, until one has something new to say.
+pub fn stepped(words: &[u64], n: usize, q: State) -> State
+    requires { ⌜ n * 8 ≤ length (now words) ⌝ }
+    ensures { λ p. ⌜ Keeps (Ruled (now (words .entry)) n) (q .bounds) (p .bounds) ⌝ }
+{
+    let bounds = q.bounds;
+    let mut work = q.work;
+    let mut k: u64 = 0;
+    while k < 256 {
+        let j = waiting::next(work.rules);
+        if n <= j as usize {
+            return State { bounds, work };
+        }
+        let r = masks::masks_at(words, j as usize);
+        let alive = masks::fires(r, bounds.lo, bounds.hi);
+        work = without_rule(work, j, r.head, alive);
+        if !quiet(r, bounds, alive) {
+            return State {
+                bounds: said(r, bounds, alive),
+                work,
+            };
+        }
+        k += 1;
+    }
+    State { bounds, work }
+}
+
+// The state with other bounds, where these conclusions ask for support.
+pub fn asking(q: State, bounds: Bounds, asked: Pair) -> State
+    ensures { λ p. ⌜ p .bounds ≡ bounds ⌝ }
+{
+    let rules = q.work.rules;
+    let live = q.work.live;
+    State {
+        bounds,
+        work: Work { rules, asked, live },
+    }
+}
+
+// The support of the conclusions asked for that are still possible, one after the other, until one changes the bounds.
 pub fn answered(words: &[u64], n: usize, index: &Index, q: State) -> State
     requires { ⌜ (n * 8 ≤ length (now words)) × Chains (now words) n (now index) ⌝ }
     ensures { λ p. ⌜ Keeps (Ruled (now (words .entry)) n) (q .bounds) (p .bounds) ⌝ }
 {
-    let x = sets::meet(q.work.asked, q.bounds.hi);
-    let rules = q.work.rules;
-    let live = q.work.live;
-    State {
-        bounds: heads::supported(words, n, index, x, q.bounds),
-        work: Work {
-            rules,
-            asked: heads::others(x),
-            live,
-        },
+    let b = q.bounds;
+    let mut asked = sets::meet(q.work.asked, b.hi);
+    let mut k: u64 = 0;
+    while k < 128 {
+        let i = heads::place(asked);
+        if 64 <= i {
+            return asking(q, b, asked);
+        }
+        let o = heads::support(words, n, index, heads::side(asked), i, b);
+        asked = heads::others(asked);
+        if !bounds::unchanged(b, o) {
+            return asking(q, o, asked);
+        }
+        k += 1;
     }
+    asking(q, b, asked)
 }
 
-// One turn: the step of rule j, or a conclusion's support if no rule waits.
-pub fn turn(words: &[u64], n: usize, index: &Index, j: usize, q: State) -> State
+// One turn: what the rules say that wait, and if that is nothing new the support of what is asked for.
+pub fn turn(words: &[u64], n: usize, index: &Index, q: State) -> State
     requires { ⌜ (n * 8 ≤ length (now words)) × Chains (now words) n (now index) ⌝ }
     ensures { λ p. ⌜ Keeps (Ruled (now (words .entry)) n) (q .bounds) (p .bounds) ⌝ }
 {
-    if n <= j {
-        return answered(words, n, index, q);
+    let p = stepped(words, n, q);
+    if !bounds::unchanged(q.bounds, p.bounds) {
+        return p;
     }
-    stepped(words, n, j, q)
+    answered(words, n, index, p)
 }
 
 // The state p after a turn from the bounds b. If they changed: what is held is not denied, live rules that mention what differs wait, and
@@ -102,8 +172,8 @@ pub fn moved(index: &Index, b: Bounds, p: State) -> State
 }
 
 // Nothing is to be done: no rule waits, and no conclusion that is possible asks for support.
-pub fn idle(n: usize, j: usize, q: State) -> bool {
-    if j < n {
+pub fn idle(n: usize, q: State) -> bool {
+    if (waiting::next(q.work.rules) as usize) < n {
         return false;
     }
     let x = sets::meet(q.work.asked, q.bounds.hi);
@@ -118,11 +188,10 @@ pub fn run(words: &[u64], n: usize, index: &Index, from: State) -> State
     let mut q = from;
     let mut k: u64 = 0;
     while k < 100000 {
-        let j = waiting::next(q.work.rules) as usize;
-        if idle(n, j, q) {
+        if idle(n, q) {
             return q;
         }
-        q = moved(index, q.bounds, turn(words, n, index, j, q));
+        q = moved(index, q.bounds, turn(words, n, index, q));
         if !sets::within(q.bounds.lo, q.bounds.hi) {
             return q;
         }
@@ -148,14 +217,7 @@ pub fn whole(words: &[u64], n: usize, ranks: &[u64], index: &Index, b: Bounds) -
 
 // Narrows the bounds by what is to be done, then by what all rules say together, in turn until nothing changes.
 // No view within the bounds is lost; how far they are narrowed, the contract does not say.
-pub fn propagate(
-    words: &[u64],
-    n: usize,
-    ranks: &[u64],
-    index: &Index,
-    w: Work,
-    b: Bounds,
-) -> Rest
+pub fn propagate(words: &[u64], n: usize, ranks: &[u64], index: &Index, w: Work, b: Bounds) -> Rest
     requires { ⌜ (n * 8 ≤ length (now words)) × (length (now ranks) ≤ 64) × Chains (now words) n (now index) ⌝ }
     ensures { λ r. ⌜ Propagated (now (words .entry)) n (now (ranks .entry)) b (r .bounds) ⌝ }
 {

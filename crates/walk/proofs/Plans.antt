@@ -154,6 +154,13 @@ module _ (ws : List ℕ) (n : ℕ) (ranks : List ℕ) (root : Bounds) (v : Pair)
   pub surpassed-told : (t : ℕ) → v .taken ≡ t → Full ws n ranks root m → Told ws n ranks root m′ t
   surpassed-told t e f = record { above = λ x k i y u h w d. p .marked .all u (omega arith) h (omega (arith, f .long)) (between (rw e w) (all-within u h) (λ z. d (z ∙ e))) }
 
+-- What a search within propagated bounds tells is true of the bounds before.
+pub probed-before : (ws : List ℕ) (n : ℕ) (ranks : List ℕ) (b o : Bounds) (a : Answer) → Propagated ws n ranks b o → Probed ws n ranks o a → Probed ws n ranks b a
+probed-before ws n ranks b o a p q = record {
+  found = λ v e. let f = q .found v e in (f .0, record { lo = sub-trans (p .lo) (f .1 .lo); hi = sub-trans (f .1 .hi) (p .hi) });
+  none = λ e v m i. q .none e v m (p .keeps .kept v m i);
+}
+
 -- ---- what admits answers
 module _ (ws : List ℕ) (n : ℕ) (ranks : List ℕ) (root : Bounds) (t : ℕ) (known : Bool) (m : List ℕ) where
   pub admits-marked : IsMarked m t → Admits ws n ranks root t known m m false

@@ -7,6 +7,7 @@ ghost use Rattle.logic.specs.Tests.{Decides};
 ghost use Rattle.book.specs.Kinds.{sets};
 ghost use Rattle.walk.specs.Marks.{Struck, Marked, Stands, Next, Outranked, WithRank, Surpassed};
 ghost use Rattle.order.specs.Order.{order, setAt};
+ghost use Rattle.bounds.specs.Sound.{Propagated};
 ghost use Rattle.queue.specs.Chains.{Chains};
 ghost use Rattle.page.specs.Pages.{Fits};
 ghost use Rattle.walk.specs.Walks.{SetListed, Walked, FirstPage, PageAfter};
@@ -16,8 +17,10 @@ use masks::Bounds;
 use order::Table;
 use page::Task;
 use probe::Answer;
+use queue::Rest;
 use queue::index;
 use queue::index::Index;
+use queue::waiting;
 use sets::Pair;
 
 // A byte for each set of exceptions, not 0 where the set is known to be that of no resolution.
@@ -156,6 +159,23 @@ pub fn with_sets(root: Bounds, lo: u64, hi: u64) -> Bounds
     }
 }
 
+// Bounds for the views with a set of exceptions from lo to hi, at rest.
+pub fn narrowed(
+    words: &[u64],
+    n: usize,
+    ranks: &[u64],
+    index: &Index,
+    root: Bounds,
+    lo: u64,
+    hi: u64,
+) -> Rest
+    requires { ⌜ (n * 8 ≤ length (now words)) × (length (now ranks) ≤ 64) × Chains (now words) n (now index) ⌝ }
+    ensures { λ r. ⌜ Propagated (now (words .entry)) n (now (ranks .entry)) (withSets root lo hi) (r .bounds) ⌝ }
+{
+    let b = with_sets(root, lo, hi);
+    queue::propagate(words, n, ranks, index, index::changed(index, root, b), b)
+}
+
 // Whether propagation alone shows that no view has a set of exceptions from lo to hi.
 pub fn refuted(
     words: &[u64],
@@ -169,10 +189,9 @@ pub fn refuted(
     requires { ⌜ (n * 8 ≤ length (now words)) × (length (now ranks) ≤ 64) × Chains (now words) n (now index) ⌝ }
     ensures { λ r. ⌜ (r ≡ true → NoView (now (words .entry)) n (now (ranks .entry)) root lo hi) ⌝ }
 {
-    let b = with_sets(root, lo, hi);
-    let rest = queue::propagate(words, n, ranks, index, index::changed(index, root, b), b);
-    let o = rest.bounds;
-    !sets::within(o.lo, o.hi)
+    let rest = narrowed(words, n, ranks, index, root, lo, hi);
+    let b = rest.bounds;
+    !sets::within(b.lo, b.hi)
 }
 
 // Sets of exceptions from lo to hi.
@@ -257,7 +276,8 @@ pub fn mark_around(
     std::num::wrapping_add_u64(credit - WIDENING, earned)
 }
 
-// Whether a resolution can have the set t, of which a view may be found. A view that is found marks the sets that it surpasses. Where `known`
+// Whether a resolution can have the set t, of which a view may be found within the bounds at rest. A view that is found marks the sets that it
+// surpasses. Where `known`
 // is true, every set before t in the order has been walked with these marks: if a view had a proper subset of t, then t would be marked.
 pub fn tested(
     words: &[u64],
@@ -266,15 +286,15 @@ pub fn tested(
     index: &Index,
     root: Bounds,
     t: u64,
+    rest: Rest,
     known: bool,
     marks: &mut Marks,
 ) -> bool
-    requires { ⌜ (n * 8 ≤ length (now words)) × (length (now ranks) ≤ 64) × (t < sets) × Chains (now words) n (now index) ⌝ }
+    requires { ⌜ (n * 8 ≤ length (now words)) × (length (now ranks) ≤ 64) × (t < sets) × Chains (now words) n (now index) × Propagated (now words) n (now ranks) (withSets root t t) (rest .bounds) ⌝ }
     ensures { λ r. ⌜ Admits (now (words .entry)) n (now (ranks .entry)) root t known (now (marks .entry)) (now (marks .exit)) r ⌝ }
 {
-    let b = with_sets(root, t, t);
-    let w = index::changed(index, root, b);
-    let a = probe::probe(words, n, ranks, index, w, b);
+    let w = waiting::none(rest.live);
+    let a = probe::probe(words, n, ranks, index, w, rest.bounds);
     match a {
         Answer::Nothing => false,
         Answer::Found(v) => {
@@ -317,14 +337,16 @@ pub fn admits(
     if root.lo.taken ^ (root.lo.taken & t) != 0 {
         return Admission { ok: false, credit };
     }
-    if refuted(words, n, ranks, index, root, t, t) {
+    let rest = narrowed(words, n, ranks, index, root, t, t);
+    let b = rest.bounds;
+    if !sets::within(b.lo, b.hi) {
         let left = mark_around(words, n, ranks, index, root, t, credit, marks);
         return Admission {
             ok: false,
             credit: left,
         };
     }
-    let ok = tested(words, n, ranks, index, root, t, known, marks);
+    let ok = tested(words, n, ranks, index, root, t, rest, known, marks);
     Admission { ok, credit }
 }
 

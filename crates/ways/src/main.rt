@@ -2,6 +2,7 @@
 ghost use Prim.Native.Nat.{_-_, _≤_};
 ghost use mathlib.Core.Path.{_≡_};
 ghost use mathlib.Core.Bool.{true};
+ghost use Rattle.answers.specs.Ways.{mostLines};
 ghost use Rattle.listing.specs.Parts.{partLines, Ready, Reaches};
 use book::Book;
 use book::Shape;
@@ -27,7 +28,7 @@ fn go_on(words: &Words, ranks: &Ranks, s: Shape, p: Pair, m: usize) -> Part
 
 // Prints what is left after a part: part after part.
 fn rest(words: &Words, ranks: &Ranks, s: Shape, from: Part)
-    requires { ⌜ Reaches s (now words) (now ranks) 9999 from ⌝ }
+    requires { ⌜ Reaches s (now words) (now ranks) mostLines from ⌝ }
 {
     let mut part = from;
     let mut left = listing::MOST;

@@ -1,3 +1,4 @@
+use Rattle.listing.specs.Parts.{partLines}
 use Rattle.listing.proofs.Promised.{closes}
 use Rattle.listing.proofs.Listed.{at-most}
 use native.Mathlib.Omega.{arith}
@@ -11,15 +12,15 @@ use Rattle.listing.proofs.put_lines.Reads as put-lines-reads
 
 -- src/lib.rt:83:9
 put-lines-requires : tie.Need-put-lines-requires
-put-lines-requires c κs = let m = at-most (c .before .before .before .args .k) 512 (c .before .before .before .args .n) (search needs) (search needs) in (search needs, omega arith, search needs, omega arith)
+put-lines-requires c κs = let m = at-most (c .before .before .before .args .k) partLines (c .before .before .before .args .n) (search needs) (search needs) in (search needs, search needs, omega arith)
 
 -- src/lib.rt:84:5
 put-closing-requires : tie.Need-put-closing-requires
-put-closing-requires c κs = let m = at-most (c .before .before .before .before .before .before .before .args .k) 512 (c .before .before .before .before .before .before .before .args .n) (search needs) (search needs) in let h = c .before .before .before .put-lines .ensures .1 in let n = c .before .before .before .put-lines .kept .0 in omega arith
+put-closing-requires c κs = let m = at-most (c .before .before .before .before .before .before .before .args .k) partLines (c .before .before .before .before .before .before .before .args .n) (search needs) (search needs) in let h = c .before .before .before .put-lines .ensures .1 in let n = c .before .before .before .put-lines .kept .0 in omega arith
 
 -- src/lib.rt:86:16
 add-t12 : tie.Need-add-t12
-add-t12 c = let m = at-most (c .before .before .before .before .before .before .before .before .before .before .args .k) 512 (c .before .before .before .before .before .before .before .before .before .before .args .n) (search needs) (search needs) in let h = c .before .before .before .before .before .before .put-lines .ensures .1 in omega arith
+add-t12 c = let m = at-most (c .before .before .before .before .before .before .before .before .before .before .args .k) partLines (c .before .before .before .before .before .before .before .before .before .before .args .n) (search needs) (search needs) in let h = c .before .before .before .before .before .before .put-lines .ensures .1 in omega arith
 
 -- src/lib.rt:79:1
 same-length : tie.Need-same-length

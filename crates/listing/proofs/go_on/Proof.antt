@@ -1,6 +1,7 @@
+use Rattle.listing.specs.Parts.{partLines}
 use Rattle.listing.proofs.Promised.{few-taken, part-few, lists}
 use lib.ListN.{length-replicate}
-use Prim.Native.Nat.{ℕ}
+use Prim.Native.Nat.{ℕ, _*_}
 use borrow.Author.Needs.{needs}
 use Rattle.listing.proofs.go_on.Statement.{statement}
 use Rattle.listing.proofs.go_on.Tie as tie
@@ -23,11 +24,11 @@ slice-aggregate-put-part c = search needs
 
 -- src/lib.rt:133:5
 put-part-requires : tie.Need-put-part-requires
-put-part-requires c κs = (c .before .before .before .before .before .pre .loaded .statements, part-few _ _ _ _ 0 _ _ _ (length-replicate {A = ℕ} 1536 0) (c .before .before .before .after-in .ensures) (c .before .before .before .before .before .pre .rows) (c .before .before .before .before .before .pre .loaded) (c .before .before .before .before .before .pre .lawful), search needs, search needs)
+put-part-requires c κs = (c .before .before .before .before .before .pre .loaded .statements, part-few _ _ _ _ 0 _ _ _ (length-replicate {A = ℕ} (partLines * 3) 0) (c .before .before .before .after-in .ensures) (c .before .before .before .before .before .pre .rows) (c .before .before .before .before .before .pre .loaded) (c .before .before .before .before .before .pre .lawful), search needs, search needs)
 
 -- src/lib.rt:127:1
 returns : tie.Need-returns
-returns c = lists _ _ _ _ _ _ _ _ (length-replicate {A = ℕ} 1536 0) (c .before .before .before .before .after-in .ensures) _ _ (c .put-part .ensures) (part-few _ _ _ _ 0 _ _ _ (length-replicate {A = ℕ} 1536 0) (c .before .before .before .before .after-in .ensures) (c .before .before .before .before .before .before .pre .rows) (c .before .before .before .before .before .before .pre .loaded) (c .before .before .before .before .before .before .pre .lawful))
+returns c = lists _ _ _ _ _ _ _ _ (length-replicate {A = ℕ} (partLines * 3) 0) (c .before .before .before .before .after-in .ensures) _ _ (c .put-part .ensures) (part-few _ _ _ _ 0 _ _ _ (length-replicate {A = ℕ} (partLines * 3) 0) (c .before .before .before .before .after-in .ensures) (c .before .before .before .before .before .before .pre .rows) (c .before .before .before .before .before .before .pre .loaded) (c .before .before .before .before .before .before .pre .lawful))
 
 pub go-on-spec : {M : Type 1} → statement M
 go-on-spec =

@@ -1,7 +1,9 @@
+use Rattle.answers.specs.Ways.{mostLines}
+use Rattle.listing.specs.Parts.{partLines}
 use Rattle.listing.proofs.Promised.{part-few, lists}
 use mathlib.Core.Path.{refl}
 use lib.ListN.{length-replicate}
-use Prim.Native.Nat.{ℕ}
+use Prim.Native.Nat.{ℕ, _*_}
 use native.Mathlib.Omega.{arith}
 use borrow.Author.Needs.{needs}
 use Rattle.listing.proofs.opening.Statement.{statement}
@@ -25,11 +27,11 @@ slice-aggregate-put-part c = search needs
 
 -- src/lib.rt:123:5
 put-part-requires : tie.Need-put-part-requires
-put-part-requires c κs = (c .before .before .before .before .before .pre .loaded .statements, part-few _ _ _ _ 9999 _ _ _ (length-replicate {A = ℕ} 1536 0) (c .before .before .before .first-in .ensures) (c .before .before .before .before .before .pre .rows) (c .before .before .before .before .before .pre .loaded) tt, search needs, search needs)
+put-part-requires c κs = (c .before .before .before .before .before .pre .loaded .statements, part-few _ _ _ _ mostLines _ _ _ (length-replicate {A = ℕ} (partLines * 3) 0) (c .before .before .before .first-in .ensures) (c .before .before .before .before .before .pre .rows) (c .before .before .before .before .before .pre .loaded) tt, search needs, search needs)
 
 -- src/lib.rt:117:1
 returns : tie.Need-returns
-returns c = lists _ _ _ _ _ _ _ _ (length-replicate {A = ℕ} 1536 0) (c .before .before .before .before .first-in .ensures) _ _ (c .put-part .ensures) (part-few _ _ _ _ 9999 _ _ _ (length-replicate {A = ℕ} 1536 0) (c .before .before .before .before .first-in .ensures) (c .before .before .before .before .before .before .pre .rows) (c .before .before .before .before .before .before .pre .loaded) tt)
+returns c = lists _ _ _ _ _ _ _ _ (length-replicate {A = ℕ} (partLines * 3) 0) (c .before .before .before .before .first-in .ensures) _ _ (c .put-part .ensures) (part-few _ _ _ _ mostLines _ _ _ (length-replicate {A = ℕ} (partLines * 3) 0) (c .before .before .before .before .first-in .ensures) (c .before .before .before .before .before .before .pre .rows) (c .before .before .before .before .before .before .pre .loaded) tt)
 
 pub opening-spec : {M : Type 1} → statement M
 opening-spec =

@@ -34,11 +34,11 @@ pair-at-requires c κs = let f = c .before .loop .inv .few in omega arith
 
 -- src/lib.rt:60:9
 put-line-requires : tie.Need-put-line-requires Inv-loop μ-loop
-put-line-requires c κs = (omega arith, put-room _ _ _ _ _ _ _ _ (c .before .before .before .loop .inv) (search needs) (c .before .before .before .before .before .before .pre .3))
+put-line-requires c κs = (omega arith, put-room _ _ _ _ _ _ _ _ (c .before .before .before .loop .inv) (search needs) (c .before .before .before .before .before .before .pre .2))
 
 -- src/lib.rt:61:14
 add-at : tie.Need-add-at Inv-loop μ-loop
-add-at c = let f = put-room _ _ _ _ _ _ _ _ (c .before .before .before .before .before .before .loop .inv) (search needs) (c .before .before .before .before .before .before .before .before .before .pre .3) in let g = c .before .before .before .before .before .before .loop .inv .wide in let h = c .before .before .before .before .before .before .loop .inv .same-size in omega arith
+add-at c = let f = put-room _ _ _ _ _ _ _ _ (c .before .before .before .before .before .before .loop .inv) (search needs) (c .before .before .before .before .before .before .before .before .before .pre .2) in let g = c .before .before .before .before .before .before .loop .inv .wide in let h = c .before .before .before .before .before .before .loop .inv .same-size in omega arith
 
 -- src/lib.rt:62:9
 add-i : tie.Need-add-i Inv-loop μ-loop

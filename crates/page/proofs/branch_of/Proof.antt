@@ -28,17 +28,23 @@ returns-2 c = branch-clash _ _ _ _ _ _ (c .before .before .before .before .befor
 still-requires : tie.Need-still-requires
 still-requires c κs = search needs
 
-barren-requires : tie.Need-barren-requires
-barren-requires c κs = (c .before .before .before .before .before .before .before .before .before .before .before .before .pre .0 .suits .rules, c .before .before .before .before .before .before .before .before .before .before .before .before .pre .0 .suits .ranked, c .before .before .before .before .before .before .before .before .before .before .before .before .pre .1)
+glimpse-requires : tie.Need-glimpse-requires
+glimpse-requires c κs = (c .before .before .before .before .before .before .before .before .before .before .before .before .pre .0 .suits .rules, c .before .before .before .before .before .before .before .before .before .before .before .before .pre .0 .suits .ranked, c .before .before .before .before .before .before .before .before .before .before .before .before .pre .1)
 
-returns-3 : tie.Need-returns-3
-returns-3 c = branch-barren _ _ _ _ _ _ (c .before .before .before .before .before .before .before .before .before .before .before .before .before .before .pre .0) _ (c .before .before .before .before .before .before .before .before .before .before .value-at .ensures) _ (c .before .before .before .before .before .before .before .before .before .earlier .ensures) (search needs) _ (c .before .before .before .before .before .before .before .narrow .ensures) (c .before .barren .ensures (search needs))
+enum-told : tie.Need-enum-told
+enum-told c = search needs
+
+enum-known-a : tie.Need-enum-known-a
+enum-known-a c = search needs
 
 given-requires : tie.Need-given-requires
-given-requires c κs = (omega (arith, c .before .before .before .before .before .before .before .before .before .before .before .before .before .before .pre .0 .unsettled), omega (arith, c .before .before .before .before .before .before .before .before .before .before .before .before .before .before .pre .0 .suits .few))
+given-requires c κs = (omega (arith, c .before .before .before .before .before .before .before .before .before .before .before .before .before .before .before .before .pre .0 .unsettled), omega (arith, c .before .before .before .before .before .before .before .before .before .before .before .before .before .before .before .before .pre .0 .suits .few))
+
+returns-3 : tie.Need-returns-3
+returns-3 c = branch-barren _ _ _ _ _ _ (c .before .before .before .before .before .before .before .before .before .before .before .before .before .before .before .pre .0) _ (c .before .before .before .before .before .before .before .before .before .before .before .value-at .ensures) _ (c .before .before .before .before .before .before .before .before .before .before .earlier .ensures) (search needs) _ (c .before .before .before .before .before .before .before .before .narrow .ensures) (c .before .before .glimpse .ensures (search needs))
 
 returns-4 : tie.Need-returns-4
-returns-4 c = branch-open _ _ _ _ _ _ (c .before .before .before .before .before .before .before .before .before .before .before .before .before .before .before .pre .0) _ (c .before .before .before .before .before .before .before .before .before .before .before .value-at .ensures) _ (c .before .before .before .before .before .before .before .before .before .before .earlier .ensures) (search needs) _ (c .before .before .before .before .before .before .before .before .narrow .ensures) _ _ _ (c .before .before .before .still .ensures) (c .given .ensures)
+returns-4 c = branch-open _ _ _ _ _ _ (c .before .before .before .before .before .before .before .before .before .before .before .before .before .before .before .before .before .pre .0) _ (c .before .before .before .before .before .before .before .before .before .before .before .before .before .value-at .ensures) _ (c .before .before .before .before .before .before .before .before .before .before .before .before .earlier .ensures) (search needs) _ (c .before .before .before .before .before .before .before .before .before .before .narrow .ensures) _ _ _ _ (c .before .before .before .before .before .still .ensures) (c .given .ensures)
 
 pub branch-of-spec : {M : Type 1} → statement M
 branch-of-spec =
@@ -52,7 +58,9 @@ branch-of-spec =
     within-requires
     returns-2
     still-requires
-    barren-requires
-    returns-3
+    glimpse-requires
+    enum-told
+    enum-known-a
     given-requires
+    returns-3
     returns-4)

@@ -10,13 +10,13 @@ root-requires : tie.Need-root-requires
 root-requires c κs = search needs
 
 settle-requires : tie.Need-settle-requires
-settle-requires c κs = (root-ready _ _ _ _ _ _ _ (c .before .before .before .before .before .before .before .before .before .pre .0) _ _ (c .before .before .before .root .ensures), search needs, c .before .before .before .before .before .before .before .before .before .pre .1)
+settle-requires c κs = (root-ready _ _ _ _ _ _ _ (c .before .before .before .before .before .before .before .before .before .pre .0) _ _ _ (c .before .before .before .root .ensures), search needs, c .before .before .before .before .before .before .before .before .before .pre .1)
 
 same-length : tie.Need-same-length
 same-length c = search needs
 
 returns-2 : tie.Need-returns-2
-returns-2 c = list-settled _ _ _ _ _ _ _ (c .before .before .before .before .before .before .before .before .before .before .before .before .pre .0) _ _ _ _ (c .before .before .settle .ensures)
+returns-2 c = list-settled _ _ _ _ _ _ _ (c .before .before .before .before .before .before .before .before .before .before .before .before .pre .0) _ _ _ _ _ (c .before .before .settle .ensures)
 
 pub list-views-spec : {M : Type 1} → statement M
 list-views-spec = tie.close (tie.spec returns root-requires settle-requires same-length returns-2)

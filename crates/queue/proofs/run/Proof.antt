@@ -15,14 +15,11 @@ abbrev μ-loop : tie.MeasureT-loop
 loop-holds : tie.Need-loop-holds Inv-loop μ-loop
 loop-holds c = (omega arith, keeps-same _)
 
-next-requires : tie.Need-next-requires Inv-loop μ-loop
-next-requires c κs = search needs
-
 idle-requires : tie.Need-idle-requires Inv-loop μ-loop
 idle-requires c κs = search needs
 
 returns : tie.Need-returns Inv-loop μ-loop
-returns c = c .before .before .before .before .loop .inv .1
+returns c = c .before .before .before .loop .inv .1
 
 turn-requires : tie.Need-turn-requires Inv-loop μ-loop
 turn-requires c κs = search needs
@@ -34,7 +31,7 @@ within-requires : tie.Need-within-requires Inv-loop μ-loop
 within-requires c κs = search needs
 
 returns-2 : tie.Need-returns-2 Inv-loop μ-loop
-returns-2 c = keeps-then (c .before .before .before .before .before .before .before .before .loop .inv .1) (keeps-then (c .before .before .before .turn .ensures) (by-coherence (c .before .before .moved .ensures)))
+returns-2 c = keeps-then (c .before .before .before .before .before .before .before .loop .inv .1) (keeps-then (c .before .before .before .turn .ensures) (by-coherence (c .before .before .moved .ensures)))
 
 add-k : tie.Need-add-k Inv-loop μ-loop
 add-k c = search needs
@@ -43,7 +40,7 @@ loop-less : tie.Need-loop-less Inv-loop μ-loop
 loop-less c = search needs
 
 loop-again : tie.Need-loop-again Inv-loop μ-loop
-loop-again c = (omega arith, keeps-then (c .before .before .before .before .before .before .before .before .loop .inv .1) (keeps-then (c .before .before .before .turn .ensures) (by-coherence (c .before .before .moved .ensures))))
+loop-again c = (omega arith, keeps-then (c .before .before .before .before .before .before .before .loop .inv .1) (keeps-then (c .before .before .before .turn .ensures) (by-coherence (c .before .before .moved .ensures))))
 
 returns-3 : tie.Need-returns-3 Inv-loop μ-loop
 returns-3 c = c .before .loop .inv .1
@@ -55,7 +52,6 @@ run-spec =
     Inv-loop
     μ-loop
     loop-holds
-    next-requires
     idle-requires
     returns
     turn-requires

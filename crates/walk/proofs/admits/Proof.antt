@@ -1,4 +1,5 @@
-use Rattle.walk.proofs.Plans.{admits-marked, admits-none, admits-beyond, admits-short}
+use mathlib.Core.Path.{refl}
+use Rattle.walk.proofs.Plans.{refuted-none, admits-marked, admits-none, admits-beyond, admits-short}
 use borrow.Author.Needs.{needs}
 use Rattle.walk.proofs.admits.Statement.{statement}
 use Rattle.walk.proofs.admits.Tie as tie
@@ -15,17 +16,20 @@ returns-2 c = admits-beyond _ _ _ _ _ _ _ (search needs)
 returns-3 : tie.Need-returns-3
 returns-3 c = admits-short _ _ _ _ _ _ _ (search needs)
 
-refuted-requires : tie.Need-refuted-requires
-refuted-requires c κs = search needs
+narrowed-requires : tie.Need-narrowed-requires
+narrowed-requires c κs = search needs
+
+within-requires : tie.Need-within-requires
+within-requires c κs = search needs
 
 mark-around-requires : tie.Need-mark-around-requires
-mark-around-requires c κs = search needs
+mark-around-requires c κs = (c .before .before .before .before .before .before .before .before .before .before .before .before .before .before .pre .0, c .before .before .before .before .before .before .before .before .before .before .before .before .before .before .pre .1, c .before .before .before .before .before .before .before .before .before .before .before .before .before .before .pre .3)
 
 returns-4 : tie.Need-returns-4
-returns-4 c = admits-none _ _ _ _ _ _ _ _ (c .before .before .before .refuted .ensures (search needs)) (c .mark-around .ensures (c .before .before .before .refuted .ensures (search needs)))
+returns-4 c = let f = refuted-none _ _ _ _ _ _ _ _ _ refl (c .before .before .before .before .before .narrowed .ensures) (c .before .before .before .within .ensures) (search needs) in admits-none _ _ _ _ _ _ _ _ f (c .mark-around .ensures f)
 
 tested-requires : tie.Need-tested-requires
-tested-requires c κs = search needs
+tested-requires c κs = (c .before .before .before .before .before .before .before .before .before .before .before .before .before .before .pre .0, c .before .before .before .before .before .before .before .before .before .before .before .before .before .before .pre .1, c .before .before .before .before .before .before .before .before .before .before .before .before .before .before .pre .2, c .before .before .before .before .before .before .before .before .before .before .before .before .before .before .pre .3, c .before .before .before .before .narrowed .ensures)
 
 returns-5 : tie.Need-returns-5
 returns-5 c = search needs
@@ -38,7 +42,8 @@ admits-spec =
     returns
     returns-2
     returns-3
-    refuted-requires
+    narrowed-requires
+    within-requires
     mark-around-requires
     returns-4
     tested-requires
