@@ -4,7 +4,7 @@ use mathlib.Core.Path.{_≡_}
 use mathlib.Core.Bool.{Bool, true, false}
 use mathlib.Core.List.{List}
 use Prim.Native.Nat.{ℕ, _+_, _<_, _≤_}
-use native.Mathlib.Nat.{le-trans}
+use native.Mathlib.Nat.{le-refl, le-trans}
 use native.Mathlib.Omega.{arith}
 use borrow.Author.Count.{below-more}
 use Rattle.logic.specs.Tests.{Decides}
@@ -16,7 +16,7 @@ use Rattle.sets.proofs.Pairs.{sub-refl, sub-trans, join-sub, join-l, join-r, me
 use Rattle.masks.specs.declared.Masks.{Masks}
 use Rattle.masks.specs.declared.Bounds.{Bounds}
 use Rattle.masks.specs.Views.{masksAt, Fires}
-use Rattle.masks.specs.Closures.{Stable, Fired, Passed, Closure}
+use Rattle.masks.specs.Closures.{only, bare, Stable, Fired, Passed, Closure}
 use Rattle.masks.proofs.Sums.{total, total-lt}
 
 -- ---- one rule
@@ -74,3 +74,16 @@ module _ (ws : List ℕ) (n : ℕ) (b : Bounds) (c d : Pair) (p : Passed ws n b 
 
     pub pass-grows : w ≡ false → total c < total d
     pass-grows e = total-lt (p .grow) (λ s. q .no e (rw s))
+
+-- ---- a sweep, within one pair
+-- Every pair is stable within the bounds from itself to itself, so a pass from its exceptions stays within it.
+pub passed-in : (ws : List ℕ) (k : ℕ) (v d : Pair) → Passed ws k (only v) (bare v) d → Sub d v
+passed-in ws k v d p = p .below v (record { held = none-sub (v .held); denied = none-sub (v .denied); taken = λ i. le-refl _ }) (λ j h x. meet-r _ _)
+
+-- A rule whose body v does not satisfy adds nothing to a pair within v.
+pub idle-adds : (r : Masks) (v d : Pair) (f : Bool) → Decides f (Fires r v v) → f ≡ false → Sub d v → Fired r (only v) d d
+idle-adds r v d f q e s = record {
+  grow = sub-refl d;
+  below = λ t x y. x;
+  adds = λ x. absurd (q .no e (record { needed = sub-trans (x .needed) s; unbarred = x .unbarred }));
+}

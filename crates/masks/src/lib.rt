@@ -4,8 +4,9 @@ ghost use Prim.Native.Nat.{_+_, _*_, _<_, _≤_};
 ghost use lib.ListN.{length};
 ghost use Rattle.logic.specs.Tests.{Decides};
 ghost use Rattle.sets.specs.Sets.{bitOf, Apart};
+ghost use Rattle.sets.specs.Pairs.{Sub};
 ghost use Rattle.masks.specs.Views.{masksAt, Fires, Constraint, Meets, Level, MaskView};
-ghost use Rattle.masks.specs.Closures.{Fired, Passed, Closure, Swept};
+ghost use Rattle.masks.specs.Closures.{only, Fired, Passed, Closure, Swept};
 use sets::Pair;
 
 // A rule: its head, its needed entries (the rule's own exception among them), its barred entries.
@@ -110,17 +111,29 @@ pub fn constraint(r: Masks) -> bool
     r.head.held | r.head.denied == 0
 }
 
-// The pair v is to this rule what a view is to every rule.
-pub fn meets(r: Masks, v: Pair) -> bool
+// The pair v is to this rule what a view is to every rule; f tells whether v satisfies the rule's body.
+pub fn meets(r: Masks, v: Pair, f: bool) -> bool
+    requires { ⌜ Decides f (Fires r v v) ⌝ }
     ensures { λ o. ⌜ Decides o (Meets r v) ⌝ }
 {
-    if fires(r, v, v) {
+    if f {
         if constraint(r) {
             return false;
         }
         return sets::within(r.head, v);
     }
     r.need.taken & v.taken == 0
+}
+
+// The pair d, which is within v, with what the rule adds within v: nothing if v does not satisfy its body.
+pub fn add_within(r: Masks, v: Pair, f: bool, d: Pair) -> Pair
+    requires { ⌜ (Decides f (Fires r v v)) × Sub d v ⌝ }
+    ensures { λ e. ⌜ Fired r (only v) d e ⌝ }
+{
+    if f {
+        return fire(r, Bounds { lo: v, hi: v }, d);
+    }
+    d
 }
 
 // What one sweep over the rules tells of a pair: whether it meets them all, and what they add to its exceptions alone.
@@ -134,7 +147,6 @@ pub fn sweep(words: &[u64], n: usize, v: Pair) -> Outcome
     requires { ⌜ n * 8 ≤ length (now words) ⌝ }
     ensures { λ s. ⌜ Swept (now (words .entry)) n v s ⌝ }
 {
-    let b = Bounds { lo: v, hi: v };
     let mut d = Pair {
         taken: v.taken,
         held: 0,
@@ -143,13 +155,14 @@ pub fn sweep(words: &[u64], n: usize, v: Pair) -> Outcome
     let mut k = 0;
     while k < n {
         let r = masks_at(words, k);
-        if !meets(r, v) {
+        let f = fires(r, v, v);
+        if !meets(r, v, f) {
             return Outcome {
                 ok: false,
                 reached: d,
             };
         }
-        d = fire(r, b, d);
+        d = add_within(r, v, f, d);
         k += 1;
     }
     Outcome {
