@@ -112,7 +112,7 @@ said-about i (suc zero) k = omega (arith, bit-zero k)
 said-about i (suc (suc w)) k = omega (arith, bit-zero k)
 
 -- A pair of the first n statements stays one.
-pub given-below : (n : ℕ) (p : Pair) (i w : ℕ) → 0 < i → i ≤ n → (p .held < 2 ^ n) × (p .denied < 2 ^ n) → (given p i w .held < 2 ^ n) × (given p i w .denied < 2 ^ n)
+given-below : (n : ℕ) (p : Pair) (i w : ℕ) → 0 < i → i ≤ n → (p .held < 2 ^ n) × (p .denied < 2 ^ n) → (given p i w .held < 2 ^ n) × (given p i w .denied < 2 ^ n)
 unfolding given joinOf minusOf about
 given-below n p i w hi hn l =
     let s = said-lt n i w hi hn in

@@ -1,19 +1,18 @@
 -- Laws of tests, lists and sets that this crate needs and that belong to the crates logic and sets.
 -- Each is one induction on a list, or one step from a law of those crates.
-use mathlib.Core.Path.{_≡_, refl, _∙_}
+use mathlib.Core.Path.{_≡_, refl}
 use mathlib.Core.Bool.{Bool, true, false}
 use mathlib.Core.List.{List, [], _∷_, _++_}
 use mathlib.Core.Logic.{inl, inr, ⊎-elim}
-use Prim.Native.Nat.{ℕ, _-_, _^_, _<_}
-use native.Mathlib.Nat.{le-refl, mod-eq-of-lt}
+use Prim.Native.Nat.{ℕ, _-_, _^_}
+use native.Mathlib.Nat.{le-refl}
 use native.Mathlib.Omega.{arith}
-use lib.Bits.{bitAnd, and-mask}
 use borrow.Author.Tests.{eqb-true, eqb-false}
 use Rattle.logic.specs.Lists.{Among, Every}
 use Rattle.logic.specs.Tests.{both, either, keep, consIf}
 use Rattle.logic.proofs.Members.{every-at, every-of, kept-from}
 use Rattle.sets.specs.Sets.{member, bitOf, Within, Apart}
-use Rattle.sets.proofs.Words.{single, single-has, and-r}
+use Rattle.sets.proofs.Words.{single, single-has}
 
 -- ---- tests
 pub both-true : (b : Bool) → both b true ≡ b
@@ -67,7 +66,3 @@ in-set i a e = ⊎-elim (λ f. f) (λ f. absurd (let q = eqb-true (bitOf a (i - 
 pub off-set : (i a : ℕ) → member i a ≡ false → Apart a (2 ^ (i - 1))
 unfolding member
 off-set i a e = ⊎-elim (λ f. absurd (eqb-false (bitOf a (i - 1)) 1 e (single-has (i - 1) a f))) (λ f k. omega (arith, f k)) (single (i - 1) a)
-
--- Every word is within the set of all numbers.
-pub within-every : (a : ℕ) → a < 2 ^ 64 → Within a (2 ^ 64 - 1)
-within-every a h = let e : bitAnd a (2 ^ 64 - 1) ≡ a = and-mask a 64 ∙ mod-eq-of-lt h in rw e at (and-r a (2 ^ 64 - 1))

@@ -24,7 +24,9 @@ use Rattle.meaning.specs.Order.{Before, fewer, smaller, Point, start, at, Later
 use Rattle.meaning.specs.Twins.Tables.{differsFrom, before}
 use Rattle.meaning.proofs.Next.{decides-before}
 use Rattle.meaning.proofs.Parts.{Part}
+use Rattle.masks.specs.declared.Bounds.{Bounds}
 use Rattle.masks.specs.Views.{MaskView}
+use Rattle.bounds.specs.Sound.{In}
 use Rattle.page.specs.declared.Task.{Task}
 use Rattle.page.specs.Orders.{bare, allFrom, passes, listFrom, PartOf, Begins}
 use Rattle.page.specs.Pages.{Page, Listed}
@@ -59,6 +61,15 @@ begins-past b point p taken o = record {
 bare-lawful : (b : Book) (taken : ℕ) → taken < 2 ^ length (b .exceptions) → Lawful b (bare taken)
 unfolding isIn
 bare-lawful b taken h = record { exceptions = h; held = pow-pos (b .statements); denied = pow-pos (b .statements); apart = apart-disjoint 0 0 (none-off 0) }
+
+-- Every pair that the search looks at is lawful and takes these exceptions.
+looked-at : (b : Book) (taken : ℕ) → taken < 2 ^ length (b .exceptions) → (v : Pair) → Among v (allFrom (b .statements) (b .statements) (bare taken)) → Lawful b v × (v .taken ≡ taken)
+looked-at b taken h v m =
+    let n : ℕ = b .statements in
+    let xs : List Pair = allFrom n n (bare taken) in (
+      every-at (Lawful b) v xs (all-lawful b n (bare taken) (le-refl n) (bare-lawful b taken h)) m,
+      every-at (Extends (n - n) (bare taken)) v xs (all-extend n n (bare taken) (le-refl n)) m .taken,
+    )
 
 module _ (b : Book) (from : Point) (taken : ℕ) (h : taken < 2 ^ length (b .exceptions)) (t : Bool) (point : Pair) (s : Begins b from taken t point) where
   -- The search's test of lateness.
@@ -103,14 +114,6 @@ module _ (b : Book) (from : Point) (taken : ℕ) (h : taken < 2 ^ length (b .exc
           ascending = keep-ascends f xs (all-ascends n n (bare taken) (le-refl n));
         }
 
-    -- Every pair that the search looks at is lawful and takes these exceptions.
-    pub right-of-all : (v : Pair) → Among v (allFrom (b .statements) (b .statements) (bare taken)) → Decides (g v) (P v)
-    right-of-all v m =
-        let n : ℕ = b .statements in
-        right v
-        (every-at (Lawful b) v (allFrom n n (bare taken)) (all-lawful b n (bare taken) (le-refl n) (bare-lawful b taken h)) m)
-        (every-at (Extends (n - n) (bare taken)) v (allFrom n n (bare taken)) (all-extend n n (bare taken) (le-refl n)) m .taken)
-
 -- Where the pairs with these exceptions that have the property are the resolutions among them, it is a part of the listing.
 pub part-of-listing : (b : Book) (from : Point) (taken : ℕ) (P : Pair → Type 0) (xs : List Pair)
     → ((p : Pair) → Lawful b p → p .taken ≡ taken → P p → Resolution b p) → ((p : Pair) → Resolution b p → p .taken ≡ taken → P p)
@@ -124,14 +127,17 @@ part-of-listing b from taken P xs f g s =
     }
 
 -- What `list_views` promises, in the words of the meaning: the page of the views with these exceptions that are later than the point.
--- The test g is any that decides it for lawful pairs with these exceptions.
+-- The test g is any that decides it for lawful pairs with these exceptions; of those no view is beyond the bounds c.
 pub views-listed : (b : Book) (from : Point) (taken : ℕ) → taken < 2 ^ length (b .exceptions)
     → (ws ranks : List ℕ) (q : Task) → q .statements ≡ b .statements → (t : Bool) → Begins b from taken t (q .point)
     → (g : Pair → Bool) → ((p : Pair) → Lawful b p → p .taken ≡ taken → Decides (g p) (MaskView ws (q .rules) ranks p))
-    → (k r : ℕ) (o o′ : List ℕ) → Listed ws ranks q taken t k o o′ r
+    → (c : Bounds) → ((p : Pair) → Lawful b p → p .taken ≡ taken → MaskView ws (q .rules) ranks p → In c p)
+    → (k r : ℕ) (o o′ : List ℕ) → Listed ws ranks q taken c t k o o′ r
     → (xs : List Pair) × Page (q .room) k o o′ xs r × PartOf b from taken (MaskView ws (q .rules) ranks) xs
-views-listed b from taken h ws ranks q e t s g right k r o o′ w = (
+views-listed b from taken h ws ranks q e t s g right c within k r o o′ w = (
   listFrom g (b .statements) (q .point) (b .statements) t (bare taken),
-  rw e at (w .page g (rw e (record { right = right-of-all b from taken h t (q .point) s (MaskView ws (q .rules) ranks) g right }))),
+  rw e at (w .page
+      (rw e (record { kept = λ v x m. let l = looked-at b taken h v m in within v (l .0) (l .1) x })) g
+      (rw e (record { right = λ v m. let l = looked-at b taken h v m in right v (l .0) (l .1) }))),
   list-is-part b from taken h t (q .point) s (MaskView ws (q .rules) ranks) g right,
 )

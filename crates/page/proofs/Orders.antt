@@ -4,7 +4,7 @@ use mathlib.Core.Path.{_≡_, refl, sym, ap, _∙_}
 use mathlib.Core.Bool.{Bool, true, false}
 use mathlib.Core.List.{List, [], _∷_}
 use mathlib.Core.Logic.{_⊎_, inl, inr, ⊎-elim}
-use Prim.Native.Nat.{ℕ, zero, suc, _+_, _-_, _^_, _<_, _≤_}
+use Prim.Native.Nat.{ℕ, zero, suc, _+_, _-_, _<_, _≤_}
 use native.Mathlib.Nat.{eq-or-lt-of-le}
 use native.Mathlib.Omega.{arith}
 use Rattle.logic.specs.Lists.{Among, Every}
@@ -18,7 +18,7 @@ use Rattle.meaning.proofs.Ordered.{before-total}
 use Rattle.meaning.proofs.Next.{value-past}
 use Rattle.meaning.proofs.Parts.{ascending-append}
 use Rattle.page.specs.Orders.{given, tried, allFrom}
-use Rattle.page.proofs.Assignments.{given-taken, given-other, given-own, given-below, given-lawful, value-most}
+use Rattle.page.proofs.Assignments.{given-taken, given-other, given-own, given-lawful, value-most}
 use Rattle.page.proofs.General.{every-append, every-keep}
 
 -- ---- pairs that agree on the first statements
@@ -78,9 +78,6 @@ all-keep P n (suc left) p h f x =
 
 pub all-lawful : (b : Book) (left : ℕ) (p : Pair) → left ≤ b .statements → Lawful b p → Every (Lawful b) (allFrom (b .statements) left p)
 all-lawful b left p h = all-keep (Lawful b) (b .statements) left p h (given-lawful b)
-
-pub all-below : (n left : ℕ) (p : Pair) → left ≤ n → (p .held < 2 ^ n) × (p .denied < 2 ^ n) → Every (λ q. (q .held < 2 ^ n) × (q .denied < 2 ^ n)) (allFrom n left p)
-all-below n left p h = all-keep (λ q. (q .held < 2 ^ n) × (q .denied < 2 ^ n)) n left p h (given-below n)
 
 -- ---- every lawful pair is listed
 pub among-tried : (f : Pair → List Pair) (p : Pair) (i w : ℕ) (q : Pair) → w ≤ 2 → Among q (f (given p i w)) → Among q (tried f p i 3)

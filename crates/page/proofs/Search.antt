@@ -3,22 +3,18 @@
 use mathlib.Core.Path.{_≡_, refl}
 use mathlib.Core.Bool.{Bool, true, false, not}
 use mathlib.Core.List.{List, [], _∷_, _++_}
-use Prim.Native.Nat.{ℕ, zero, suc, _+_, _-_, _*_, _^_, _<_, _≤_}
-use native.Mathlib.Nat.{le-refl, lt-of-lt-of-le}
+use Prim.Native.Nat.{ℕ, zero, suc, _+_, _-_, _*_, _<_, _≤_}
 use native.Mathlib.Numerals.{sub-one}
 use native.Mathlib.Omega.{arith}
 use lib.ListN.{length}
-use lib.Pow.{pow-pos, pow-mono}
 use lib.Seq.{sets}
 use Rattle.logic.specs.Tests.{Decides, both, pick, keep, consIf}
 use Rattle.logic.proofs.Decide.{holds, fails}
-use Rattle.logic.proofs.Members.{every-at, among-left, among-right}
+use Rattle.logic.proofs.Members.{among-left, among-right}
 use Rattle.sets.specs.declared.Pair.{Pair}
-use Rattle.sets.proofs.Words.{none-sub}
 use Rattle.masks.specs.declared.Bounds.{Bounds}
 use Rattle.masks.specs.Views.{MaskView}
 use Rattle.masks.proofs.Booleans.{refused, granted}
-use Rattle.bounds.specs.Sound.{Propagated}
 use Rattle.meaning.specs.Twins.Tables.{differsFrom}
 use Rattle.queue.specs.declared.waiting.Waiting.{Waiting}
 use Rattle.page.specs.declared.Task.{Task}
@@ -27,10 +23,9 @@ use Rattle.page.specs.declared.Branch.{Branch}
 use Rattle.page.specs.declared.Branch.the-variants.{Cut, Open}
 use Rattle.page.specs.Orders.{bare, given, tried, allFrom, passes, listFrom}
 use Rattle.sets.specs.Pairs.{flat}
-use Rattle.page.specs.Pages.{Tests, Rooted, Fits, Ready, Settled, passing, triedFrom, Tried, branchFrom, BranchReady, Child, Branched, Listed}
+use Rattle.page.specs.Pages.{Tests, Fits, Ready, Settled, passing, triedFrom, Tried, branchFrom, BranchReady, Child, Branched, Listed}
 use Rattle.page.proofs.Pages.{page-none, page-full, page-append, page-one}
-use Rattle.page.proofs.Orders.{Extends, all-extend, all-below}
-use Rattle.page.proofs.General.{within-every, keep-append}
+use Rattle.page.proofs.General.{keep-append}
 
 -- ---- tests of the point
 pub where-equal : (t x : Bool) → t ≡ true → x ≡ both t x
@@ -50,7 +45,7 @@ module _ (ws ranks : List ℕ) (q : Task) (d : Node) (at : ℕ) (o : List ℕ) (
 
   pub finish-equal : d .equal ≡ true → Settled ws ranks q 0 d at o o at
   unfolding pick both consIf
-  finish-equal e = record { most = omega arith; page = λ g tg. rw (last-list g, e) (page-none (q .room) at o) }
+  finish-equal e = record { most = omega arith; page = λ c g tg. rw (last-list g, e) (page-none (q .room) at o) }
 
   module _ (e : d .equal ≡ false) (z : Bool) (dz : Decides z (MaskView ws (q .rules) ranks (d .pair))) where
     own : (g : Pair → Bool) → Tests ws (q .rules) ranks (allFrom (q .statements) 0 (d .pair)) g → Decides (g (d .pair)) (MaskView ws (q .rules) ranks (d .pair))
@@ -59,11 +54,11 @@ module _ (ws ranks : List ℕ) (q : Task) (d : Node) (at : ℕ) (o : List ℕ) (
 
     pub finish-not : not z ≡ true → Settled ws ranks q 0 d at o o at
     unfolding pick both consIf
-    finish-not ez = record { most = omega arith; page = λ g tg. rw (last-list g, e, fails (own g tg) (refused dz ez)) (page-none (q .room) at o) }
+    finish-not ez = record { most = omega arith; page = λ c g tg. rw (last-list g, e, fails (own g tg) (refused dz ez)) (page-none (q .room) at o) }
 
     pub finish-put : (o′ : List ℕ) → not z ≡ false → o′ ≡ sets o (at * 3) (flat (d .pair ∷ [])) → Settled ws ranks q 0 d at o o′ (at + 1)
     unfolding pick both consIf
-    finish-put o′ ez eo = record { most = omega arith; page = λ g tg. rw (last-list g, e, holds (own g tg) (granted dz ez)) (page-one (q .room) at o o′ (d .pair) h eo) }
+    finish-put o′ ez eo = record { most = omega arith; page = λ c g tg. rw (last-list g, e, holds (own g tg) (granted dz ez)) (page-one (q .room) at o o′ (d .pair) h eo) }
 
 -- ---- a statement and its values
 -- The values of the first statement left are all that come from the node.
@@ -79,8 +74,15 @@ fits-again : (ws ranks o o′ : List ℕ) (q : Task) (at r : ℕ) → Fits ws ra
 fits-again ws ranks o o′ q at r f e h = record { suits = f .suits; place = h; long = rw e (f .long) }
 
 -- The slice changed and the place moved on.
-pub ready-again : (ws ranks o o′ : List ℕ) (q : Task) (left : ℕ) (d : Node) (at r : ℕ) → Ready ws ranks o q left d at → length o′ ≡ length o → r ≤ q .room → Ready ws ranks o′ q left d r
-ready-again ws ranks o o′ q left d at r rd e h = record { fits = fits-again ws ranks o o′ q at r (rd .fits) e h; unsettled = rd .unsettled; covers = rd .covers }
+pub ready-again : (ws ranks o o′ : List ℕ) (q : Task) (left at r : ℕ) → Ready ws ranks o q left at → length o′ ≡ length o → r ≤ q .room → Ready ws ranks o′ q left r
+ready-again ws ranks o o′ q left at r rd e h = record { fits = fits-again ws ranks o o′ q at r (rd .fits) e h; unsettled = rd .unsettled }
+
+-- What a value of the first statement left needs, and what the search from there needs.
+pub branch-ready : (ws ranks o : List ℕ) (q : Task) (left at : ℕ) → Ready ws ranks o q left at → 0 < left → (w : ℕ) → w ≤ 2 → BranchReady ws ranks q (left - 1) w
+branch-ready ws ranks o q left at rd pos w h = record { suits = rd .fits .suits; unsettled = omega (arith, rd .unsettled); value = h }
+
+pub child-ready : (ws ranks o : List ℕ) (q : Task) (left at : ℕ) → Ready ws ranks o q left at → Ready ws ranks o q (left - 1) at
+child-ready ws ranks o q left at rd = record { fits = rd .fits; unsettled = omega (arith, rd .unsettled) }
 
 -- The last v values are the first of them and the others.
 tried-first : (f : Pair → List Pair) (p : Pair) (i v : ℕ) → (v ≡ 0 → ⊥) → tried f p i v ≡ f (given p i (3 - v)) ++ tried f p i (v - 1)
@@ -103,76 +105,37 @@ module _ (ws ranks : List ℕ) (q : Task) (left v : ℕ) (d : Node) (n : v ≡ 0
     tests-rest : Tests ws (q .rules) ranks (triedFrom q left (v - 1) d) g
     tests-rest = record { right = λ u m. t .right u (rw tried-split (among-right u (branchFrom q left (3 - v) d) (triedFrom q left (v - 1) d) m)) }
 
-module _ (ws ranks : List ℕ) (q : Task) (left v : ℕ) (d : Node) (at : ℕ) (o : List ℕ) (rd : Ready ws ranks o q left d at) (pos : 0 < left) where
+module _ (ws ranks : List ℕ) (q : Task) (left v : ℕ) (d : Node) (at : ℕ) (o : List ℕ) (rd : Ready ws ranks o q left at) where
   pub try-none : v ≡ 0 → Tried ws ranks q (left - 1) v d at o o at
   unfolding tried keep
-  try-none e = rw e (record { most = rd .fits .place; page = λ g tg. page-none (q .room) at o })
+  try-none e = rw e (record { most = rd .fits .place; page = λ h g tg. page-none (q .room) at o })
 
   pub try-full : q .room ≤ at → Tried ws ranks q (left - 1) v d at o o at
-  try-full l = record { most = rd .fits .place; page = λ g tg. page-full (q .room) at o _ l }
-
-  pub branch-ready : (w : ℕ) → w ≤ 2 → BranchReady ws ranks q (left - 1) w d
-  branch-ready w h =
-      let e : left ≡ suc (left - 1) = omega arith in
-      record {
-        suits = rd .fits .suits;
-        unsettled = omega (arith, rd .unsettled);
-        value = h;
-        covers = rw e at (rd .covers);
-      }
+  try-full l = record { most = rd .fits .place; page = λ h g tg. page-full (q .room) at o _ l }
 
   module _ (n : v ≡ 0 → ⊥) (b : Branch) (br : Branched ws ranks q (left - 1) (3 - v) d b) where
     pub try-cut : b ≡ Cut → (o′ : List ℕ) (r : ℕ) → Tried ws ranks q (left - 1) (v - 1) d at o o′ r → Tried ws ranks q (left - 1) v d at o o′ r
     try-cut e o′ r t = record {
       most = t .most;
-      page = λ g tg. rw (tried-passing ws ranks q (left - 1) v d n g, br .cut e g (tests-branch ws ranks q (left - 1) v d n g tg))
-          (t .page g (tests-rest ws ranks q (left - 1) v d n g tg));
+      page = λ h g tg. rw (tried-passing ws ranks q (left - 1) v d n g, br .cut e h g (tests-branch ws ranks q (left - 1) v d n g tg))
+          (t .page h g (tests-rest ws ranks q (left - 1) v d n g tg));
     }
 
-    module _ (c : Node) (e : b ≡ Open c) where
-      pub child-ready : Ready ws ranks o q (left - 1) c at
-      child-ready = record { fits = rd .fits; unsettled = omega (arith, rd .unsettled); covers = br .opened c e .covers }
-
-      pub try-open : (o′ o″ : List ℕ) (r r′ : ℕ) → Settled ws ranks q (left - 1) c at o o′ r → Tried ws ranks q (left - 1) (v - 1) d r o′ o″ r′ → Tried ws ranks q (left - 1) v d at o o″ r′
-      try-open o′ o″ r r′ s t = record {
-        most = t .most;
-        page = λ g tg.
-            let k : Child ws ranks q (left - 1) (3 - v) d c = br .opened c e in
-            let u : Tests ws (q .rules) ranks (branchFrom q (left - 1) (3 - v) d) g = tests-branch ws ranks q (left - 1) v d n g tg in
-            rw (tried-passing ws ranks q (left - 1) v d n g, k .same g)
-            (page-append (q .room) at r r′ o o′ o″ _ _ (s .page g (rw (k .pair) u)) (t .page g (tests-rest ws ranks q (left - 1) v d n g tg)));
-      }
+    pub try-open : (c : Node) → b ≡ Open c → (o′ o″ : List ℕ) (r r′ : ℕ) → Settled ws ranks q (left - 1) c at o o′ r → Tried ws ranks q (left - 1) (v - 1) d r o′ o″ r′ → Tried ws ranks q (left - 1) v d at o o″ r′
+    try-open c e o′ o″ r r′ s t = record {
+      most = t .most;
+      page = λ h g tg.
+          let k : Child ws ranks q (left - 1) (3 - v) d c = br .opened c e in
+          let u : Tests ws (q .rules) ranks (branchFrom q (left - 1) (3 - v) d) g = tests-branch ws ranks q (left - 1) v d n g tg in
+          rw (tried-passing ws ranks q (left - 1) v d n g, k .same g)
+          (page-append (q .room) at r r′ o o′ o″ _ _ (s .page (k .covers h) g (rw (k .pair) u)) (t .page h g (tests-rest ws ranks q (left - 1) v d n g tg)));
+    }
 
 -- ---- the whole search
-pub root-keeps : (ws : List ℕ) (n : ℕ) (ranks : List ℕ) (taken : ℕ) (o : Bounds)
-    → Propagated ws n ranks (record { lo = bare taken; hi = record { taken = taken; held = 2 ^ 64 - 1; denied = 2 ^ 64 - 1 } }) o → Rooted ws n ranks taken o
-root-keeps ws n ranks taken o f = record {
-  kept = λ v k e h d. f .keeps .kept v k (record {
-    lo = record { held = none-sub (v .held); denied = none-sub (v .denied); taken = λ i. rw e (le-refl _) };
-    hi = record { held = within-every (v .held) h; denied = within-every (v .denied) d; taken = λ i. rw e (le-refl _) };
-  });
-}
+module _ (ws ranks : List ℕ) (q : Task) (taken : ℕ) (b : Bounds) (t : Bool) (at : ℕ) (o : List ℕ) where
+  pub list-full : at ≤ q .room → q .room ≤ at → Listed ws ranks q taken b t at o o at
+  list-full h l = record { most = h; page = λ c g tg. page-full (q .room) at o _ l }
 
-module _ (ws ranks : List ℕ) (q : Task) (taken : ℕ) (t : Bool) (at : ℕ) (o : List ℕ) (f : Fits ws ranks o q at) where
-  pub list-full : q .room ≤ at → Listed ws ranks q taken t at o o at
-  list-full l = record { most = f .place; page = λ g tg. page-full (q .room) at o _ l }
-
-  pub root-ready : (b : Bounds) (live : Waiting) (hint : Pair) → Rooted ws (q .rules) ranks taken b → Ready ws ranks o q (q .statements) (record { equal = t; pair = bare taken; bounds = b; live = live; hint = hint }) at
-  root-ready b live hint rb =
-      let n : ℕ = q .statements in
-      let xs : List Pair = allFrom n n (bare taken) in
-      record {
-        fits = f;
-        unsettled = le-refl n;
-        covers = record {
-          kept = λ v k m.
-              let e = every-at (Extends (n - n) (bare taken)) v xs (all-extend n n (bare taken) (le-refl n)) m in
-              let w = every-at (λ u. (u .held < 2 ^ n) × (u .denied < 2 ^ n)) v xs (all-below n n (bare taken) (le-refl n) (pow-pos n, pow-pos n)) m in
-              let s : 2 ^ n ≤ 2 ^ 64 = pow-mono (f .suits .few) in
-              rb .kept v k (e .taken) (lt-of-lt-of-le (w .0) s) (lt-of-lt-of-le (w .1) s);
-        };
-      }
-
-  pub list-settled : (b : Bounds) (live : Waiting) (hint : Pair) (o′ : List ℕ) (r : ℕ) → Settled ws ranks q (q .statements) (record { equal = t; pair = bare taken; bounds = b; live = live; hint = hint }) at o o′ r → Listed ws ranks q taken t at o o′ r
+  pub list-settled : (live : Waiting) (hint : Pair) (o′ : List ℕ) (r : ℕ) → Settled ws ranks q (q .statements) (record { equal = t; pair = bare taken; bounds = b; live = live; hint = hint }) at o o′ r → Listed ws ranks q taken b t at o o′ r
   unfolding listFrom
-  list-settled b live hint o′ r w = record { most = w .most; page = w .page }
+  list-settled live hint o′ r w = record { most = w .most; page = w .page }

@@ -1,5 +1,5 @@
 -- What the search promises: a page, the first so many pairs of a list in a lent slice; and what settling a statement and trying its values need.
-use Prim.Native.Nat.{ℕ, suc, _+_, _-_, _*_, _^_, _<_, _≤_}
+use Prim.Native.Nat.{ℕ, suc, _+_, _-_, _*_, _<_, _≤_}
 use mathlib.Core.Bool.{Bool}
 use mathlib.Core.Path.{_≡_}
 use mathlib.Core.List.{List, [], _∷_}
@@ -48,10 +48,6 @@ pub record Barren (ws : List ℕ) (n : ℕ) (ranks : List ℕ) (b : Bounds) : Ty
 pub record Covers (ws : List ℕ) (rules : ℕ) (ranks : List ℕ) (n left : ℕ) (p : Pair) (b : Bounds) : Type 0 where
   pub kept : (v : Pair) → MaskView ws rules ranks v → Among v (allFrom n left p) → In b v
 
--- Every view with these exceptions whose sets are words is within the bounds.
-pub record Rooted (ws : List ℕ) (rules : ℕ) (ranks : List ℕ) (exceptions : ℕ) (b : Bounds) : Type 0 where
-  pub kept : (v : Pair) → MaskView ws rules ranks v → v .taken ≡ exceptions → v .held < 2 ^ 64 → v .denied < 2 ^ 64 → In b v
-
 -- ---- the search
 -- The words and the ranks are those of the task's rules, and its statements are numbers of a word.
 pub record Suits (ws ranks : List ℕ) (q : Task) : Type 0 where
@@ -65,11 +61,14 @@ pub record Fits (ws ranks o : List ℕ) (q : Task) (at : ℕ) : Type 0 where
   pub place : at ≤ q .room
   pub long : q .room * 3 ≤ length o
 
--- The search can go on at the node d, with `left` statements to settle.
-pub record Ready (ws ranks o : List ℕ) (q : Task) (left : ℕ) (d : Node) (at : ℕ) : Type 0 where
+-- The search can go on with `left` statements to settle.
+pub record Ready (ws ranks o : List ℕ) (q : Task) (left at : ℕ) : Type 0 where
   pub fits : Fits ws ranks o q at
   pub unsettled : left ≤ q .statements
-  pub covers : Covers ws (q .rules) ranks (q .statements) left (d .pair) (d .bounds)
+
+-- The bounds of the node d, where `left` statements are to be settled, lose no view. The code need not know it: pages are promised where it is so.
+abbrev pub Covered : List ℕ → List ℕ → Task → ℕ → Node → Type 0
+Covered ws ranks q left d = Covers ws (q .rules) ranks (q .statements) left (d .pair) (d .bounds)
 
 -- Of the pairs xs those that pass at the node d, where `left` statements are to be settled.
 abbrev pub passing : (Pair → Bool) → Task → ℕ → Node → List Pair → List Pair
@@ -78,7 +77,7 @@ passing g q left d xs = keep (passes g (q .statements) (q .point) left (d .equal
 -- Settling the last `left` statements from the node d: the page of all views that come from there.
 pub record Settled (ws ranks : List ℕ) (q : Task) (left : ℕ) (d : Node) (at : ℕ) (o o′ : List ℕ) (r : ℕ) : Type 0 where
   pub most : r ≤ q .room
-  pub page : (g : Pair → Bool) → Tests ws (q .rules) ranks (allFrom (q .statements) left (d .pair)) g
+  pub page : Covered ws ranks q left d → (g : Pair → Bool) → Tests ws (q .rules) ranks (allFrom (q .statements) left (d .pair)) g
       → Page (q .room) at o o′ (passing g q left d (allFrom (q .statements) left (d .pair))) r
 
 -- The pairs that come from the node d with the last v values tried at a statement that `left` others follow.
@@ -88,34 +87,35 @@ triedFrom q left v d = tried (λ p. allFrom (q .statements) left p) (d .pair) (q
 -- Trying these values: the page of the views among those pairs.
 pub record Tried (ws ranks : List ℕ) (q : Task) (left v : ℕ) (d : Node) (at : ℕ) (o o′ : List ℕ) (r : ℕ) : Type 0 where
   pub most : r ≤ q .room
-  pub page : (g : Pair → Bool) → Tests ws (q .rules) ranks (triedFrom q left v d) g
+  pub page : Covered ws ranks q (suc left) d → (g : Pair → Bool) → Tests ws (q .rules) ranks (triedFrom q left v d) g
       → Page (q .room) at o o′ (passing g q (suc left) d (triedFrom q left v d)) r
 
 -- The pairs that come from the node d with the value w at the statement.
 abbrev pub branchFrom : Task → ℕ → ℕ → Node → List Pair
 branchFrom q left w d = allFrom (q .statements) left (given (d .pair) (q .statements - left) w)
 
--- What a branch needs: the statement is one of the book's, the value one of three, and the bounds lose no view.
-pub record BranchReady (ws ranks : List ℕ) (q : Task) (left w : ℕ) (d : Node) : Type 0 where
+-- What a branch needs: the statement is one of the book's, the value one of three.
+pub record BranchReady (ws ranks : List ℕ) (q : Task) (left w : ℕ) : Type 0 where
   pub suits : Suits ws ranks q
   pub unsettled : left < q .statements
   pub value : w ≤ 2
-  pub covers : Covers ws (q .rules) ranks (q .statements) (suc left) (d .pair) (d .bounds)
 
--- The node c goes on from d with the value w: it has that value, its bounds lose no view, and what is later than the point stays so.
+-- The node c goes on from d with the value w: it has that value, its bounds lose no view where those of d lose none, and what is later than the
+-- point stays so.
 pub record Child (ws ranks : List ℕ) (q : Task) (left w : ℕ) (d c : Node) : Type 0 where
   pub pair : c .pair ≡ given (d .pair) (q .statements - left) w
-  pub covers : Covers ws (q .rules) ranks (q .statements) left (c .pair) (c .bounds)
+  pub covers : Covered ws ranks q (suc left) d → Covered ws ranks q left c
   pub same : (g : Pair → Bool) → passing g q (suc left) d (branchFrom q left w d) ≡ passing g q left c (allFrom (q .statements) left (c .pair))
 
 -- The branch of the value w: where it is cut nothing is lost, where it is open it goes on.
 pub record Branched (ws ranks : List ℕ) (q : Task) (left w : ℕ) (d : Node) (r : Branch) : Type 0 where
-  pub cut : r ≡ Cut → (g : Pair → Bool) → Tests ws (q .rules) ranks (branchFrom q left w d) g
+  pub cut : r ≡ Cut → Covered ws ranks q (suc left) d → (g : Pair → Bool) → Tests ws (q .rules) ranks (branchFrom q left w d) g
       → passing g q (suc left) d (branchFrom q left w d) ≡ []
   pub opened : (c : Node) → r ≡ Open c → Child ws ranks q left w d c
 
--- The page of all views with these exceptions, where t is true of those later than the point.
-pub record Listed (ws ranks : List ℕ) (q : Task) (exceptions : ℕ) (t : Bool) (at : ℕ) (o o′ : List ℕ) (r : ℕ) : Type 0 where
+-- The page of all views with these exceptions, where t is true of those later than the point, if none of them is beyond the bounds b.
+pub record Listed (ws ranks : List ℕ) (q : Task) (exceptions : ℕ) (b : Bounds) (t : Bool) (at : ℕ) (o o′ : List ℕ) (r : ℕ) : Type 0 where
   pub most : r ≤ q .room
-  pub page : (g : Pair → Bool) → Tests ws (q .rules) ranks (allFrom (q .statements) (q .statements) (bare exceptions)) g
+  pub page : Covers ws (q .rules) ranks (q .statements) (q .statements) (bare exceptions) b
+      → (g : Pair → Bool) → Tests ws (q .rules) ranks (allFrom (q .statements) (q .statements) (bare exceptions)) g
       → Page (q .room) at o o′ (listFrom g (q .statements) (q .point) (q .statements) t (bare exceptions)) r

@@ -13,7 +13,7 @@ ghost use Rattle.probe.specs.declared.Answer.the-variants.{Nothing};
 ghost use Rattle.meaning.specs.Order.{value as valueOf};
 ghost use Rattle.page.specs.Orders.{about as aboutOf, said as saidOf, given as givenOf};
 ghost use Rattle.sets.specs.Pairs.{flat};
-ghost use Rattle.page.specs.Pages.{Giving, ViewGiving, Barren, Fits, BranchReady, Rooted, Ready, Settled, Tried, Branched, Listed};
+ghost use Rattle.page.specs.Pages.{Giving, ViewGiving, Barren, Fits, BranchReady, Ready, Settled, Tried, Branched, Listed};
 use masks::Bounds;
 use probe::Answer;
 use queue::Rest;
@@ -215,7 +215,7 @@ pub fn branch_of(
     node: Node,
     dry: u64,
 ) -> Branch
-    requires { ⌜ (BranchReady (now words) (now ranks) task left value node) × Chains (now words) (task .rules) (now index) ⌝ }
+    requires { ⌜ (BranchReady (now words) (now ranks) task left value) × Chains (now words) (task .rules) (now index) ⌝ }
     ensures { λ r. ⌜ Branched (now (words .entry)) (now (ranks .entry)) task left value node r ⌝ }
 {
     let i = task.statements - left;
@@ -308,7 +308,7 @@ pub fn settle(
     out: &mut [u64],
     place: Place,
 ) -> Place
-    requires { ⌜ (Ready (now words) (now ranks) (now out) task left node (place .at)) × (place .at < task .room) × Chains (now words) (task .rules) (now index) ⌝ }
+    requires { ⌜ (Ready (now words) (now ranks) (now out) task left (place .at)) × (place .at < task .room) × Chains (now words) (task .rules) (now index) ⌝ }
     ensures { λ r. ⌜ Settled (now (words .entry)) (now (ranks .entry)) task left node (place .at) (now (out .entry)) (now (out .exit)) (r .at) ⌝ }
 {
     if left == 0 {
@@ -329,7 +329,7 @@ pub fn values(
     out: &mut [u64],
     place: Place,
 ) -> Place
-    requires { ⌜ (Ready (now words) (now ranks) (now out) task left node (place .at)) × (0 < left) × (rest ≤ 3) × Chains (now words) (task .rules) (now index) ⌝ }
+    requires { ⌜ (Ready (now words) (now ranks) (now out) task left (place .at)) × (0 < left) × (rest ≤ 3) × Chains (now words) (task .rules) (now index) ⌝ }
     ensures { λ r. ⌜ Tried (now (words .entry)) (now (ranks .entry)) task (left - 1) rest node (place .at) (now (out .entry)) (now (out .exit)) (r .at) ⌝ }
 {
     if rest == 0 {
@@ -361,45 +361,26 @@ pub fn values(
     }
 }
 
-// Bounds for all views with these exceptions, propagated.
-pub fn root(words: &[u64], n: usize, ranks: &[u64], index: &Index, taken: u64) -> Rest
-    requires { ⌜ (n * 8 ≤ length (now words)) × (length (now ranks) ≤ 64) × Chains (now words) n (now index) ⌝ }
-    ensures { λ o. ⌜ Rooted (now (words .entry)) n (now (ranks .entry)) taken (o .bounds) ⌝ }
-{
-    let b = Bounds {
-        lo: Pair {
-            taken,
-            held: 0,
-            denied: 0,
-        },
-        hi: Pair {
-            taken,
-            held: EVERY,
-            denied: EVERY,
-        },
-    };
-    queue::propagate(words, n, ranks, index, waiting::all(), b)
-}
-
 // Puts all views with these exceptions on the page from place `at` on, in the order of pairs until the page is full;
-// where `after` is true only those later than the point, which takes these exceptions. Answers the place after them.
+// where `after` is true only those later than the point, which takes these exceptions. None of those views may be beyond the bounds at rest.
+// Answers the place after them.
 pub fn list_views(
     words: &[u64],
     ranks: &[u64],
     index: &Index,
     task: Task,
     taken: u64,
+    rest: Rest,
     after: bool,
     out: &mut [u64],
     at: usize,
 ) -> usize
     requires { ⌜ (Fits (now words) (now ranks) (now out) task at) × Chains (now words) (task .rules) (now index) ⌝ }
-    ensures { λ r. ⌜ Listed (now (words .entry)) (now (ranks .entry)) task taken after at (now (out .entry)) (now (out .exit)) r ⌝ }
+    ensures { λ r. ⌜ Listed (now (words .entry)) (now (ranks .entry)) task taken (rest .bounds) after at (now (out .entry)) (now (out .exit)) r ⌝ }
 {
     if task.room <= at {
         return at;
     }
-    let rest = root(words, task.rules, ranks, index, taken);
     let bounds = rest.bounds;
     let live = rest.live;
     let node = Node {

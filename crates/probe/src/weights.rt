@@ -1,5 +1,5 @@
 // Which member to split bounds by: the one in the most and shortest bodies. No contract depends on the choice, so only safety is proved.
-ghost use Prim.Native.Nat.{_*_, _≤_};
+ghost use Prim.Native.Nat.{_*_, _<_, _≤_};
 ghost use lib.ListN.{length};
 use masks::Masks;
 use queue::waiting;
@@ -106,6 +106,32 @@ pub struct Best {
     pub weight: u64,
 }
 
+// The sum of two weights.
+pub fn sum(a: u64, b: u64) -> u64 {
+    std::num::wrapping_add_u64(a, b)
+}
+
+// What a member counts for: its own weight and that of the statement's other side, more where both weigh much, since then both halves of a
+// split are narrow. An exception has no other side.
+pub fn score(t: &Weights, from: u64, i: u64) -> u64
+    requires { ⌜ (from ≤ 128) × (i < 64) ⌝ }
+{
+    let a = t[(from + i) as usize];
+    let twice = sum(a, a);
+    if 64 < from {
+        return sum(twice, twice);
+    }
+    let b = t[((64 - from) + i) as usize];
+    let both = sum(a, b);
+    let triple = sum(sum(both, both), both);
+    let mut less = a;
+    if b < a {
+        less = b;
+    }
+    let third = sum(sum(less, less), less);
+    sum(sum(triple, a), sum(third, third))
+}
+
 // The heaviest of s and the members of m, counted from place `from`.
 pub fn heavier(t: &Weights, from: u64, m: u64, s: Best) -> Best
     requires { ⌜ from ≤ 128 ⌝ }
@@ -118,8 +144,7 @@ pub fn heavier(t: &Weights, from: u64, m: u64, s: Best) -> Best
         if 64 <= i {
             return o;
         }
-        let at = from + i;
-        o = better(o, at, t[at as usize]);
+        o = better(o, from + i, score(t, from, i));
         rest = waiting::cleared(rest, i);
         j += 1;
     }

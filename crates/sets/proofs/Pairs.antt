@@ -99,18 +99,6 @@ pub off-of-meet : (a h : Pair) {v : Pair} → Sub v h → Off (meetOf a h) v →
 unfolding meetOf
 off-of-meet a h f g = record { held = N.off-of-meet (a .held) _ (h .held) (f .held) (g .held); denied = N.off-of-meet (a .denied) _ (h .denied) (f .denied) (g .denied); taken = N.off-of-meet (a .taken) _ (h .taken) (f .taken) (g .taken) }
 
-pub off-both : (a b : Pair) {v : Pair} → Sub b v → Off v (meetOf a b) → Off a b
-unfolding meetOf
-off-both a b f g = record { held = N.off-both (a .held) (b .held) _ (f .held) (g .held); denied = N.off-both (a .denied) (b .denied) _ (f .denied) (g .denied); taken = N.off-both (a .taken) (b .taken) _ (f .taken) (g .taken) }
-
-pub off-share : (x a l t : Pair) → Sub (meetOf x a) t → Off x (meetOf a (minusOf l t))
-unfolding meetOf minusOf
-off-share x a l t f = record { held = N.off-share (x .held) (a .held) (l .held) (t .held) (f .held); denied = N.off-share (x .denied) (a .denied) (l .denied) (t .denied) (f .denied); taken = N.off-share (x .taken) (a .taken) (l .taken) (t .taken) (f .taken) }
-
-pub meet-swap : (a b : Pair) → Sub (meetOf a b) (meetOf b a)
-unfolding meetOf
-meet-swap a b = record { held = N.sub-and _ _ _ (N.and-r (a .held) (b .held)) (N.and-l (a .held) (b .held)); denied = N.sub-and _ _ _ (N.and-r (a .denied) (b .denied)) (N.and-l (a .denied) (b .denied)); taken = N.sub-and _ _ _ (N.and-r (a .taken) (b .taken)) (N.and-l (a .taken) (b .taken)) }
-
 -- ---- one member
 pub atom-held : (k : ℕ) → Atom (record { held = 2 ^ k; denied = 0; taken = 0 })
 atom-held k v =

@@ -60,13 +60,6 @@ off-sub a b c d f g h i = omega (arith, f i, g i, h i)
 pub off-of-meet : (a v h : ℕ) → Within v h → Apart (bitAnd a h) v → Apart a v
 off-of-meet a v h f g i = omega (arith, bit-and a h i, f i, g i, bit-lt a i, bit-lt v i)
 
-pub off-both : (a b v : ℕ) → Within b v → Apart v (bitAnd a b) → Apart a b
-off-both a b v f g i = omega (arith, bit-and a b i, f i, g i, bit-lt a i, bit-lt b i)
-
--- What x and a share is in t: x has nothing of what a has of l without t.
-pub off-share : (x a l t : ℕ) → Within (bitAnd x a) t → Apart x (bitAnd a (without l t))
-off-share x a l t f i = omega (arith, bit-and x a i, bit-and a (without l t) i, bit-without l t i, f i, bit-lt x i, bit-lt a i, bit-lt l i)
-
 -- ---- the two ways round a test
 pub minus-zero : (a b : ℕ) → without a b ≡ 0 → Within a b
 minus-zero a b e i = let z = ap (λ (x : ℕ). bitOf x i) e ∙ bit-zero i in omega (arith, bit-without a b i)

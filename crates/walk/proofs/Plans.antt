@@ -35,18 +35,22 @@ use Rattle.walk.specs.Marks.{Struck, shares, between, IsMarked, Marked, 
 use Rattle.walk.specs.declared.Range.{Range}
 use Rattle.resolution.specs.Rooted.{Rooted}
 use Rattle.resolution.proofs.Resolutions.{resolution-same}
-use Rattle.walk.specs.Plans.{withSets, NoView, Wider, Told, Full, MarksRight, Admits}
+use Rattle.walk.specs.Plans.{withSets, NoView, Wider, Told, Full, MarksRight, Admits, Bounded}
 use Rattle.walk.proofs.Steps.{all-within}
 use Rattle.walk.proofs.Marks.{right-more}
+
+-- A pair within root whose set lies from lo to hi is within the narrower bounds.
+in-sets : (root : Bounds) (lo hi : ℕ) (v : Pair) → In root v → Within lo (v .taken) → Within (v .taken) hi → In (withSets root lo hi) v
+unfolding withSets
+in-sets root lo hi v i g h = record {
+  lo = record { taken = sub-or _ _ _ (i .lo .taken) g; held = i .lo .held; denied = i .lo .denied };
+  hi = record { taken = sub-and _ _ _ (i .hi .taken) h; held = i .hi .held; denied = i .hi .denied };
+}
 
 -- A view within root whose set lies from lo to hi is none where no view has such a set.
 none-in : (ws : List ℕ) (n : ℕ) (ranks : List ℕ) (root : Bounds) (lo hi : ℕ) → NoView ws n ranks root lo hi
     → (v : Pair) → MaskView ws n ranks v → In root v → Within lo (v .taken) → Within (v .taken) hi → ⊥
-unfolding withSets
-none-in ws n ranks root lo hi f v m i g h = f .none v m (record {
-  lo = record { taken = sub-or _ _ _ (i .lo .taken) g; held = i .lo .held; denied = i .lo .denied };
-  hi = record { taken = sub-and _ _ _ (i .hi .taken) h; held = i .hi .held; denied = i .hi .denied };
-})
+none-in ws n ranks root lo hi f v m i g h = f .none v m (in-sets root lo hi v i g h)
 
 module _ (b : Book) (ws : List ℕ) (n : ℕ) (ranks : List ℕ) (root : Bounds) (rt : Rooted b ws n ranks root) where
   -- A view's set surpasses every set above it and every set with a member that it outranks.
@@ -242,3 +246,14 @@ module _ (ws : List ℕ) (n : ℕ) (ranks : List ℕ) (root : Bounds) (t : ℕ) 
         accepts = λ e f. record { minimal = f k (λ x. seen .kept t x o); undominated = d .yes e };
         lawful = λ e b r. has-set b r;
       }
+
+-- ---- the bounds of an admitted set
+-- Of a set that is refused the bounds tell nothing.
+pub admits-refused : (ws : List ℕ) (n : ℕ) (ranks : List ℕ) (root : Bounds) (t : ℕ) (known : Bool) (m m′ : List ℕ) (z : Bool) (o : Bounds) → z ≡ false
+    → Admits ws n ranks root t known m m′ false → Admits ws n ranks root t known m m′ z × Bounded ws n ranks root t z o
+admits-refused ws n ranks root t known m m′ z o e a = (rw e a, record { propagated = λ f. absurd (clash (sym e ∙ f)) })
+
+-- Every view within root that has the set is within the bounds.
+pub in-bounds : (ws : List ℕ) (n : ℕ) (ranks : List ℕ) (root : Bounds) (t : ℕ) (z : Bool) (o : Bounds) → Bounded ws n ranks root t z o → z ≡ true
+    → (v : Pair) → MaskView ws n ranks v → In root v → v .taken ≡ t → In o v
+in-bounds ws n ranks root t z o f e v m i d = f .propagated e .keeps .kept v m (in-sets root t t v i (λ k. rw d (le-refl _)) (λ k. rw d (le-refl _)))

@@ -24,6 +24,7 @@ use Rattle.page.specs.Pages.{Page, Fits, Listed}
 use Rattle.page.proofs.Pages.{page-none, page-full, page-append}
 use Rattle.page.proofs.Listed.{views-listed, part-of-listing}
 use Rattle.meaning.specs.Books.{Book, Lawful}
+use Rattle.meaning.specs.Views.{View}
 use Rattle.meaning.specs.Order as meaning
 use Rattle.meaning.specs.Order.{Before, Point, LawfulPoint, Later, AllLater}
 use Rattle.meaning.specs.Twins.Verdicts.{view}
@@ -33,10 +34,10 @@ use Rattle.meaning.proofs.Parts.{Part, part-none, part-same}
 use Rattle.bridge.proofs.Views.{view-same}
 use Rattle.admissible.specs.Admissible.{Minimal}
 use Rattle.walk.specs.Marks.{IsMarked, RightMarks}
-use Rattle.walk.specs.Plans.{Told, MarksRight, Rests, Admits}
+use Rattle.walk.specs.Plans.{Told, MarksRight, Rests, Admits, Bounded}
 use Rattle.resolution.proofs.Resolutions.{resolution-same}
 use Rattle.walk.specs.Walks.{Passed, Serves, SetListed, Beyond, Ready, Walked, FirstPage, PageAfter}
-use Rattle.walk.proofs.Plans.{marks-same, marks-more, told-kept}
+use Rattle.walk.proofs.Plans.{marks-same, marks-more, told-kept, in-bounds}
 use Rattle.walk.proofs.Places.{at-or-past, subset-place, none-yet, one-more, all-places, cut-short}
 
 -- Nothing is marked at first.
@@ -53,8 +54,8 @@ module _ (ws ranks : List ℕ) (root : Bounds) (q : Task) (t : ℕ) (after known
     part = λ b from s w f g. ([], page-none (q .room) at o, part-none b from (λ p. p .taken ≡ t) (λ p r l d. a .refuses (not-true z e) b (s .rooted) w .none p r d));
   }
 
-  pub set-listed : not z ≡ false → (o′ : List ℕ) (r : ℕ) → Listed ws ranks q t after at o o′ r → SetListed ws ranks root q t after known at m m′ o o′ r
-  set-listed e o′ r l = record { most = l .most; marks = a .marks; told = a .told; part = part }
+  pub set-listed : not z ≡ false → (c : Bounds) → Bounded ws (q .rules) ranks root t z c → (o′ : List ℕ) (r : ℕ) → Listed ws ranks q t c after at o o′ r → SetListed ws ranks root q t after known at m m′ o o′ r
+  set-listed e c h o′ r l = record { most = l .most; marks = a .marks; told = a .told; part = part }
     where
       yes : z ≡ true
       yes = not-false z e
@@ -62,12 +63,14 @@ module _ (ws ranks : List ℕ) (root : Bounds) (q : Task) (t : ℕ) (after known
       part : (b : Book) (from : Point) → Serves b ws ranks root q → RightMarks b m → Rests ws (q .rules) ranks root t known m → Begins b from t after (q .point)
           → (ys : List Pair) × Page (q .room) at o o′ ys r × Part b from (λ p. p .taken ≡ t) ys
       part b from s w f g =
+          let same : (p : Pair) → Lawful b p → MaskView ws (q .rules) ranks p ↔ View b p = λ p k. view-same b ws (q .rules) (s .rooted .packs) p ranks (s .rooted .ranked) k in
           let v = views-listed b from t (a .lawful yes b (s .rooted)) ws ranks q (s .statements) after g (view b)
-          (λ p k d. let i = view-same b ws (q .rules) (s .rooted .packs) p ranks (s .rooted .ranked) k in reworded (decides-view b p) (i .1) (i .0)) at r o o′ l in (
+          (λ p k d. reworded (decides-view b p) (same p k .1) (same p k .0)) c
+          (λ p k d x. in-bounds ws (q .rules) ranks root t z c h yes p x (s .rooted .holds p (same p k .0 x) .1) d) at r o o′ l in (
             v .0,
             v .1,
             part-of-listing b from t (MaskView ws (q .rules) ranks) (v .0)
-                (λ p k d x. resolution-same b ws (q .rules) ranks root (s .rooted) p .0 (view-same b ws (q .rules) (s .rooted .packs) p ranks (s .rooted .ranked) k .0 x, rw d (a .accepts yes f)))
+                (λ p k d x. resolution-same b ws (q .rules) ranks root (s .rooted) p .0 (same p k .0 x, rw d (a .accepts yes f)))
                 (λ p x d. s .rooted .holds p (x .view) .0) (v .2),
           )
 

@@ -10,7 +10,7 @@ use Rattle.sets.specs.Sets.{Within}
 use Rattle.book.specs.Kinds.{sets}
 use Rattle.masks.specs.declared.Bounds.{Bounds}
 use Rattle.masks.specs.Views.{MaskView}
-use Rattle.bounds.specs.Sound.{In}
+use Rattle.bounds.specs.Sound.{In, Propagated}
 use Rattle.admissible.specs.Admissible.{Minimal, Admissible}
 use Rattle.meaning.specs.Books.{Book}
 use Rattle.resolution.specs.Rooted.{Rooted}
@@ -58,3 +58,7 @@ pub record Admits (ws : List ℕ) (n : ℕ) (ranks : List ℕ) (root : Bounds) (
   pub refuses : r ≡ false → (b : Book) → Rooted b ws n ranks root → RightMarks b before → NoneAt b t
   pub accepts : r ≡ true → Rests ws n ranks root t known before → Admissible ws n ranks root t
   pub lawful : r ≡ true → (b : Book) → Rooted b ws n ranks root → t < 2 ^ length (b .exceptions)
+
+-- If a resolution can have the set t, every view within root that has it is within the bounds o.
+pub record Bounded (ws : List ℕ) (n : ℕ) (ranks : List ℕ) (root : Bounds) (t : ℕ) (r : Bool) (o : Bounds) : Type 0 where
+  pub propagated : r ≡ true → Propagated ws n ranks (withSets root t t) o

@@ -11,7 +11,7 @@ ghost use Rattle.bounds.specs.Sound.{Propagated};
 ghost use Rattle.queue.specs.Chains.{Chains};
 ghost use Rattle.page.specs.Pages.{Fits};
 ghost use Rattle.walk.specs.Walks.{SetListed, Walked, FirstPage, PageAfter};
-ghost use Rattle.walk.specs.Plans.{withSets, NoView, Wider, MarksRight, Admits};
+ghost use Rattle.walk.specs.Plans.{withSets, NoView, Wider, MarksRight, Admits, Bounded};
 use book::Book;
 use masks::Bounds;
 use order::Table;
@@ -236,10 +236,26 @@ pub fn widened(words: &[u64], n: usize, ranks: &[u64], index: &Index, root: Boun
     s
 }
 
-// Whether a set was admitted, and how much may still be spent on marking sets without a view.
+// Whether a set was admitted, how much may still be spent on marking sets without a view, and where it was admitted bounds at rest for the
+// views that have it.
 pub struct Admission {
     pub ok: bool,
     pub credit: u64,
+    pub rest: Rest,
+}
+
+// The set was not admitted: the bounds tell nothing.
+pub fn refused(root: Bounds, credit: u64) -> Admission
+    ensures { λ r. ⌜ r .ok ≡ false ⌝ }
+{
+    Admission {
+        ok: false,
+        credit,
+        rest: Rest {
+            bounds: root,
+            live: waiting::everything(),
+        },
+    }
 }
 
 // How many looks it costs to widen a range.
@@ -325,29 +341,26 @@ pub fn admits(
     marks: &mut Marks,
 ) -> Admission
     requires { ⌜ (n * 8 ≤ length (now words)) × (length (now ranks) ≤ 64) × (t < sets) × Chains (now words) n (now index) ⌝ }
-    ensures { λ r. ⌜ Admits (now (words .entry)) n (now (ranks .entry)) root t known (now (marks .entry)) (now (marks .exit)) (r .ok) ⌝ }
+    ensures { λ r. ⌜ Admits (now (words .entry)) n (now (ranks .entry)) root t known (now (marks .entry)) (now (marks .exit)) (r .ok) × Bounded (now (words .entry)) n (now (ranks .entry)) root t (r .ok) (r .rest .bounds) ⌝ }
 {
     let place = t as usize;
     if marks[place] != 0 {
-        return Admission { ok: false, credit };
+        return refused(root, credit);
     }
     if t ^ (t & root.hi.taken) != 0 {
-        return Admission { ok: false, credit };
+        return refused(root, credit);
     }
     if root.lo.taken ^ (root.lo.taken & t) != 0 {
-        return Admission { ok: false, credit };
+        return refused(root, credit);
     }
     let rest = narrowed(words, n, ranks, index, root, t, t);
     let b = rest.bounds;
     if !sets::within(b.lo, b.hi) {
         let left = mark_around(words, n, ranks, index, root, t, credit, marks);
-        return Admission {
-            ok: false,
-            credit: left,
-        };
+        return refused(root, left);
     }
     let ok = tested(words, n, ranks, index, root, t, rest, known, marks);
-    Admission { ok, credit }
+    Admission { ok, credit, rest }
 }
 
 // How far a page is filled, and what may still be spent on marking.
@@ -390,7 +403,7 @@ pub fn list_set(
     if !a.ok {
         return Filled { at, credit };
     }
-    let r = page::list_views(words, ranks, index, task, t, after, out, at);
+    let r = page::list_views(words, ranks, index, task, t, a.rest, after, out, at);
     Filled { at: r, credit }
 }
 

@@ -75,12 +75,12 @@ settle-returns-2 : (t : ℕ) → settle-lts.Need-returns-2 (settle-callees t) (s
 settle-returns-2 t c = settle-open _ _ _ _ _ _ _ _ _ (search needs) (c .before .before .values .ensures)
 
 values-returns : (t : ℕ) → values-lts.Need-returns (values-callees t) (values-at t) values.Post
-values-returns t c = try-none _ _ _ _ _ _ _ _ (c .before .before .before .before .pre .1 .0) (c .before .before .before .before .pre .1 .1) (search needs)
+values-returns t c = try-none _ _ _ _ _ _ _ _ (c .before .before .before .before .pre .1 .0) (search needs)
 
 values-returns-2 : (t : ℕ) → values-lts.Need-returns-2 (values-callees t) (values-at t) values.Post
 values-returns-2 t c =
     let pre = c .before .before .before .before .before .before .before .pre in
-    try-full _ _ _ _ _ _ _ _ (pre .1 .0) (pre .1 .1) (search needs)
+    try-full _ _ _ _ _ _ _ _ (pre .1 .0) (search needs)
 
 values-sub-branch-of : (t : ℕ) → values-lts.Need-sub-branch-of (values-callees t) (values-at t) values.Post
 values-sub-branch-of t c = omega (arith, c .before .before .before .before .before .before .before .pre .1 .1)
@@ -91,7 +91,7 @@ values-sub-branch-of-2 t c = omega (arith, c .before .before .before .before .be
 values-branch-of-requires : (t : ℕ) → values-lts.Need-branch-of-requires (values-callees t) (values-at t) values.Post
 values-branch-of-requires t c κs =
     let pre = c .before .before .before .before .before .before .before .pre in
-    (branch-ready _ _ _ _ 0 _ _ _ (pre .1 .0) (pre .1 .1) _ (omega (arith, pre .1 .2, c .before .before .before .if1 .left)), pre .1 .3)
+    (branch-ready _ _ _ _ _ _ (pre .1 .0) (pre .1 .1) _ (omega (arith, pre .1 .2, c .before .before .before .if1 .left)), pre .1 .3)
 
 values-enum-told : (t : ℕ) → values-lts.Need-enum-told (values-callees t) (values-at t) values.Post
 values-enum-told t c = search needs
@@ -116,8 +116,7 @@ values-sub-settle t c = omega (arith, c .before .before .before .before .before 
 values-settle-requires : (t : ℕ) → values-lts.Need-settle-requires (values-callees t) (values-at t) values.Post
 values-settle-requires t c κs =
     let pre = c .before .before .before .before .before .before .before .before .before .before .before .before .before .pre in
-    let if1 = c .before .before .before .before .before .before .before .before .before .if1 in
-    (omega (arith, pre .0, pre .1 .1), (child-ready _ _ _ _ _ _ _ _ (pre .1 .0) (pre .1 .1) (if1 .left) _ (c .before .before .before .before .before .branch-of .ensures) _ (search needs), omega (arith, c .before .before .before .before .before .before .if2 .left), pre .1 .3))
+    (omega (arith, pre .0, pre .1 .1), (child-ready _ _ _ _ _ _ (pre .1 .0), omega (arith, c .before .before .before .before .before .before .if2 .left), pre .1 .3))
 
 values-sub-values-2 : (t : ℕ) → values-lts.Need-sub-values-2 (values-callees t) (values-at t) values.Post
 values-sub-values-2 t c = omega (arith, c .before .before .before .before .before .before .before .before .before .before .before .before .if1 .left)
@@ -127,7 +126,7 @@ values-values-requires-2 t c κs =
     let pre = c .before .before .before .before .before .before .before .before .before .before .before .before .before .before .before .before .before .pre in
     let if1 = c .before .before .before .before .before .before .before .before .before .before .before .before .before .if1 in
     let settled = c .before .before .before .settle in
-    (omega (arith, pre .0, if1 .left), (ready-again _ _ _ _ _ _ _ _ _ (pre .1 .0) (settled .kept .1 .1 .1 .1 .1 .1 .0) (settled .ensures .most), pre .1 .1, omega (arith, pre .1 .2), pre .1 .3))
+    (omega (arith, pre .0, if1 .left), (ready-again _ _ _ _ _ _ _ _ (pre .1 .0) (settled .kept .1 .1 .1 .1 .1 .1 .0) (settled .ensures .most), pre .1 .1, omega (arith, pre .1 .2), pre .1 .3))
 
 values-same-length : (t : ℕ) → values-lts.Need-same-length (values-callees t) (values-at t) values.Post
 values-same-length t c = search needs
@@ -136,7 +135,7 @@ values-returns-3 : (t : ℕ) → values-lts.Need-returns-3 (values-callees t) (v
 values-returns-3 t c =
     let pre = c .before .before .before .before .before .before .before .before .before .before .before .before .before .before .pre in
     let if1 = c .before .before .before .before .before .before .before .before .before .before .if1 in
-    try-cut _ _ _ _ _ _ _ _ (pre .1 .0) (pre .1 .1) (if1 .left) _ (c .before .before .before .before .before .before .branch-of .ensures) (search needs) _ _ (c .before .before .values .ensures)
+    try-cut _ _ _ _ _ _ _ _ (pre .1 .0) (if1 .left) _ (c .before .before .before .before .before .before .branch-of .ensures) (search needs) _ _ (c .before .before .values .ensures)
 
 values-same-length-2 : (t : ℕ) → values-lts.Need-same-length-2 (values-callees t) (values-at t) values.Post
 values-same-length-2 t c = search needs
@@ -146,7 +145,7 @@ values-returns-4 t c =
     let pre = c .before .before .before .before .before .before .before .before .before .before .before .before .before .before .before .before .before .before .before .before .pre in
     let if1 = c .before .before .before .before .before .before .before .before .before .before .before .before .before .before .before .before .if1 in
     let branch = c .before .before .before .before .before .before .before .before .before .before .before .before .branch-of in
-    try-open _ _ _ _ _ _ _ _ (pre .1 .0) (pre .1 .1) (if1 .left) _ (branch .ensures) _ (search needs) _ _ _ _ (c .before .before .before .before .before .before .settle .ensures) (c .before .before .values2 .ensures)
+    try-open _ _ _ _ _ _ _ _ (pre .1 .0) (if1 .left) _ (branch .ensures) _ (search needs) _ _ _ _ (c .before .before .before .before .before .before .settle .ensures) (c .before .before .values2 .ensures)
 
 pub +settle+values-spec : {M : Type 1} → statement M
 +settle+values-spec = close μ-settle μ-values (λ t. settle-lts.spec (settle-callees t)

@@ -7,7 +7,7 @@ admits-requires : tie.Need-admits-requires
 admits-requires c κs = search needs
 
 returns : tie.Need-returns
-returns c = set-refused _ _ _ _ _ _ _ _ _ _ _ (c .before .before .admits .ensures) _ (search needs) (c .before .before .before .before .before .before .before .pre .0 .place)
+returns c = set-refused _ _ _ _ _ _ _ _ _ _ _ (c .before .before .admits .ensures .0) _ (search needs) (c .before .before .before .before .before .before .before .pre .0 .place)
 
 list-views-requires : tie.Need-list-views-requires
 list-views-requires c κs = search needs
@@ -16,7 +16,7 @@ same-length : tie.Need-same-length
 same-length c = search needs
 
 returns-2 : tie.Need-returns-2
-returns-2 c = set-listed _ _ _ _ _ _ _ _ _ _ _ (c .before .before .before .before .before .before .admits .ensures) _ (search needs) _ _ (c .before .before .list-views .ensures)
+returns-2 c = set-listed _ _ _ _ _ _ _ _ _ _ _ (c .before .before .before .before .before .before .admits .ensures .0) _ (search needs) _ (c .before .before .before .before .before .before .admits .ensures .1) _ _ (c .before .before .list-views .ensures)
 
 pub list-set-spec : {M : Type 1} → statement M
 list-set-spec =

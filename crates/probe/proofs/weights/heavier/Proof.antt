@@ -1,5 +1,5 @@
-use Prim.Native.Nat.{_-_, _≤_}
 use borrow.Author.Needs.{needs}
+use Prim.Native.Nat.{_-_, _≤_}
 use Rattle.probe.proofs.weights.heavier.Statement.{statement}
 use Rattle.probe.proofs.weights.heavier.Tie as tie
 
@@ -18,14 +18,11 @@ low-requires c κs = search needs
 returns : tie.Need-returns Inv-loop μ-loop
 returns c = search needs
 
-add-at : tie.Need-add-at Inv-loop μ-loop
-add-at c = search needs
+add-better : tie.Need-add-better Inv-loop μ-loop
+add-better c = search needs
 
-mul-better : tie.Need-mul-better Inv-loop μ-loop
-mul-better c = search needs
-
-element-copy-out-better : tie.Need-element-copy-out-better Inv-loop μ-loop
-element-copy-out-better c = search needs
+score-requires : tie.Need-score-requires Inv-loop μ-loop
+score-requires c κs = search needs
 
 better-requires : tie.Need-better-requires Inv-loop μ-loop
 better-requires c κs = search needs
@@ -54,9 +51,8 @@ heavier-spec =
     loop-holds
     low-requires
     returns
-    add-at
-    mul-better
-    element-copy-out-better
+    add-better
+    score-requires
     better-requires
     cleared-requires
     add-j
