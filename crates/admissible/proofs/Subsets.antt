@@ -10,6 +10,7 @@ use native.Mathlib.Omega.{arith}
 use lib.Bits.{bitAnd, bitXor}
 use borrow.Author.Count.{below-more}
 use Rattle.logic.specs.Tests.{Decides}
+use Rattle.logic.proofs.Decide.{reworded}
 use Rattle.sets.specs.declared.Pair.{Pair}
 use Rattle.sets.specs.Sets.{bitOf, Within, Apart, without}
 use Rattle.sets.proofs.Digits.{bit-lt, bit-over, bit-without, lt-or-le}
@@ -19,12 +20,12 @@ use Rattle.sets.proofs.Pairs.{sub-trans}
 use Rattle.masks.specs.declared.Bounds.{Bounds}
 use Rattle.masks.specs.Views.{MaskView}
 use Rattle.masks.proofs.Booleans.{refused, granted, decides-true, decides-false}
-use Rattle.bounds.specs.Sound.{In}
+use Rattle.bounds.specs.Sound.{In, Propagated}
 use Rattle.bounds.proofs.Singles.{shifted}
 use Rattle.probe.specs.declared.Answer.{Answer}
 use Rattle.probe.specs.declared.Answer.the-variants.{Found, Nothing}
 use Rattle.probe.specs.Probes.{Probed}
-use Rattle.admissible.specs.Admissible.{belowOf, Minimal, MinimalAt}
+use Rattle.admissible.specs.Admissible.{belowOf, beneathOf, Minimal, MinimalAt}
 
 -- The bounds as the code makes them.
 pub below-is : (root : Bounds) (taken e : ℕ) → e < 64 → _≡_ {A = Bounds} (record {
@@ -40,6 +41,10 @@ lacks v e z = ⊎-elim (λ f. absurd (let q = single-has e v f in omega arith)) 
 module _ (ws : List ℕ) (n : ℕ) (ranks : List ℕ) (root : Bounds) (taken e : ℕ) where
   pub minimal-absent : bitOf taken e ≡ 0 → Decides true (MinimalAt ws n ranks root taken e)
   minimal-absent z = decides-true (record { has = λ v w x f. omega arith })
+
+  -- Every view within root has e.
+  pub minimal-sure : bitOf (root .lo .taken) e ≡ 1 → Decides true (MinimalAt ws n ranks root taken e)
+  minimal-sure z = decides-true (record { has = λ v w x f. omega (arith, x .lo .taken e, bit-lt taken e) })
 
   module _ (b : Bounds) (eb : b ≡ belowOf root taken e) (a : Answer) (p : Probed ws n ranks b a) where
     -- A view that is found has a subset of taken that lacks e.
@@ -80,3 +85,28 @@ module _ (ws : List ℕ) (n : ℕ) (ranks : List ℕ) (root : Bounds) (taken e :
   pub minimal-won : taken < 2 ^ 64 → 64 ≤ e → MinimalTo ws n ranks root taken e → Decides true (Minimal ws n ranks root taken)
   minimal-won h g f =
       decides-true (record { has = λ v w x s i. ⊎-elim (λ l. f i (omega arith) .has v w x s) (λ l. omega (arith, bit-over taken 64 i h l)) (lt-or-le i 64) })
+
+-- ---- what all subsets have in common
+pub beneath-is : (root : Bounds) (taken : ℕ) → _≡_ {A = Bounds} (record { lo = root .lo; hi = record { taken = bitAnd (root .hi .taken) taken; held = root .hi .held; denied = root .hi .denied } }) (beneathOf root taken)
+unfolding beneathOf
+beneath-is root taken = refl
+
+-- The views that matter are within the bounds that are left, and what is within these is within root.
+pub minimal-beneath : (ws : List ℕ) (n : ℕ) (ranks : List ℕ) (root : Bounds) (taken : ℕ) (b o : Bounds) (r : Bool) → b ≡ beneathOf root taken → Propagated ws n ranks b o
+    → Decides r (Minimal ws n ranks o taken) → Decides r (Minimal ws n ranks root taken)
+unfolding beneathOf
+minimal-beneath ws n ranks root taken b o r eb p0 d =
+    let p : Propagated ws n ranks (beneathOf root taken) o = rw eb at p0 in
+    reworded d
+    (λ m. record {
+      has = λ v w x f. m .has v w (p .keeps .kept v w (record {
+        lo = x .lo;
+        hi = record { held = x .hi .held; denied = x .hi .denied; taken = N.sub-and _ _ _ (x .hi .taken) f };
+      })) f;
+    })
+    (λ m. record {
+      has = λ v w x f. m .has v w (record {
+        lo = sub-trans (p .lo) (x .lo);
+        hi = sub-trans (sub-trans (x .hi) (p .hi)) (record { held = λ i. le-refl _; denied = λ i. le-refl _; taken = N.and-l _ _ });
+      }) f;
+    })

@@ -17,6 +17,13 @@ belowOf root taken e = record {
   hi = record { taken = bitAnd (root .hi .taken) (without taken (2 ^ e)); held = root .hi .held; denied = root .hi .denied };
 }
 
+-- The bounds root with no exceptions but those of taken.
+unfoldable pub beneathOf : Bounds → ℕ → Bounds
+beneathOf root taken = record {
+  lo = root .lo;
+  hi = record { taken = bitAnd (root .hi .taken) taken; held = root .hi .held; denied = root .hi .denied };
+}
+
 -- No view within root has a proper subset of taken; the same of the subsets that lack the exception at place e.
 pub record Minimal (ws : List ℕ) (n : ℕ) (ranks : List ℕ) (root : Bounds) (taken : ℕ) : Type 0 where
   pub has : (v : Pair) → MaskView ws n ranks v → In root v → Within (v .taken) taken → Within taken (v .taken)

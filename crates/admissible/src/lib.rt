@@ -4,11 +4,12 @@ ghost use Prim.Native.Nat.{_*_, _<_, _≤_};
 ghost use lib.ListN.{length};
 ghost use Rattle.logic.specs.Tests.{Decides};
 ghost use Rattle.queue.specs.Chains.{Chains};
-ghost use Rattle.admissible.specs.Admissible.{belowOf, Minimal, MinimalAt, Undominated, UndominatedAt, Admissible};
+ghost use Rattle.admissible.specs.Admissible.{belowOf, beneathOf, Minimal, MinimalAt, Undominated, UndominatedAt, Admissible};
 use masks::Bounds;
 use probe::Answer;
 use queue::index;
 use queue::index::Index;
+use queue::waiting::Waiting;
 use sets::Pair;
 
 // The bounds root with no exceptions but those of `taken`, the one at place e left out.
@@ -27,12 +28,13 @@ pub fn below(root: Bounds, taken: u64, e: u64) -> Bounds
     }
 }
 
-// No view within root has a subset of `taken` that lacks its exception at place e.
+// No view within root has a subset of `taken` that lacks its exception at place e. The bounds root are at rest with these live rules.
 pub fn minimal_at(
     words: &[u64],
     n: usize,
     ranks: &[u64],
     index: &Index,
+    live: Waiting,
     root: Bounds,
     taken: u64,
     e: u64,
@@ -43,8 +45,11 @@ pub fn minimal_at(
     if (taken >> e) % 2 == 0 {
         return true;
     }
+    if (root.lo.taken >> e) % 2 == 1 {
+        return true;
+    }
     let b = below(root, taken, e);
-    let t = index::changed(index, root, b);
+    let t = index::among(index, live, root, b);
     let a = probe::probe(words, n, ranks, index, t, b);
     match a {
         Answer::Found(_) => false,
@@ -52,7 +57,45 @@ pub fn minimal_at(
     }
 }
 
-// No view within root has a proper subset of `taken`.
+// No view within root has a proper subset of `taken`: for each member there is none without it.
+pub fn each_needed(
+    words: &[u64],
+    n: usize,
+    ranks: &[u64],
+    index: &Index,
+    live: Waiting,
+    root: Bounds,
+    taken: u64,
+) -> bool
+    requires { ⌜ (n * 8 ≤ length (now words)) × (length (now ranks) ≤ 64) × Chains (now words) n (now index) ⌝ }
+    ensures { λ r. ⌜ Decides r (Minimal (now (words .entry)) n (now (ranks .entry)) root taken) ⌝ }
+{
+    let mut e: u64 = 0;
+    while e < 64 {
+        if !minimal_at(words, n, ranks, index, live, root, taken, e) {
+            return false;
+        }
+        e += 1;
+    }
+    true
+}
+
+// The bounds root with no exceptions but those of `taken`.
+pub fn beneath(root: Bounds, taken: u64) -> Bounds
+    ensures { λ b. ⌜ b ≡ beneathOf root taken ⌝ }
+{
+    let lo = root.lo;
+    Bounds {
+        lo,
+        hi: Pair {
+            taken: root.hi.taken & taken,
+            held: root.hi.held,
+            denied: root.hi.denied,
+        },
+    }
+}
+
+// No view within root has a proper subset of `taken`. What all subsets have in common is found first, once for all members.
 pub fn minimal(
     words: &[u64],
     n: usize,
@@ -64,14 +107,9 @@ pub fn minimal(
     requires { ⌜ (n * 8 ≤ length (now words)) × (length (now ranks) ≤ 64) × Chains (now words) n (now index) ⌝ }
     ensures { λ r. ⌜ Decides r (Minimal (now (words .entry)) n (now (ranks .entry)) root taken) ⌝ }
 {
-    let mut e: u64 = 0;
-    while e < 64 {
-        if !minimal_at(words, n, ranks, index, root, taken, e) {
-            return false;
-        }
-        e += 1;
-    }
-    true
+    let b = beneath(root, taken);
+    let rest = queue::propagate(words, n, ranks, index, index::changed(index, root, b), b);
+    each_needed(words, n, ranks, index, rest.live, rest.bounds, taken)
 }
 
 // No view within root takes the exception at place a, if that outranks a member of `taken`.

@@ -1,47 +1,24 @@
-use Prim.Native.Nat.{_-_, _≤_}
-use native.Mathlib.Omega.{arith}
+use Rattle.admissible.proofs.Subsets.{minimal-beneath}
 use borrow.Author.Needs.{needs}
-use Rattle.admissible.proofs.Subsets.{MinimalTo, minimal-lost, minimal-turn, minimal-won}
 use Rattle.admissible.proofs.minimal.Statement.{statement}
 use Rattle.admissible.proofs.minimal.Tie as tie
 
-abbrev Inv-loop : tie.InvT-loop
-Inv-loop words n ranks index root taken e₀ e = (e ≤ 64) × MinimalTo words n ranks root taken e
+beneath-requires : tie.Need-beneath-requires
+beneath-requires c κs = search needs
 
-abbrev μ-loop : tie.MeasureT-loop
-μ-loop words n ranks index root taken e₀ e = 64 - e
+changed-requires : tie.Need-changed-requires
+changed-requires c κs = search needs
 
-loop-holds : tie.Need-loop-holds Inv-loop μ-loop
-loop-holds c = (omega arith, λ j h. absurd (omega arith))
+propagate-requires : tie.Need-propagate-requires
+propagate-requires c κs = search needs
 
-minimal-at-requires : tie.Need-minimal-at-requires Inv-loop μ-loop
-minimal-at-requires c κs = search needs
+each-needed-requires : tie.Need-each-needed-requires
+each-needed-requires c κs = search needs
 
-returns : tie.Need-returns Inv-loop μ-loop
-returns c = minimal-lost _ _ _ _ _ (c .before .before .before .loop .e) _ (c .before .minimal-at .ensures) (search needs)
-
-add-e : tie.Need-add-e Inv-loop μ-loop
-add-e c = search needs
-
-loop-less : tie.Need-loop-less Inv-loop μ-loop
-loop-less c = search needs
-
-loop-again : tie.Need-loop-again Inv-loop μ-loop
-loop-again c = (omega arith, minimal-turn _ _ _ _ _ (c .before .before .before .loop .e) _ (c .before .minimal-at .ensures) (c .before .before .before .loop .inv .1) (search needs))
-
-returns-2 : tie.Need-returns-2 Inv-loop μ-loop
-returns-2 c = minimal-won _ _ _ _ _ (c .before .loop .e) (c .before .before .before .before .fits .taken .fits) (search needs) (c .before .loop .inv .1)
+returns : tie.Need-returns
+returns c = minimal-beneath _ _ _ _ _ _ _ _ (c .before .before .before .beneath .ensures) (c .before .propagate .ensures) (c .each-needed .ensures)
 
 pub minimal-spec : {M : Type 1} → statement M
 minimal-spec =
     tie.close
-    (tie.spec
-    Inv-loop
-    μ-loop
-    loop-holds
-    minimal-at-requires
-    returns
-    add-e
-    loop-less
-    loop-again
-    returns-2)
+    (tie.spec beneath-requires changed-requires propagate-requires each-needed-requires returns)

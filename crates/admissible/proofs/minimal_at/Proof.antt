@@ -1,4 +1,4 @@
-use Rattle.admissible.proofs.Subsets.{minimal-absent, minimal-found, minimal-none}
+use Rattle.admissible.proofs.Subsets.{minimal-absent, minimal-sure, minimal-found, minimal-none}
 use borrow.Author.Needs.{needs}
 use Rattle.admissible.proofs.minimal_at.Statement.{statement}
 use Rattle.admissible.proofs.minimal_at.Tie as tie
@@ -9,11 +9,17 @@ shr-if1 c = search needs
 returns : tie.Need-returns
 returns c = minimal-absent _ _ _ _ _ _ (search needs)
 
+shr-if2 : tie.Need-shr-if2
+shr-if2 c = search needs
+
+returns-2 : tie.Need-returns-2
+returns-2 c = minimal-sure _ _ _ _ _ _ (search needs)
+
 below-requires : tie.Need-below-requires
 below-requires c κs = search needs
 
-changed-requires : tie.Need-changed-requires
-changed-requires c κs = search needs
+among-requires : tie.Need-among-requires
+among-requires c κs = search needs
 
 probe-requires : tie.Need-probe-requires
 probe-requires c κs = search needs
@@ -24,11 +30,11 @@ enum-told c = search needs
 enum-told-2 : tie.Need-enum-told-2
 enum-told-2 c = search needs
 
-returns-2 : tie.Need-returns-2
-returns-2 c = minimal-found _ _ _ _ _ _ _ (c .before .before .before .before .below .ensures) _ (c .before .before .probe .ensures) (c .enum-told .given .0 .0) (search needs) (c .enum-told .given .1)
-
 returns-3 : tie.Need-returns-3
-returns-3 c = minimal-none _ _ _ _ _ _ _ (c .before .before .before .before .below .ensures) _ (c .before .before .probe .ensures) (search needs)
+returns-3 c = minimal-found _ _ _ _ _ _ _ (c .before .before .before .before .below .ensures) _ (c .before .before .probe .ensures) (c .enum-told .given .0 .0) (search needs) (c .enum-told .given .1)
+
+returns-4 : tie.Need-returns-4
+returns-4 c = minimal-none _ _ _ _ _ _ _ (c .before .before .before .before .below .ensures) _ (c .before .before .probe .ensures) (search needs)
 
 pub minimal-at-spec : {M : Type 1} → statement M
 minimal-at-spec =
@@ -36,10 +42,12 @@ minimal-at-spec =
     (tie.spec
     shr-if1
     returns
+    shr-if2
+    returns-2
     below-requires
-    changed-requires
+    among-requires
     probe-requires
     enum-told
     enum-told-2
-    returns-2
-    returns-3)
+    returns-3
+    returns-4)
