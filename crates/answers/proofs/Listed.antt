@@ -3,7 +3,7 @@
 use mathlib.Core.Path.{_≡_, refl}
 use mathlib.Core.List.{List}
 use mathlib.Core.Logic.{_⊎_, inl, inr, ⊎-elim}
-use Prim.Native.Nat.{ℕ, _<_}
+use Prim.Native.Nat.{ℕ, zero, suc, _<_}
 use native.Mathlib.Omega.{arith}
 use lib.IntN.{ℤ}
 use Rattle.sets.specs.declared.Pair.{Pair}
@@ -19,6 +19,17 @@ use Rattle.meaning.specs.Twins.Next.{nextFrom}
 use Rattle.meaning.proofs.Refusals.{lawful-or-refused, refusal-one}
 use Rattle.meaning.proofs.Demand3.{demand3-by-equality}
 use Rattle.answers.specs.Operations.{onText, unless, firstAnswer, afterAnswer, asks}
+
+-- A number that is not 0 is answered as a refusal.
+pub unless-other : {A : Type 0} (down : ℕ → ℕ → A) (k : ℕ) (x : A) → (k ≡ 0 → ⊥) → unless down k x ≡ down k 0
+unfolding unless
+unless-other down zero x n = absurd (n refl)
+unless-other down (suc k) x n = refl
+
+-- With number 0 the rest is answered.
+pub unless-none : {A : Type 0} (down : ℕ → ℕ → A) (k : ℕ) (x : A) → k ≡ 0 → unless down k x ≡ x
+unfolding unless
+unless-none down k x e = rw e refl
 
 -- A pair's refusal is answered.
 pub unless-refused : {A : Type 0} (down : ℕ → ℕ → A) (b : Book) (p : Pair) (k : ℕ) (x : A) → PairRefused b p k → unless down k x ≡ down k 0

@@ -1,6 +1,6 @@
 -- The preferences of accepted rows name exceptions of the book.
 -- By induction on the P rows; the book has as many exceptions as its shape says.
-use mathlib.Core.Path.{_≡_, refl, ap}
+use mathlib.Core.Path.{_≡_}
 use mathlib.Core.List.{List}
 use Prim.Native.Nat.{ℕ, zero, suc, _+_, _*_, _<_}
 use native.Mathlib.Omega.{arith}
@@ -8,19 +8,11 @@ use lib.IntN.{ℤ}
 use lib.ListN.{length}
 use Rattle.logic.specs.Lists.{Every}
 use Rattle.book.specs.declared.Shape.{Shape}
-use Rattle.book.specs.Kinds.{ruleFields, preferenceFields}
-use Rattle.meaning.specs.Meant.{at, number, rulesAt, preferencesAt, bookOf}
+use Rattle.book.specs.Kinds.{preferenceFields}
+use Rattle.meaning.specs.Meant.{at, number, preferencesAt, bookOf}
+use Rattle.meaning.proofs.Meant.{exceptions-count}
 use Rattle.bridge.specs.Ranks.{Names, Named}
 use Rattle.bridge.specs.Rows.{preferencesFrom, RowsLawful}
-
-rules-length : (t : List ℤ) (k m : ℕ) → length (rulesAt t k m) ≡ m
-unfolding rulesAt
-rules-length t k zero = refl
-rules-length t k (suc m) = ap suc (rules-length t (k + ruleFields) m)
-
-pub exceptions-count : (s : Shape) (t : List ℤ) → length (bookOf s t .exceptions) ≡ s .exceptions
-unfolding bookOf
-exceptions-count s t = rules-length t (s .plain * ruleFields) (s .exceptions)
 
 -- What holds of both numbers of each P row holds of both numbers of each preference.
 every-preference : (P : ℕ → Type 0) (t : List ℤ) (k m : ℕ) → ((j : ℕ) → j < m → (i : ℕ) → i < preferenceFields → P (number (at t (k + j * preferenceFields + i))))

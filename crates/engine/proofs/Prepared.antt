@@ -2,17 +2,18 @@
 -- the front of the one list of all later resolutions.
 use mathlib.Core.Path.{_≡_, refl, sym, ap, _∙_}
 use mathlib.Core.List.{List, [], _∷_, _++_}
-use Prim.Native.Nat.{ℕ, zero, suc, _+_, _-_, _*_, _/_, _<_, _≤_}
+use Prim.Native.Nat.{ℕ, zero, suc, _-_, _*_, _/_, _<_, _≤_}
 use native.Mathlib.Nat.{le-trans, div-mul-le-self}
 use native.Mathlib.Omega.{arith}
 use lib.IntN.{ℤ}
 use lib.ListN.{length, take, drop, length-take}
-use lib.Seq.{sets, sets-eq}
+use lib.Seq.{sets}
 use Rattle.sets.specs.declared.Pair.{Pair}
 use Rattle.sets.specs.Pairs.{flat}
 use Rattle.book.specs.declared.Shape.{Shape}
 use Rattle.book.specs.Limits as limit
 use Rattle.text.specs.Reading.{over}
+use Rattle.text.proofs.Lent.{over-sets}
 use Rattle.masks.specs.declared.Bounds.{Bounds}
 use Rattle.bounds.specs.Sound.{Propagated}
 use Rattle.page.specs.declared.Task.{Task}
@@ -22,10 +23,10 @@ use Rattle.meaning.specs.Books.{Book, Lawful}
 use Rattle.meaning.specs.Meant.{bookOf}
 use Rattle.meaning.specs.Order.{Point, start, at, LawfulPoint, AllLater}
 use Rattle.meaning.specs.Twins.Next.{pageFrom}
+use Rattle.meaning.proofs.Meant.{exceptions-count}
 use Rattle.meaning.proofs.Pages.{page-is}
 use Rattle.bridge.specs.Roots.{rootOf}
 use Rattle.bridge.specs.Rows.{ruleCount}
-use Rattle.bridge.proofs.Rows.{exceptions-count}
 use Rattle.resolution.specs.Rooted.{Rooted}
 use Rattle.resolution.proofs.Resolutions.{rooted}
 use Rattle.judge.specs.Judged.{Judged}
@@ -37,11 +38,6 @@ root-is s ws ranks b o e p = record { rooted = λ rows l. rooted (bookOf s rows)
 
 pub verdict-is : (s : Shape) (ws ranks : List ℕ) (root : Bounds) (p : Pair) (r : ℕ) → RootIs s ws ranks root → Judged ws (ruleCount s) ranks root p r → VerdictIs s ws ranks p r
 verdict-is s ws ranks root p r i j = record { is = λ rows l w. j .is (bookOf s rows) (i .rooted rows l) w }
-
--- A slice with a list stored from its start.
-front : (xs o : List ℕ) → length xs ≤ length o → sets o 0 xs ≡ over o xs
-unfolding over
-front xs o h = let e : 0 + length xs ≡ length xs = omega arith in rw e at (sets-eq xs o 0 (rw e h))
 
 -- A page of the front of the list of all later resolutions.
 module _ (b : Book) (from : Point) (o o′ : List ℕ) (r k : ℕ) (ek : k ≡ length o / 3) (zs : List Pair) (a : AllLater b from zs) (l : LawfulPoint b from) (g : Page k 0 o o′ zs r) where
@@ -57,7 +53,7 @@ module _ (b : Book) (from : Point) (o o′ : List ℕ) (r k : ℕ) (ek : k ≡ l
       let f : o′ ≡ sets o 0 (flat (pageFrom b (length o / 3) from)) = rw (same, z) at (g .filled) in
       let n = flat-length (pageFrom b (length o / 3) from) in
       let t : length (pageFrom b (length o / 3) from) ≤ length o / 3 = rw (page-is b (length o / 3) from zs l a) (let m = length-take (length o / 3) zs in omega arith) in
-      f ∙ front (flat (pageFrom b (length o / 3) from)) o (omega (arith, div-mul-le-self (length o) 3))
+      f ∙ over-sets o (flat (pageFrom b (length o / 3) from)) (omega (arith, div-mul-le-self (length o) 3))
 
 module _ (s : Shape) (ws ranks : List ℕ) (root : Bounds) (q : Task) (i : RootIs s ws ranks root) (er : q .rules ≡ ruleCount s) (es : q .statements ≡ s .statements) where
   serves : (rows : List ℤ) → Loaded s rows ws ranks → Serves (bookOf s rows) ws ranks root q

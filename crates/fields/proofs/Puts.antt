@@ -2,7 +2,7 @@
 -- The loop over numbers: what is left to put, from here, gives the final buffer.
 use mathlib.Core.Path.{_≡_, refl, sym, ap, _∙_}
 use mathlib.Core.Bool.{Bool, true, false}
-use mathlib.Core.List.{List, [], _∷_, _++_}
+use mathlib.Core.List.{List, _∷_}
 use Prim.Native.Nat.{ℕ, zero, suc, _+_, _-_, _*_, _<_, _≤_}
 use native.Mathlib.Nat.{add-zero}
 use native.Mathlib.Numerals.{add-one}
@@ -16,6 +16,7 @@ use mir.Val.{toZ, ofZ, SFits}
 use mir.Facts.{toZ-ofZ}
 use borrow.Author.Needs.{sfits-of}
 use borrow.Author.Tests.{ltb-true}
+use Rattle.logic.proofs.Stores.{sets-append}
 use Rattle.text.specs.Fields.{columnOf, columns, written, writtenAll}
 use Rattle.text.proofs.Fields.{field-length}
 use Rattle.fields.specs.Short.{isShort, allShort}
@@ -52,10 +53,6 @@ plus-is (pos m) h e = (m, back-same (pos m) (omega arith), h, refl)
 plus-is (negsuc m) h e = absurd (let z : true ≡ false = rw (back-same (negsuc m) (omega arith)) at e in let y : _≡_ {A = ℕ} 0 1 = cc in omega arith)
 
 -- ---- a run of fields
-pub sets-append : (a b l : List ℕ) (i : ℕ) → sets l i (a ++ b) ≡ sets (sets l i a) (i + length a) b
-sets-append [] b l i = rw add-zero
-sets-append (x ∷ a) b l i = let e : i + suc (length a) ≡ suc i + length a = omega arith in rw e (sets-append a b (set l i x) (suc i))
-
 first-of : (t : List ℤ) (from w : ℕ) → 0 < w → from + w ≤ length t → take w (drop from t) ≡ getD t from (pos 0) ∷ take (w - 1) (drop (suc from) t)
 first-of t from zero h g = absurd (omega arith)
 first-of t from (suc w) h g = let e : suc w - 1 ≡ w = omega arith in rw (drop-cons t from (pos 0) (omega arith), e)

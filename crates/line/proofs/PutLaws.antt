@@ -10,13 +10,13 @@ use lib.IntN.{pos}
 use lib.ListN.{length, take, set, replicate, length-append, length-map, length-replicate}
 use lib.Seq.{sets, length-sets, take-append-add}
 use Rattle.logic.specs.Tests.{pick, keep, consIf}
+use Rattle.logic.proofs.Stores.{sets-append}
 use Rattle.sets.specs.Sets.{member, size, sizeTo}
 use Rattle.sets.specs.declared.Pair.{Pair}
 use Rattle.book.specs.Limits as limit
 use Rattle.text.specs.Fields.{columns, written, writtenAll}
 use Rattle.text.specs.ALines.{from, takenFields, mark, aLine}
 use Rattle.text.proofs.Lines.{fields-length}
-use Rattle.fields.proofs.Puts.{sets-append}
 use Rattle.line.specs.Parts.{fieldsOf, takenOf, lineBytes}
 
 -- ---- fields of numbers

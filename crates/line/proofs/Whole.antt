@@ -1,17 +1,15 @@
 -- What each return of Line is by its definition: the text's refusal, the pair's, 15, or the line in front of the lent slice.
 use mathlib.Core.Path.{_≡_, refl, sym, ap, _∙_}
 use mathlib.Core.List.{List}
-use Prim.Native.Nat.{ℕ, zero, suc, _+_, _*_, _<_, _≤_}
-use native.Mathlib.Nat.{zero-add}
+use Prim.Native.Nat.{ℕ, _<_, _≤_}
 use native.Mathlib.Omega.{arith}
 use lib.IntN.{ℤ}
 use lib.ListN.{length, take, drop, length-append}
-use lib.Seq.{sets, sets-eq, take-at, length-take-le}
+use lib.Seq.{sets, take-at, length-take-le}
 use borrow.Author.Tests.{lt-ltb, le-ltb}
 use Rattle.logic.specs.Tests.{pick}
 use Rattle.sets.specs.declared.Pair.{Pair}
 use Rattle.book.specs.declared.Shape.{Shape}
-use Rattle.book.specs.Kinds.{ruleFields}
 use Rattle.text.specs.declared.Refusal.{Refusal}
 use Rattle.text.specs.declared.Reading.{Reading}
 use Rattle.text.specs.declared.Reading.the-variants.{Accepted, Refused}
@@ -21,32 +19,20 @@ use Rattle.text.specs.Reading.{readText, over}
 use Rattle.text.specs.Reading.Outcome.{accepted, refused}
 use Rattle.text.specs.Accepted.{rowNumbers}
 use Rattle.text.specs.ALines.{aLine}
+use Rattle.text.proofs.Lent.{over-sets}
 use Rattle.read.specs.Storing.{outcomeOf}
 use Rattle.read.specs.Parsing.{Parsing}
-use Rattle.meaning.specs.Meant.{rulesAt, bookOf}
+use Rattle.meaning.specs.Meant.{bookOf}
 use Rattle.meaning.specs.Twins.Verdicts.{pairRefusal}
+use Rattle.meaning.proofs.Meant.{exceptions-count}
 use Rattle.answers.specs.Operations.{Told, told, turned, lengthOf, counted, onText, unless, roomFor, lineAnswer, left}
+use Rattle.answers.proofs.Listed.{unless-other, unless-none}
 use Rattle.lawful.specs.Refusals.{Refuses}
 use Rattle.line.specs.Parts.{lineBytes}
 use Rattle.line.specs.Promise.{Met, partOf, partLength}
 use Rattle.line.proofs.PutLaws.{line-length}
 
--- ---- the lent slice
--- Bytes stored from the front on are in front of the rest.
-over-sets : (l vs : List ℕ) → length vs ≤ length l → sets l 0 vs ≡ over l vs
-unfolding over
-over-sets l vs h = sets-eq vs l 0 (omega arith) ∙ rw zero-add
-
 -- ---- the book of an accepted text
-rules-length : (t : List ℤ) (k m : ℕ) → length (rulesAt t k m) ≡ m
-unfolding rulesAt
-rules-length t k zero = refl
-rules-length t k (suc m) = ap suc (rules-length t (k + ruleFields) m)
-
-exceptions-count : (s : Shape) (t : List ℤ) → length (bookOf s t .exceptions) ≡ s .exceptions
-unfolding bookOf
-exceptions-count s t = rules-length t (s .plain * ruleFields) (s .exceptions)
-
 pub few-statements : (bs : List ℕ) (r : Reading) (rows : List ℤ) (s : Shape) → Parsing bs r rows → r ≡ Accepted s → s .statements < 64
 few-statements bs r rows s g e = omega (arith, g .facts s e .statements)
 
@@ -54,15 +40,6 @@ pub few-exceptions : (bs : List ℕ) (r : Reading) (rows : List ℤ) (s : Shape)
 few-exceptions bs r rows s g e = omega (arith, g .facts s e .exceptions)
 
 -- ---- refusals
-unless-other : {A : Type 0} (down : ℕ → ℕ → A) (k : ℕ) (x : A) → (k ≡ 0 → ⊥) → unless down k x ≡ down k 0
-unfolding unless
-unless-other down zero x n = absurd (n refl)
-unless-other down (suc k) x n = refl
-
-unless-none : {A : Type 0} (down : ℕ → ℕ → A) (k : ℕ) (x : A) → k ≡ 0 → unless down k x ≡ x
-unfolding unless
-unless-none down k x e = rw e refl
-
 -- A refusal that is the definition's leaves the slice as it was.
 turned-met : (bs : List ℕ) (p : Pair) (l : List ℕ) (q : Refusal) → lineAnswer bs p (length l) ≡ turned (q .number) (q .line) → Met bs p l (NotWritten q) l
 unfolding lengthOf counted left

@@ -24,7 +24,7 @@ use Rattle.meaning.specs.Books.{Book, Lawful}
 use Rattle.meaning.specs.Meant.{bookOf}
 use Rattle.meaning.specs.Order.{Point, start, at, LawfulPoint}
 use Rattle.meaning.specs.Twins.Next.{pageFrom}
-use Rattle.bridge.proofs.Rows.{exceptions-count}
+use Rattle.meaning.proofs.Meant.{exceptions-count}
 use Rattle.answers.specs.Operations.{onText}
 use Rattle.answers.specs.Ways.{linesOf, listed, mostLines, failed, waysOf}
 use Rattle.answers.proofs.Refused.{Known, text-known}

@@ -8,10 +8,10 @@ use native.Mathlib.Omega.{arith}
 use lib.ListN.{length, set, length-append}
 use lib.Seq.{sets, length-sets}
 use Rattle.logic.specs.Tests.{concatMap}
+use Rattle.logic.proofs.Stores.{sets-append}
 use Rattle.sets.specs.declared.Pair.{Pair}
 use Rattle.text.specs.Fields.{written, writtenAll, columns}
 use Rattle.text.specs.ALines.{aLine}
-use Rattle.fields.proofs.Puts.{sets-append}
 use Rattle.answers.specs.Ways.{linesOf, failed}
 use Rattle.line.specs.Parts.{lineBytes}
 use Rattle.line.proofs.PutLaws.{line-length}

@@ -1,4 +1,5 @@
 pub mod Members
+pub mod Meant
 pub mod Closed
 pub mod Ranks
 pub mod Twins

@@ -21,7 +21,8 @@ use Rattle.answers.specs.declared.Judged.{Judged}
 use Rattle.answers.specs.declared.Judged.the-variants.{Verdict, Refused as NotJudged}
 use Rattle.answers.specs.declared.Paged.{Paged}
 use Rattle.answers.specs.declared.Paged.the-variants.{Pairs, Refused as NotPaged}
-use Rattle.answers.specs.Operations.{Told, told, turned, answerOf, verdictOf, countOf, counted, left, onText, unless, firstAnswer, afterAnswer, judgeAnswer, firstPage, pageAfter, PageMet}
+use Rattle.answers.specs.Operations.{Told, told, turned, answerOf, verdictOf, countOf, counted, left, onText, firstAnswer, afterAnswer, judgeAnswer, firstPage, pageAfter, PageMet}
+use Rattle.answers.proofs.Listed.{unless-other, unless-none}
 use Rattle.lawful.specs.Refusals.{Refuses}
 use Rattle.meaning.specs.Books.{Book, Lawful}
 use Rattle.meaning.specs.Meant.{bookOf}
@@ -29,9 +30,9 @@ use Rattle.meaning.specs.Order.{Point, start, at, LawfulPoint}
 use Rattle.meaning.specs.Listings.{Answer, found, end, refused, FirstLater}
 use Rattle.meaning.specs.Twins.Verdicts.{pairRefusal, verdict}
 use Rattle.meaning.specs.Twins.Next.{nextFrom, onwardFrom, pageFrom}
+use Rattle.meaning.proofs.Meant.{exceptions-count}
 use Rattle.meaning.proofs.Next.{next-is}
 use Rattle.meaning.proofs.Refusals.{none-lawful}
-use Rattle.bridge.proofs.Rows.{exceptions-count}
 use Rattle.engine.specs.Loaded.{Loaded, VerdictIs, PageIs}
 use Rattle.operations.specs.Loads.{foundIn}
 
@@ -58,15 +59,6 @@ unfolding pageFrom
 next-found b from o o′ r l n e g = one-found b from (nextFrom b from) o o′ r (next-is b from l) (rw n at e) (rw n at g)
 
 -- ---- refusals
-unless-other : {A : Type 0} (down : ℕ → ℕ → A) (k : ℕ) (x : A) → (k ≡ 0 → ⊥) → unless down k x ≡ down k 0
-unfolding unless
-unless-other down zero x n = absurd (n refl)
-unless-other down (suc k) x n = refl
-
-unless-none : {A : Type 0} (down : ℕ → ℕ → A) (k : ℕ) (x : A) → k ≡ 0 → unless down k x ≡ x
-unfolding unless
-unless-none down k x e = rw e refl
-
 module _ (bs : List ℕ) (q : Refusal) (e : readText bs ≡ unread (q .number) (q .line)) where
   pub first-down : answerOf (Refused q) ≡ firstAnswer bs
   unfolding answerOf firstAnswer onText

@@ -7,9 +7,10 @@ use native.Mathlib.Numerals.{add-one}
 use native.Mathlib.Omega.{arith}
 use lib.ListN.{length, length-append}
 use lib.Seq.{sets}
+use Rattle.logic.proofs.Stores.{sets-append}
 use Rattle.sets.specs.declared.Pair.{Pair}
 use Rattle.sets.specs.Pairs.{flat}
-use Rattle.page.proofs.Pages.{sets-append, flat-append, flat-length}
+use Rattle.page.proofs.Pages.{flat-append, flat-length}
 use Rattle.meaning.specs.Books.{Book}
 use Rattle.meaning.specs.Order.{Point, start, at}
 use Rattle.meaning.specs.Listings.{Answer, found, end, refused, Call, goOn, turnedDown, after, onward, handed, moved, answered, listing, reached}

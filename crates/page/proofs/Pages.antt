@@ -3,17 +3,13 @@
 use mathlib.Core.Path.{_≡_, refl, ap, _∙_}
 use mathlib.Core.List.{List, [], _∷_, _++_}
 use Prim.Native.Nat.{ℕ, zero, suc, _+_, _-_, _*_, _<_, _≤_}
-use native.Mathlib.Nat.{add-zero}
 use native.Mathlib.Omega.{arith}
 use lib.ListN.{length, take, set, length-append}
 use lib.Seq.{sets}
+use Rattle.logic.proofs.Stores.{sets-append}
 use Rattle.sets.specs.declared.Pair.{Pair}
 use Rattle.sets.specs.Pairs.{flat}
 use Rattle.page.specs.Pages.{Page}
-
-pub sets-append : (a b l : List ℕ) (i : ℕ) → sets l i (a ++ b) ≡ sets (sets l i a) (i + length a) b
-sets-append [] b l i = rw add-zero
-sets-append (x ∷ a) b l i = let e : i + suc (length a) ≡ suc i + length a = omega arith in rw e (sets-append a b (set l i x) (suc i))
 
 pub flat-append : (a b : List Pair) → flat (a ++ b) ≡ flat a ++ flat b
 unfolding flat

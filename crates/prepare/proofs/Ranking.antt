@@ -20,10 +20,11 @@ use Rattle.sets.proofs.Words.{member-suc}
 use Rattle.meaning.specs.Preferences.{Outranks, step, chain}
 use Rattle.meaning.specs.Books.{Book}
 use Rattle.meaning.specs.Meant.{bookOf}
+use Rattle.meaning.proofs.Meant.{exceptions-count}
 use Rattle.bridge.specs.Ranks.{RanksOf, Stepped}
 use Rattle.bridge.specs.Rows.{RowsLawful}
 use Rattle.bridge.proofs.Ranks.{ranks-stepped}
-use Rattle.bridge.proofs.Rows.{exceptions-count, rows-named}
+use Rattle.bridge.proofs.Rows.{rows-named}
 use Rattle.prepare.specs.Ranking.{LinesFrom, LinesTo, Extended, ClosedThrough, ClosedTo}
 
 -- ---- the P rows

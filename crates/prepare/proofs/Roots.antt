@@ -7,10 +7,10 @@ use lib.IntN.{ℤ}
 use lib.ListN.{length}
 use Rattle.book.specs.declared.Shape.{Shape}
 use Rattle.meaning.specs.Meant.{bookOf}
+use Rattle.meaning.proofs.Meant.{exceptions-count}
 use Rattle.masks.specs.declared.Bounds.{Bounds}
 use Rattle.bridge.specs.Packed.{nothing}
 use Rattle.bridge.specs.Roots.{upTo, rootOf}
-use Rattle.bridge.proofs.Rows.{exceptions-count}
 
 pub root-is : (s : Shape) (x n : ℕ) → x ≡ upTo (s .exceptions) → n ≡ upTo (s .statements) → (t : List ℤ)
     → _≡_ {A = Bounds} (record { lo = nothing; hi = record { taken = x; held = n; denied = n } }) (rootOf (bookOf s t))

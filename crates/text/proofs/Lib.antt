@@ -11,5 +11,6 @@ pub mod Written
 pub mod Inverse
 pub mod Facts
 pub mod Refusals
+pub mod Lent
 pub mod Examples
 pub mod Vectors

@@ -16,6 +16,7 @@ use mir.Val.{toZ}
 use mir.Facts.{toZ-pos}
 use borrow.Author.Tests.{ltb-true, ltb-false, lt-ltb, le-ltb}
 use Rattle.logic.specs.Tests.{pick}
+use Rattle.logic.proofs.Stores.{sets-append}
 use Rattle.book.specs.declared.Kind.{Kind}
 use Rattle.book.specs.declared.Shape.{Shape}
 use Rattle.book.specs.Limits as limit
@@ -28,7 +29,6 @@ use Rattle.text.proofs.Lines.{fields-length}
 use Rattle.text.proofs.KindFacts.{narrow}
 use Rattle.text.proofs.Facts.{widths-repeat}
 use Rattle.fields.specs.Short.{isShort, allShort}
-use Rattle.fields.proofs.Puts.{sets-append}
 use Rattle.write.specs.Testing.{Bounded}
 use Rattle.write.specs.Lengths.{allCounts, sumBytes, textBytes}
 use Rattle.write.proofs.TableLaws.{toCome, three, count-at, come-more, come-none, less, spread-start, spread-next, spread-in}
