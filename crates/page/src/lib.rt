@@ -32,7 +32,7 @@ pub const DENIED: u64 = 2;
 
 pub const VALUES: u64 = 3;
 
-// How many branches without a find it takes until `barren` searches for a view.
+// How many branches without a find it takes until `glimpse` searches for a view.
 const MANY: u64 = 64;
 
 // The set of all numbers that a word has room for.

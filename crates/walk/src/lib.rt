@@ -293,8 +293,8 @@ pub fn mark_around(
 }
 
 // Whether a resolution can have the set t, of which a view may be found within the bounds at rest. A view that is found marks the sets that it
-// surpasses. Where `known`
-// is true, every set before t in the order has been walked with these marks: if a view had a proper subset of t, then t would be marked.
+// surpasses. Where `known` is true, every set before t in the order has been walked with these marks: if a view had a proper subset of t, then
+// t would be marked.
 pub fn tested(
     words: &[u64],
     n: usize,
