@@ -21,8 +21,10 @@ use Rattle.meaning.specs.Twins.Next.{pageFrom}
 use Rattle.answers.specs.Ways.{linesOf, listed, printed, mostLines}
 use Rattle.line.specs.Parts.{lineBytes}
 use Rattle.engine.specs.Loaded.{Loaded, PageIs}
-use Rattle.listing.specs.Parts.{pairsIn, longestLine}
-use Rattle.listing.proofs.Pages.{lastPoint, page-full, page-same, page-take, page-length, pairs-front, pairs-length}
+use Rattle.page.specs.Pages.{pairsIn}
+use Rattle.page.proofs.Pages.{pairs-front, pairs-length}
+use Rattle.listing.specs.Parts.{longestLine}
+use Rattle.listing.proofs.Pages.{lastPoint, page-full, page-same, page-take, page-length}
 use Rattle.listing.proofs.Printed.{lines-length, printed-past, printed-ended, printed-cut, front-is}
 
 -- ---- what is listed, by pages

@@ -12,7 +12,7 @@ use Rattle.meaning.specs.Order.{Point, start, at, LawfulPoint}
 use Rattle.meaning.specs.Listings.{Answer, found, end, refused, FirstLater}
 use Rattle.meaning.specs.Twins.Next.{nextFrom, onwardFrom, pageFrom}
 use Rattle.meaning.proofs.Next.{next-is}
-use Rattle.listing.specs.Parts.{pairAt, pairsIn}
+use Rattle.page.specs.Pages.{pairAt, pairsIn}
 
 -- The point that some pairs lead to.
 abbrev pub lastPoint : Point → List Pair → Point
@@ -80,33 +80,7 @@ page-lawful b (suc k) from l = go (nextFrom b from) (next-is b from l) (λ p. pa
     go end f ih = l
     go (refused q i) f ih = l
 
--- ---- pairs as numbers
-shift : (a b c : ℕ) (l : List ℕ) (i : ℕ) → pairAt (a ∷ b ∷ c ∷ l) (suc i) ≡ pairAt l i
-unfolding pairAt
-shift a b c l i k =
-    let e : suc i * 3 ≡ suc (suc (suc (i * 3))) = omega arith in
-    let f : suc i * 3 + 1 ≡ suc (suc (suc (i * 3 + 1))) = omega arith in
-    let g : suc i * 3 + 2 ≡ suc (suc (suc (i * 3 + 2))) = omega arith in
-    let at : ℕ → ℕ = λ j. getD (a ∷ b ∷ c ∷ l) j 0 in
-    record { taken = ap at e k; held = ap at f k; denied = ap at g k }
-
-pairs-shift : (a b c : ℕ) (l : List ℕ) (k i : ℕ) → pairsIn (a ∷ b ∷ c ∷ l) (suc i) k ≡ pairsIn l i k
-unfolding pairsIn
-pairs-shift a b c l zero i = refl
-pairs-shift a b c l (suc k) i = rw (shift a b c l i, pairs-shift a b c l k (suc i))
-
--- The pairs at the front of a slice that holds them.
-pub pairs-front : (k : ℕ) (ps : List Pair) (l : List ℕ) → k ≤ length ps → pairsIn (flat ps ++ l) 0 k ≡ take k ps
-unfolding pairsIn flat pairAt
-pairs-front zero ps l h = refl
-pairs-front (suc k) [] l h = absurd (omega arith)
-pairs-front (suc k) (p ∷ ps) l h = ap (λ (qs : List Pair). p ∷ qs) (pairs-shift (p .taken) (p .held) (p .denied) (flat ps ++ l) k 0 ∙ pairs-front k ps l (omega arith))
-
-pub pairs-length : (l : List ℕ) (k i : ℕ) → length (pairsIn l i k) ≡ k
-unfolding pairsIn
-pairs-length l zero i = refl
-pairs-length l (suc k) i = ap suc (pairs-length l k (suc i))
-
+-- ---- the last pair
 -- The last of them.
 pub last-point : (k i : ℕ) (from : Point) (l : List ℕ) → lastPoint from (pairsIn l i (suc k)) ≡ at (pairAt l (i + k))
 unfolding pairsIn

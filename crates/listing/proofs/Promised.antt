@@ -32,7 +32,8 @@ use Rattle.line.specs.Parts.{lineBytes}
 use Rattle.engine.specs.Loaded.{Loaded, PageIs}
 use Rattle.listing.specs.declared.Part.{Part}
 use Rattle.listing.specs.declared.Begun.{Begun}
-use Rattle.listing.specs.Parts.{pairAt, pairsIn, partLines, longestLine, partBytes, Closes, Fills, Prints, Lists, Prepared, Ready, Begins, GoesOn}
+use Rattle.page.specs.Pages.{pairAt, pairsIn}
+use Rattle.listing.specs.Parts.{partLines, longestLine, partBytes, Closes, Fills, Prints, Lists, Prepared, Ready, Begins, GoesOn}
 use Rattle.listing.proofs.Pages.{lastPoint, page-lawful, last-point}
 use Rattle.listing.proofs.Printed.{front-is}
 use Rattle.listing.proofs.Listed.{front-listed, ended-listed, cut-listed, at-most, statements-same, page-count, page-few, page-pairs, page-all, lines-shown, closed-shown}

@@ -15,7 +15,7 @@ use Rattle.text.specs.ALines.{aLine}
 use Rattle.answers.specs.Ways.{linesOf, failed}
 use Rattle.line.specs.Parts.{lineBytes}
 use Rattle.line.proofs.PutLaws.{line-length}
-use Rattle.listing.specs.Parts.{pairAt, pairsIn}
+use Rattle.page.specs.Pages.{pairAt, pairsIn}
 
 pub closed : (l : List ℕ) (at x : ℕ) → set (set l at x) (at + 1) 10 ≡ sets l at (x ∷ 10 ∷ [])
 closed l at x = let e : at + 1 ≡ suc at = omega arith in rw e refl

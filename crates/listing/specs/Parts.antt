@@ -13,6 +13,7 @@ use Rattle.meaning.specs.Meant.{bookOf}
 use Rattle.meaning.specs.Order.{Point, start, at, LawfulPoint}
 use Rattle.answers.specs.Ways.{linesOf, listed, mostLines, waysOf}
 use Rattle.line.specs.Parts.{lineBytes}
+use Rattle.page.specs.Pages.{pairAt, pairsIn}
 use Rattle.engine.specs.Loaded.{Loaded}
 use Rattle.listing.specs.declared.Part.{Part}
 use Rattle.listing.specs.declared.Begun.{Begun}
@@ -30,14 +31,6 @@ closingBytes = 2
 
 abbrev pub partBytes : ℕ
 partBytes = partLines * longestLine + closingBytes
-
--- The pair at a place of a page, and the k pairs from there on.
-unfoldable pub pairAt : List ℕ → ℕ → Pair
-pairAt l i = record { taken = getD l (i * 3) 0; held = getD l (i * 3 + 1) 0; denied = getD l (i * 3 + 2) 0 }
-
-unfoldable pub pairsIn : List ℕ → ℕ → ℕ → List Pair
-pairsIn l i zero = []
-pairsIn l i (suc k) = pairAt l i ∷ pairsIn l (suc i) k
 
 -- ---- a page in lines
 -- The lines of the first k pairs and a closing line with this letter.

@@ -8,7 +8,8 @@ ghost use Rattle.book.specs.Limits as limit;
 ghost use Rattle.meaning.specs.Order.{start, at};
 ghost use Rattle.answers.specs.Ways.{linesOf, mostLines, failed as failedOf};
 ghost use Rattle.line.specs.Parts.{lineBytes};
-ghost use Rattle.listing.specs.Parts.{pairAt, pairsIn, partLines, closingBytes, partBytes, Prepared, Ready, Closes, Prints, Lists, Begins};
+ghost use Rattle.page.specs.Pages.{pairsIn};
+ghost use Rattle.listing.specs.Parts.{partLines, closingBytes, partBytes, Prepared, Ready, Closes, Prints, Lists, Begins};
 use book::Book;
 use book::Shape;
 use engine::Ranks;
@@ -30,19 +31,6 @@ pub const CLOSING: usize = 2;
 // Room for a part.
 pub type Text = [u8; PART * LONGEST + CLOSING];
 
-// The pair at a place of a page.
-pub fn pair_at(pairs: &[u64], k: usize) -> Pair
-    requires { ⌜ k * 3 + 3 ≤ length (now pairs) ⌝ }
-    ensures { λ r. ⌜ r ≡ pairAt (now (pairs .entry)) k ⌝ }
-{
-    let i = k * 3;
-    Pair {
-        taken: pairs[i],
-        held: pairs[i + 1],
-        denied: pairs[i + 2],
-    }
-}
-
 // The lines of the first k pairs of a page, in front of a buffer; how many bytes they have.
 pub fn put_lines(out: &mut [u8], n: usize, pairs: &[u64], k: usize) -> usize
     requires { ⌜ (n ≤ limit.statements) × (k * 3 ≤ length (now pairs)) × (k * lineBytes n ≤ length (now out)) ⌝ }
@@ -52,7 +40,7 @@ pub fn put_lines(out: &mut [u8], n: usize, pairs: &[u64], k: usize) -> usize
     let mut i = 0;
     let mut at = 0;
     while i < k {
-        let p = pair_at(pairs, i);
+        let p = page::pair_at(pairs, i);
         line::put_line(out, at, n, p);
         at = at + w;
         i += 1;
@@ -111,7 +99,7 @@ pub fn put_part(out: &mut [u8], n: usize, pairs: &[u64], k: usize, m: usize) -> 
     Part {
         bytes: put_lines(out, n, pairs, PART),
         full: true,
-        last: pair_at(pairs, PART - 1),
+        last: page::pair_at(pairs, PART - 1),
     }
 }
 

@@ -35,6 +35,10 @@ pub among-right : {A : Type 0} (a : A) (xs ys : List A) → Among a ys → Among
 among-right a [] ys m = m
 among-right a (x ∷ xs) ys m = inr (among-right a xs ys m)
 
+pub among-either : {A : Type 0} (a : A) (xs ys : List A) → Among a (xs ++ ys) → Among a xs ⊎ Among a ys
+among-either a [] ys m = inr m
+among-either a (x ∷ xs) ys m = ⊎-elim (λ e. inl (inl e)) (λ n. ⊎-elim (λ k. inl (inr k)) (λ k. inr k) (among-either a xs ys n)) m
+
 pub among-concat : {A B : Type 0} (f : A → List B) (a : A) (b : B) (xs : List A) → Among a xs → Among b (f a) → Among b (concatMap f xs)
 unfolding concatMap
 among-concat f a b [] m n = absurd m

@@ -44,7 +44,8 @@ before-transitive p q r (differs e i z s h) (differs f j y t k) = go (three i j)
     go (inr (inr l)) = differs (e ∙ f) j y (λ m w x. s m w (omega arith) ∙ t m w x) (rw (s j y l) k)
 
 -- ---- totality
-held-digit : (p q : Pair) (i : ℕ) → value p i ≡ value q i → member i (p .held) ≡ member i (q .held)
+-- Pairs that say the same of a statement hold it alike, and coherent ones deny it alike.
+pub held-digit : (p q : Pair) (i : ℕ) → value p i ≡ value q i → member i (p .held) ≡ member i (q .held)
 unfolding value valueOf
 held-digit p q i e = go (member i (p .held)) (member i (p .denied)) (member i (q .held)) (member i (q .denied)) e
   where
@@ -56,7 +57,7 @@ held-digit p q i e = go (member i (p .held)) (member i (p .denied)) (member i (q
     go false true true d e = absurd (omega arith)
     go false false true d e = absurd (omega arith)
 
-denied-digit : (p q : Pair) (i : ℕ) → (member i (p .held) ≡ true → member i (p .denied) ≡ true → ⊥) → (member i (q .held) ≡ true → member i (q .denied) ≡ true → ⊥)
+pub denied-digit : (p q : Pair) (i : ℕ) → (member i (p .held) ≡ true → member i (p .denied) ≡ true → ⊥) → (member i (q .held) ≡ true → member i (q .denied) ≡ true → ⊥)
     → value p i ≡ value q i → member i (p .denied) ≡ member i (q .denied)
 unfolding value valueOf
 denied-digit p q i x y e = go (member i (p .held)) (member i (p .denied)) (member i (q .held)) (member i (q .denied)) x y e

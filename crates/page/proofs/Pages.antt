@@ -4,12 +4,12 @@ use mathlib.Core.Path.{_≡_, refl, ap, _∙_}
 use mathlib.Core.List.{List, [], _∷_, _++_}
 use Prim.Native.Nat.{ℕ, zero, suc, _+_, _-_, _*_, _<_, _≤_}
 use native.Mathlib.Omega.{arith}
-use lib.ListN.{length, take, set, length-append}
+use lib.ListN.{length, take, set, getD, length-append}
 use lib.Seq.{sets}
 use Rattle.logic.proofs.Stores.{sets-append}
 use Rattle.sets.specs.declared.Pair.{Pair}
 use Rattle.sets.specs.Pairs.{flat}
-use Rattle.page.specs.Pages.{Page}
+use Rattle.page.specs.Pages.{pairAt, pairsIn, Page}
 
 pub flat-append : (a b : List Pair) → flat (a ++ b) ≡ flat a ++ flat b
 unfolding flat
@@ -62,3 +62,30 @@ page-one cap at o o′ p h e =
 pub put-is : (o : List ℕ) (i : ℕ) (p : Pair) → set (set (set o i (p .taken)) (i + 1) (p .held)) (i + 2) (p .denied) ≡ sets o i (flat (p ∷ []))
 unfolding flat
 put-is o i p = let e : i + 1 ≡ suc i = omega arith in let f : i + 2 ≡ suc (suc i) = omega arith in rw (e, f)
+
+-- ---- pairs as numbers
+shift : (a b c : ℕ) (l : List ℕ) (i : ℕ) → pairAt (a ∷ b ∷ c ∷ l) (suc i) ≡ pairAt l i
+unfolding pairAt
+shift a b c l i k =
+    let e : suc i * 3 ≡ suc (suc (suc (i * 3))) = omega arith in
+    let f : suc i * 3 + 1 ≡ suc (suc (suc (i * 3 + 1))) = omega arith in
+    let g : suc i * 3 + 2 ≡ suc (suc (suc (i * 3 + 2))) = omega arith in
+    let at : ℕ → ℕ = λ j. getD (a ∷ b ∷ c ∷ l) j 0 in
+    record { taken = ap at e k; held = ap at f k; denied = ap at g k }
+
+pairs-shift : (a b c : ℕ) (l : List ℕ) (k i : ℕ) → pairsIn (a ∷ b ∷ c ∷ l) (suc i) k ≡ pairsIn l i k
+unfolding pairsIn
+pairs-shift a b c l zero i = refl
+pairs-shift a b c l (suc k) i = rw (shift a b c l i, pairs-shift a b c l k (suc i))
+
+-- The pairs at the front of a slice that holds them.
+pub pairs-front : (k : ℕ) (ps : List Pair) (l : List ℕ) → k ≤ length ps → pairsIn (flat ps ++ l) 0 k ≡ take k ps
+unfolding pairsIn flat pairAt
+pairs-front zero ps l h = refl
+pairs-front (suc k) [] l h = absurd (omega arith)
+pairs-front (suc k) (p ∷ ps) l h = ap (λ (qs : List Pair). p ∷ qs) (pairs-shift (p .taken) (p .held) (p .denied) (flat ps ++ l) k 0 ∙ pairs-front k ps l (omega arith))
+
+pub pairs-length : (l : List ℕ) (k i : ℕ) → length (pairsIn l i k) ≡ k
+unfolding pairsIn
+pairs-length l zero i = refl
+pairs-length l (suc k) i = ap suc (pairs-length l k (suc i))

@@ -1,9 +1,9 @@
 -- What the search promises: a page, the first so many pairs of a list in a lent slice; and what settling a statement and trying its values need.
-use Prim.Native.Nat.{ℕ, suc, _+_, _-_, _*_, _<_, _≤_}
+use Prim.Native.Nat.{ℕ, zero, suc, _+_, _-_, _*_, _<_, _≤_}
 use mathlib.Core.Bool.{Bool}
 use mathlib.Core.Path.{_≡_}
 use mathlib.Core.List.{List, [], _∷_}
-use lib.ListN.{length, take}
+use lib.ListN.{length, take, getD}
 use lib.Seq.{sets}
 use Rattle.logic.specs.Lists.{Among}
 use Rattle.logic.specs.Tests.{Decides, keep}
@@ -25,6 +25,14 @@ use Rattle.page.specs.Orders.{bare, given, tried, allFrom, passes, listF
 pub record Page (cap at : ℕ) (o o′ : List ℕ) (xs : List Pair) (r : ℕ) : Type 0 where
   pub count : r ≡ at + length (take (cap - at) xs)
   pub filled : o′ ≡ sets o (at * 3) (flat (take (cap - at) xs))
+
+-- The pair at a place of a page, and the k pairs from there on.
+unfoldable pub pairAt : List ℕ → ℕ → Pair
+pairAt l i = record { taken = getD l (i * 3) 0; held = getD l (i * 3 + 1) 0; denied = getD l (i * 3 + 2) 0 }
+
+unfoldable pub pairsIn : List ℕ → ℕ → ℕ → List Pair
+pairsIn l i zero = []
+pairsIn l i (suc k) = pairAt l i ∷ pairsIn l (suc i) k
 
 -- The test g decides for every pair of the list whether it is a view.
 pub record Tests (ws : List ℕ) (n : ℕ) (ranks : List ℕ) (xs : List Pair) (g : Pair → Bool) : Type 0 where

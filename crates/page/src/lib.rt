@@ -13,7 +13,7 @@ ghost use Rattle.probe.specs.declared.Answer.the-variants.{Nothing};
 ghost use Rattle.meaning.specs.Order.{value as valueOf};
 ghost use Rattle.page.specs.Orders.{about as aboutOf, said as saidOf, given as givenOf};
 ghost use Rattle.sets.specs.Pairs.{flat};
-ghost use Rattle.page.specs.Pages.{Giving, ViewGiving, Barren, Fits, BranchReady, Ready, Settled, Tried, Branched, Listed};
+ghost use Rattle.page.specs.Pages.{pairAt, Giving, ViewGiving, Barren, Fits, BranchReady, Ready, Settled, Tried, Branched, Listed};
 use masks::Bounds;
 use probe::Answer;
 use queue::Rest;
@@ -270,6 +270,19 @@ pub fn put(out: &mut [u64], at: usize, p: Pair)
     out[at * 3] = p.taken;
     out[at * 3 + 1] = p.held;
     out[at * 3 + 2] = p.denied;
+}
+
+// The pair at a place of a page.
+pub fn pair_at(pairs: &[u64], k: usize) -> Pair
+    requires { ⌜ k * 3 + 3 ≤ length (now pairs) ⌝ }
+    ensures { λ r. ⌜ r ≡ pairAt (now (pairs .entry)) k ⌝ }
+{
+    let i = k * 3;
+    Pair {
+        taken: pairs[i],
+        held: pairs[i + 1],
+        denied: pairs[i + 2],
+    }
 }
 
 // Every statement is settled: the pair is put on the page if it is a view and not the point itself.

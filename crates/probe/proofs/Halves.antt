@@ -62,11 +62,11 @@ module _ {ws : List ℕ} {n : ℕ} {ranks : List ℕ} {b : Bounds} {x : Node} (o
         rw ep (let a : total (c .lo) < total (joinOf (c .lo) m) = total-lt (join-l _ _) (λ q. h .some (off-sub (sub-refl m) (rw (← q) at (join-r (c .lo) m)) off-lo)) in
         omega (arith, wide, total-le (h .narrow .lo), total-le (h .narrow .hi)))
 
-    from-out : {v : Pair} → In (outOf c m) v → In b v
+    pub from-out : {v : Pair} → In (outOf c m) v → In b v
     unfolding outOf
     from-out y = record { lo = sub-trans (h .narrow .lo) (y .lo); hi = sub-trans (y .hi) (sub-trans (minus-sub _ _) (h .narrow .hi)) }
 
-    from-into : {v : Pair} → In (intoOf c m) v → In b v
+    pub from-into : {v : Pair} → In (intoOf c m) v → In b v
     unfolding intoOf
     from-into y = record { lo = sub-trans (h .narrow .lo) (sub-trans (join-l _ _) (y .lo)); hi = sub-trans (y .hi) (h .narrow .hi) }
 

@@ -39,29 +39,32 @@ not-open e = absurd (let z : _≡_ {A = ℕ} 0 1 = cc in omega arith)
 
 module _ {ws : List ℕ} {n : ℕ} {ranks : List ℕ} (b : Bounds) where
   empty-node : ((v : Pair) → MaskView ws n ranks v → In b v → ⊥) → Opened ws n ranks b Empty
-  empty-node f = record { view = λ v e. not-view e; empty = λ e. f; halves = λ c m live e. not-open e }
+  empty-node f = record { view = λ v e. not-view e; alone = λ v e. not-view e; empty = λ e. f; halves = λ c m live e. not-open e }
 
   module _ (c : Bounds) (p : Propagated ws n ranks b c) (w : Bool) (dw : Decides w (Sub (c .lo) (c .hi))) where
     pub node-refuted : not w ≡ true → Opened ws n ranks b Empty
     node-refuted e = empty-node (λ v k x. let y = p .keeps .kept v k x in refused dw e (sub-trans (y .lo) (y .hi)))
 
     module _ (ew : not w ≡ false) (s : Bool) (ds : Decides s (c .lo ≡ c .hi)) where
-      pub node-view : (t : Bool) → Decides t (MaskView ws n ranks (c .lo)) → t ≡ true → Opened ws n ranks b (View (c .lo))
-      node-view t dt et = record {
+      -- A view within the bounds is their one end.
+      one-end : s ≡ true → (u : Pair) → MaskView ws n ranks u → In b u → c .lo ≡ u
+      one-end es u k x = let y = p .keeps .kept u k x in sub-both (y .lo) (rw (ds .yes es) (y .hi))
+
+      pub node-view : (t : Bool) → s ≡ true → Decides t (MaskView ws n ranks (c .lo)) → t ≡ true → Opened ws n ranks b (View (c .lo))
+      node-view t es dt et = record {
         view = λ v q. let e : c .lo ≡ v = cc in rw (← e) (dt .yes et, record { lo = p .lo; hi = sub-trans (granted dw ew) (p .hi) });
+        alone = λ v q. let e : c .lo ≡ v = cc in rw (← e) (one-end es);
         empty = λ q. absurd (let z : _≡_ {A = ℕ} 0 1 = cc in omega arith);
         halves = λ c m live q. absurd (let z : _≡_ {A = ℕ} 0 1 = cc in omega arith);
       }
 
       pub node-empty : (t : Bool) → s ≡ true → Decides t (MaskView ws n ranks (c .lo)) → t ≡ false → Opened ws n ranks b Empty
-      node-empty t es dt et = empty-node (λ v k x.
-          let y = p .keeps .kept v k x in
-          let e : c .lo ≡ v = sub-both (y .lo) (rw (ds .yes es) (y .hi)) in
-          dt .no et (rw e k))
+      node-empty t es dt et = empty-node (λ v k x. let e = one-end es v k x in dt .no et (rw e k))
 
       pub node-open : (m : Pair) (live : Waiting) → s ≡ false → Picked (minusOf (c .hi) (c .lo)) m → Opened ws n ranks b (Open c m live)
       node-open m live es pm = record {
         view = λ v q. absurd (let z : _≡_ {A = ℕ} 0 1 = cc in omega arith);
+        alone = λ v q. absurd (let z : _≡_ {A = ℕ} 0 1 = cc in omega arith);
         empty = λ q. absurd (let z : _≡_ {A = ℕ} 0 1 = cc in omega arith);
         halves = λ c′ m′ live′ q. let ec : c ≡ c′ = cc in let em : m ≡ m′ = cc in rw (← ec, ← em)
             (record { narrow = p; ordered = granted dw ew; atom = pm .atom; some = pm .some; inside = pm .inside open-left });

@@ -26,8 +26,9 @@ pub record Halved (ws : List ℕ) (n : ℕ) (ranks : List ℕ) (b c : Bounds) (m
   pub some : Off m m → ⊥
   pub inside : Sub m (minusOf (c .hi) (c .lo))
 
--- A node says of the bounds b: this is a view within them; there is none; or there are narrower bounds and a member to split them by.
+-- A node says of the bounds b: this is the one view within them; there is none; or there are narrower bounds and a member to split them by.
 pub record Opened (ws : List ℕ) (n : ℕ) (ranks : List ℕ) (b : Bounds) (x : Node) : Type 0 where
   pub view : (v : Pair) → x ≡ View v → (MaskView ws n ranks v) × (In b v)
+  pub alone : (v : Pair) → x ≡ View v → (u : Pair) → MaskView ws n ranks u → In b u → v ≡ u
   pub empty : x ≡ Empty → (v : Pair) → MaskView ws n ranks v → In b v → ⊥
   pub halves : (c : Bounds) (m : Pair) (live : Waiting) → x ≡ Open c m live → Halved ws n ranks b c m

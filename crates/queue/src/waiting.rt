@@ -1,5 +1,6 @@
 // Sets of rules that wait for a step. Which rules wait, no contract depends on: every step is sound.
 ghost use Prim.Native.Nat.{_≤_};
+ghost use Rattle.bounds.specs.Singles.{Lowest};
 use sets::Pair;
 
 // A bit for each of 256 rules.
@@ -68,7 +69,7 @@ pub fn all() -> Work {
 
 // The place of the lowest member of a word, 64 if it has none.
 pub fn low(x: u64) -> u64
-    ensures { λ r. ⌜ r ≤ 64 ⌝ }
+    ensures { λ r. ⌜ (r ≤ 64) × Lowest x r ⌝ }
 {
     u64::trailing_zeros(x) as u64
 }

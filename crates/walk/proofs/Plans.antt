@@ -47,6 +47,11 @@ in-sets root lo hi v i g h = record {
   hi = record { taken = sub-and _ _ _ (i .hi .taken) h; held = i .hi .held; denied = i .hi .denied };
 }
 
+-- A pair within the bounds of one set has that set.
+pub one-set : (root : Bounds) (t : ℕ) (v : Pair) → In (withSets root t t) v → v .taken ≡ t
+unfolding withSets
+one-set root t v i = both-ways (v .taken) t (λ k. le-trans (i .hi .taken k) (and-r (root .hi .taken) t k)) (λ k. le-trans (or-r (root .lo .taken) t k) (i .lo .taken k))
+
 -- A view within root whose set lies from lo to hi is none where no view has such a set.
 none-in : (ws : List ℕ) (n : ℕ) (ranks : List ℕ) (root : Bounds) (lo hi : ℕ) → NoView ws n ranks root lo hi
     → (v : Pair) → MaskView ws n ranks v → In root v → Within lo (v .taken) → Within (v .taken) hi → ⊥
@@ -83,7 +88,7 @@ module _ (b : Book) (ws : List ℕ) (n : ℕ) (ranks : List ℕ) (root : Bounds)
   not-admissible t f = record { none = λ p r e. f (rw e at (resolution-same b ws n ranks root rt p .1 r .1)) }
 
 -- A pair within the narrower bounds is within root.
-in-root : (root : Bounds) (lo hi : ℕ) (v : Pair) → In (withSets root lo hi) v → In root v
+pub in-root : (root : Bounds) (lo hi : ℕ) (v : Pair) → In (withSets root lo hi) v → In root v
 unfolding withSets
 in-root root lo hi v i = record {
   lo = record { taken = λ k. le-trans (or-l (root .lo .taken) lo k) (i .lo .taken k); held = i .lo .held; denied = i .lo .denied };
@@ -205,10 +210,7 @@ module _ (ws : List ℕ) (n : ℕ) (ranks : List ℕ) (root : Bounds) (t : ℕ) 
       found-in = in-root root t t v (rw eb at (pr .found v ea .1))
 
       found-set : v .taken ≡ t
-      unfolding withSets
-      found-set =
-          let i : In (withSets root t t) v = rw eb at (pr .found v ea .1) in
-          both-ways (v .taken) t (λ k. le-trans (i .hi .taken k) (and-r (root .hi .taken) t k)) (λ k. le-trans (or-r (root .lo .taken) t k) (i .lo .taken k))
+      found-set = one-set root t v (rw eb at (pr .found v ea .1))
 
       has-set : (b : Book) → Rooted b ws n ranks root → t < 2 ^ length (b .exceptions)
       has-set b r = rw found-set at (r .only v (pr .found v ea .0) found-in .lawful .exceptions)
@@ -257,3 +259,8 @@ admits-refused ws n ranks root t known m m′ z o e a = (rw e a, record { propag
 pub in-bounds : (ws : List ℕ) (n : ℕ) (ranks : List ℕ) (root : Bounds) (t : ℕ) (z : Bool) (o : Bounds) → Bounded ws n ranks root t z o → z ≡ true
     → (v : Pair) → MaskView ws n ranks v → In root v → v .taken ≡ t → In o v
 in-bounds ws n ranks root t z o f e v m i d = f .propagated e .keeps .kept v m (in-sets root t t v i (λ k. rw d (le-refl _)) (λ k. rw d (le-refl _)))
+
+-- And nothing else is: the bounds are no wider than those of the set.
+pub bounds-in : (ws : List ℕ) (n : ℕ) (ranks : List ℕ) (root : Bounds) (t : ℕ) (z : Bool) (o : Bounds) → Bounded ws n ranks root t z o → z ≡ true
+    → (v : Pair) → In o v → In (withSets root t t) v
+bounds-in ws n ranks root t z o f e v i = let p = f .propagated e in record { lo = sub-trans (p .lo) (i .lo); hi = sub-trans (i .hi) (p .hi) }

@@ -3,7 +3,7 @@ use mathlib.Core.Path.{_≡_, refl, sym, ap, _∙_}
 use mathlib.Core.Bool.{Bool, true, false, not}
 use mathlib.Core.List.{List, [], _∷_, _++_}
 use mathlib.Core.Logic.{_⊎_, inl, inr, ⊎-elim, _↔_}
-use Prim.Native.Nat.{ℕ, zero, suc, _+_, _<_, _≤_}
+use Prim.Native.Nat.{ℕ, zero, suc, _+_, _^_, _<_, _≤_}
 use native.Mathlib.Nat.{le-refl, le-trans}
 use native.Mathlib.Numerals.{add-one}
 use native.Mathlib.Omega.{arith}
@@ -11,6 +11,7 @@ use borrow.Author.Tests.{not-true, not-false}
 use lib.ListN.{length, getD, replicate, getD-replicate, List·getD-eq-default, length-replicate}
 use Rattle.logic.specs.Tests.{Decides}
 use Rattle.logic.proofs.Decide.{clash, reworded, holds-or-not, decides-eq}
+use Rattle.logic.proofs.Members.{every-at}
 use Rattle.sets.specs.declared.Pair.{Pair}
 use Rattle.sets.proofs.Digits.{lt-or-le}
 use Rattle.book.specs.Kinds.{sets}
@@ -18,11 +19,13 @@ use Rattle.order.specs.Order.{setAt}
 use Rattle.order.proofs.Rule.{order-rule}
 use Rattle.masks.specs.declared.Bounds.{Bounds}
 use Rattle.masks.specs.Views.{MaskView}
+use Rattle.bounds.specs.Sound.{In}
 use Rattle.page.specs.declared.Task.{Task}
-use Rattle.page.specs.Orders.{Begins}
+use Rattle.page.specs.Orders.{bare, listFrom, PartOf, Begins}
 use Rattle.page.specs.Pages.{Page, Fits, Listed}
 use Rattle.page.proofs.Pages.{page-none, page-full, page-append}
-use Rattle.page.proofs.Listed.{views-listed, part-of-listing}
+use Rattle.page.proofs.Listed.{list-is-part, views-listed, part-of-listing}
+use Rattle.few.specs.Few.{AllListed}
 use Rattle.meaning.specs.Books.{Book, Lawful}
 use Rattle.meaning.specs.Views.{View}
 use Rattle.meaning.specs.Order as meaning
@@ -34,10 +37,10 @@ use Rattle.meaning.proofs.Parts.{Part, part-none, part-same}
 use Rattle.bridge.proofs.Views.{view-same}
 use Rattle.admissible.specs.Admissible.{Minimal}
 use Rattle.walk.specs.Marks.{IsMarked, RightMarks}
-use Rattle.walk.specs.Plans.{Told, MarksRight, Rests, Admits, Bounded}
+use Rattle.walk.specs.Plans.{withSets, Told, MarksRight, Rests, Admits, Bounded}
 use Rattle.resolution.proofs.Resolutions.{resolution-same}
 use Rattle.walk.specs.Walks.{Passed, Serves, SetListed, Beyond, Ready, Walked, FirstPage, PageAfter}
-use Rattle.walk.proofs.Plans.{marks-same, marks-more, told-kept, in-bounds}
+use Rattle.walk.proofs.Plans.{marks-same, marks-more, told-kept, in-root, one-set, in-bounds, bounds-in}
 use Rattle.walk.proofs.Places.{at-or-past, subset-place, none-yet, one-more, all-places, cut-short}
 
 -- Nothing is marked at first.
@@ -54,8 +57,41 @@ module _ (ws ranks : List ℕ) (root : Bounds) (q : Task) (t : ℕ) (after known
     part = λ b from s w f g. ([], page-none (q .room) at o, part-none b from (λ p. p .taken ≡ t) (λ p r l d. a .refuses (not-true z e) b (s .rooted) w .none p r d));
   }
 
-  pub set-listed : not z ≡ false → (c : Bounds) → Bounded ws (q .rules) ranks root t z c → (o′ : List ℕ) (r : ℕ) → Listed ws ranks q t c after at o o′ r → SetListed ws ranks root q t after known at m m′ o o′ r
-  set-listed e c h o′ r l = record { most = l .most; marks = a .marks; told = a .told; part = part }
+  -- The views of an admissible set, all of which are within the bounds c, by either search.
+  module _ (yes : z ≡ true) (c : Bounds) (h : Bounded ws (q .rules) ranks root t z c) (o′ : List ℕ) (r : ℕ) (b : Book) (from : Point) (s : Serves b ws ranks root q) (g : Begins b from t after (q .point)) where
+    same : (p : Pair) → Lawful b p → MaskView ws (q .rules) ranks p ↔ View b p
+    same p k = view-same b ws (q .rules) (s .rooted .packs) p ranks (s .rooted .ranked) k
+
+    test : (p : Pair) → Lawful b p → p .taken ≡ t → Decides (view b p) (MaskView ws (q .rules) ranks p)
+    test p k d = reworded (decides-view b p) (same p k .1) (same p k .0)
+
+    bound : t < 2 ^ length (b .exceptions)
+    bound = a .lawful yes b (s .rooted)
+
+    within : (p : Pair) → Lawful b p → p .taken ≡ t → MaskView ws (q .rules) ranks p → In c p
+    within p k d x = in-bounds ws (q .rules) ranks root t z c h yes p x (s .rooted .holds p (same p k .0 x) .1) d
+
+    by-order : Listed ws ranks q t c after at o o′ r → (xs : List Pair) × Page (q .room) at o o′ xs r × PartOf b from t (MaskView ws (q .rules) ranks) xs
+    by-order x = views-listed b from t bound ws ranks q (s .statements) after g (view b) test c within at r o o′ x
+
+    by-store : after ≡ false → AllListed ws ranks q c at o o′ r → (xs : List Pair) × Page (q .room) at o o′ xs r × PartOf b from t (MaskView ws (q .rules) ranks) xs
+    by-store f x =
+        let xs : List Pair = listFrom (view b) (b .statements) (q .point) (b .statements) after (bare t) in
+        let p = list-is-part b from t bound after (q .point) g (MaskView ws (q .rules) ranks) (view b) test in
+        let inside : (v : Pair) → In c v → In (withSets root t t) v = λ v i. bounds-in ws (q .rules) ranks root t z c h yes v i in
+        let set : (v : Pair) → In c v → v .taken ≡ t = λ v i. one-set root t v (inside v i) in (
+          xs,
+          x .page (record { same = λ v w i j. set v i ∙ sym (set w j) }) xs (p .ascending)
+              (record {
+                only = λ v i. let d = every-at (λ p. Lawful b p × (p .taken ≡ t) × Later from p × MaskView ws (q .rules) ranks p) v xs (p .only) i in (d .3, within v (d .0) (d .1) (d .3));
+                all = λ v y i. p .all v (s .rooted .only v y (in-root root t t v (inside v i)) .lawful) (set v i) (g .before f v (set v i)) y;
+              }),
+          p,
+        )
+
+  pub set-listed : not z ≡ false → (c : Bounds) → Bounded ws (q .rules) ranks root t z c → (o′ : List ℕ) (r : ℕ)
+      → Listed ws ranks q t c after at o o′ r ⊎ ((after ≡ false) × AllListed ws ranks q c at o o′ r) → SetListed ws ranks root q t after known at m m′ o o′ r
+  set-listed e c h o′ r l = record { most = ⊎-elim (λ x. x .most) (λ x. x .1 .fits) l; marks = a .marks; told = a .told; part = part }
     where
       yes : z ≡ true
       yes = not-false z e
@@ -63,14 +99,11 @@ module _ (ws ranks : List ℕ) (root : Bounds) (q : Task) (t : ℕ) (after known
       part : (b : Book) (from : Point) → Serves b ws ranks root q → RightMarks b m → Rests ws (q .rules) ranks root t known m → Begins b from t after (q .point)
           → (ys : List Pair) × Page (q .room) at o o′ ys r × Part b from (λ p. p .taken ≡ t) ys
       part b from s w f g =
-          let same : (p : Pair) → Lawful b p → MaskView ws (q .rules) ranks p ↔ View b p = λ p k. view-same b ws (q .rules) (s .rooted .packs) p ranks (s .rooted .ranked) k in
-          let v = views-listed b from t (a .lawful yes b (s .rooted)) ws ranks q (s .statements) after g (view b)
-          (λ p k d. reworded (decides-view b p) (same p k .1) (same p k .0)) c
-          (λ p k d x. in-bounds ws (q .rules) ranks root t z c h yes p x (s .rooted .holds p (same p k .0 x) .1) d) at r o o′ l in (
+          let v = ⊎-elim (λ x. by-order yes c h o′ r b from s g x) (λ x. by-store yes c h o′ r b from s g (x .0) (x .1)) l in (
             v .0,
             v .1,
             part-of-listing b from t (MaskView ws (q .rules) ranks) (v .0)
-                (λ p k d x. resolution-same b ws (q .rules) ranks root (s .rooted) p .0 (same p k .0 x, rw d (a .accepts yes f)))
+                (λ p k d x. resolution-same b ws (q .rules) ranks root (s .rooted) p .0 (same yes c h o′ r b from s g p k .0 x, rw d (a .accepts yes f)))
                 (λ p x d. s .rooted .holds p (x .view) .0) (v .2),
           )
 

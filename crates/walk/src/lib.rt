@@ -403,7 +403,7 @@ pub fn list_set(
     if !a.ok {
         return Filled { at, credit };
     }
-    let r = page::list_views(words, ranks, index, task, t, a.rest, after, out, at);
+    let r = few::list(words, ranks, index, task, t, a.rest, after, out, at);
     Filled { at: r, credit }
 }
 

@@ -19,7 +19,7 @@ is-view-requires : tie.Need-is-view-requires
 is-view-requires c κs = search needs
 
 returns-2 : tie.Need-returns-2
-returns-2 c = node-view _ _ (c .before .before .before .before .before .before .before .before .before .before .propagate .ensures) _ (c .before .before .before .before .before .within .ensures) (search needs) _ (c .before .before .before .same .ensures) _ (c .before .is-view .ensures) (search needs)
+returns-2 c = node-view _ _ (c .before .before .before .before .before .before .before .before .before .before .propagate .ensures) _ (c .before .before .before .before .before .within .ensures) (search needs) _ (c .before .before .before .same .ensures) _ (search needs) (c .before .is-view .ensures) (search needs)
 
 returns-3 : tie.Need-returns-3
 returns-3 c = node-empty _ _ (c .before .before .before .before .before .before .before .before .before .before .propagate .ensures) _ (c .before .before .before .before .before .within .ensures) (search needs) _ (c .before .before .before .same .ensures) _ (search needs) (c .before .is-view .ensures) (search needs)

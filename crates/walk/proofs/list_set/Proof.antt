@@ -9,15 +9,15 @@ admits-requires c κs = search needs
 returns : tie.Need-returns
 returns c = set-refused _ _ _ _ _ _ _ _ _ _ _ (c .before .before .admits .ensures .0) _ (search needs) (c .before .before .before .before .before .before .before .pre .0 .place)
 
-list-views-requires : tie.Need-list-views-requires
-list-views-requires c κs = search needs
+list-requires : tie.Need-list-requires
+list-requires c κs = search needs
 
 same-length : tie.Need-same-length
 same-length c = search needs
 
 returns-2 : tie.Need-returns-2
-returns-2 c = set-listed _ _ _ _ _ _ _ _ _ _ _ (c .before .before .before .before .before .before .admits .ensures .0) _ (search needs) _ (c .before .before .before .before .before .before .admits .ensures .1) _ _ (c .before .before .list-views .ensures)
+returns-2 c = set-listed _ _ _ _ _ _ _ _ _ _ _ (c .before .before .before .before .before .before .admits .ensures .0) _ (search needs) _ (c .before .before .before .before .before .before .admits .ensures .1) _ _ (c .before .before .list .ensures)
 
 pub list-set-spec : {M : Type 1} → statement M
 list-set-spec =
-    tie.close (tie.spec admits-requires returns list-views-requires same-length returns-2)
+    tie.close (tie.spec admits-requires returns list-requires same-length returns-2)

@@ -1,5 +1,6 @@
 use native.Mathlib.Omega.{arith}
 use lib.Count.{trailing-le}
+use Rattle.bounds.proofs.Singles.{lowest-is}
 use Rattle.queue.proofs.waiting.low.Statement.{statement}
 use Rattle.queue.proofs.waiting.low.Tie as tie
 
@@ -7,7 +8,7 @@ cast-result : tie.Need-cast-result
 cast-result c = record { fits = omega (arith, trailing-le 64 (c .args .x)) }
 
 returns : tie.Need-returns
-returns c = trailing-le 64 _
+returns c = (trailing-le 64 _, lowest-is _)
 
 pub low-spec : {M : Type 1} → statement M
 low-spec = tie.close (tie.spec cast-result returns)

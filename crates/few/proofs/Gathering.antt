@@ -1,0 +1,66 @@
+-- The store has all views within the bounds: those of one half after those of the other.
+use mathlib.Core.Path.{_≡_, sym}
+use mathlib.Core.List.{List, [], _∷_, _++_}
+use mathlib.Core.Logic.{_⊎_, inl, inr, ⊎-elim}
+use Prim.Native.Nat.{ℕ, _+_, _-_, _*_, _<_, _≤_}
+use native.Mathlib.Omega.{arith}
+use lib.ListN.{length, take}
+use lib.Seq.{sets}
+use Rattle.logic.specs.Lists.{Among}
+use Rattle.logic.proofs.Members.{among-left, among-right, among-either}
+use Rattle.sets.specs.declared.Pair.{Pair}
+use Rattle.sets.specs.Pairs.{flat}
+use Rattle.sets.proofs.Pairs.{off-sym}
+use Rattle.masks.specs.declared.Bounds.{Bounds}
+use Rattle.masks.specs.Views.{MaskView}
+use Rattle.bounds.specs.Sound.{In, intoOf, outOf}
+use Rattle.bounds.proofs.Steps.{in-into, in-out}
+use Rattle.queue.specs.declared.waiting.Waiting.{Waiting}
+use Rattle.probe.specs.declared.Node.{Node}
+use Rattle.probe.specs.declared.Node.the-variants.{View, Empty, Open}
+use Rattle.probe.specs.Probes.{Opened}
+use Rattle.probe.proofs.Halves.{from-out, from-into}
+use Rattle.page.specs.Pages.{Page}
+use Rattle.page.proofs.Pages.{page-none, page-one, page-append}
+use Rattle.few.specs.Few.{most, Stock, Gathered}
+
+-- The store keeps its length.
+pub store-again : (l l′ : ℕ) → most * 3 ≤ l → l′ ≡ l → most * 3 ≤ l′
+store-again l l′ h e = rw e h
+
+module _ (ws : List ℕ) (n : ℕ) (ranks : List ℕ) (b : Bounds) (k : ℕ) (o : List ℕ) where
+  -- A full store promises nothing.
+  pub gathered-full : most ≤ k → k ≤ most → Gathered ws n ranks b k o o k
+  gathered-full h l = record { few = l; whole = λ e. absurd (omega arith) }
+
+  module _ (x : Node) (w : Opened ws n ranks b x) where
+    pub gathered-view : k < most → (v : Pair) → x ≡ View v → (o′ : List ℕ) → o′ ≡ sets o (k * 3) (flat (v ∷ [])) → Gathered ws n ranks b k o o′ (k + 1)
+    gathered-view h v e o′ f = record { few = omega arith; whole = λ l. (v ∷ [], page-one most k o o′ v h f, stock) }
+      where
+        stock : Stock ws n ranks b (v ∷ [])
+        stock = record {
+          only = λ u m. ⊎-elim (λ q. rw (← q) (w .view v e)) (λ z. absurd z) m;
+          all = λ u y i. inl (w .alone v e u y i);
+        }
+
+    pub gathered-empty : k ≤ most → x ≡ Empty → Gathered ws n ranks b k o o k
+    gathered-empty h e = record { few = h; whole = λ l. ([], page-none most k o, record { only = λ v m. absurd m; all = λ v y i. w .empty e v y i }) }
+
+    pub gathered-both : (c : Bounds) (m : Pair) (live : Waiting) → x ≡ Open c m live → (p p′ : Bounds) → p ≡ outOf c m → p′ ≡ intoOf c m
+        → (j r : ℕ) (o′ o″ : List ℕ) → Gathered ws n ranks p k o o′ j → Gathered ws n ranks p′ j o′ o″ r → Gathered ws n ranks b k o o″ r
+    gathered-both c m live e p p′ ep ep′ j r o′ o″ g g′ = record { few = g′ .few; whole = whole }
+      where
+        both : (ys zs : List Pair) → Stock ws n ranks p ys → Stock ws n ranks p′ zs → Stock ws n ranks b (ys ++ zs)
+        both ys zs s t = record {
+          only = λ v a. ⊎-elim (λ y. let f = rw ep at (s .only v y) in (f .0, from-out w c m live e (f .1))) (λ z. let f = rw ep′ at (t .only v z) in (f .0, from-into w c m live e (f .1))) (among-either v ys zs a);
+          all = λ v y i.
+              let h = w .halves c m live e in
+              let z = h .narrow .keeps .kept v y i in
+              ⊎-elim (λ a. among-right v ys zs (t .all v y (rw ep′ (in-into a z)))) (λ a. among-left v ys zs (s .all v y (rw ep (in-out (off-sym a) z)))) (h .atom v);
+        }
+
+        whole : r < most → (ys : List Pair) × Page most k o o″ ys r × Stock ws n ranks b ys
+        whole h =
+            let z = g′ .whole h in
+            let y = g .whole (omega (arith, z .1 .count)) in
+            (y .0 ++ z .0, page-append most k j r o o′ o″ (y .0) (z .0) (y .1) (z .1), both (y .0) (z .0) (y .2) (z .2))

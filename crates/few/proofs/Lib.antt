@@ -1,0 +1,4 @@
+pub mod Gathering
+pub mod Comparing
+pub mod Sorting
+pub mod Listing

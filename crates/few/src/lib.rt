@@ -1,0 +1,209 @@
+// All views within bounds, where these are few: gathered as the search finds them, then put on the page in the order of pairs.
+ghost use mathlib.Core.Path.{_≡_};
+ghost use mathlib.Core.Logic.{_⊎_};
+ghost use mathlib.Core.Bool.{false};
+ghost use Prim.Native.Nat.{_+_, _*_, _<_, _≤_};
+ghost use lib.ListN.{length};
+ghost use Rattle.queue.specs.Chains.{Chains};
+ghost use Rattle.page.specs.Pages.{pairAt, Fits, Listed};
+ghost use Rattle.few.specs.Few.{most, Gathered, Sooner, Follows, Leads, FirstOf, PutSorted, FewListed, AllListed};
+use masks::Bounds;
+use page::Task;
+use probe::Node;
+use queue::Rest;
+use queue::index;
+use queue::index::Index;
+use queue::waiting;
+use queue::waiting::Work;
+use sets::Pair;
+
+// How many views the store has room for. Where it is full there may be more.
+pub const MOST: usize = 32;
+
+// The page of all views within the bounds, or that they are many.
+pub enum Few {
+    All(usize),
+    Many,
+}
+
+// Puts the views within the bounds b into the store from place k on, as the search finds them, until it is full. Answers the place after them;
+// w is what is to be done before the bounds are at rest.
+pub fn gather(
+    words: &[u64],
+    n: usize,
+    ranks: &[u64],
+    index: &Index,
+    w: Work,
+    b: Bounds,
+    store: &mut [u64],
+    k: usize,
+) -> usize
+    requires { ⌜ (n * 8 ≤ length (now words)) × (length (now ranks) ≤ 64) × Chains (now words) n (now index) × (most * 3 ≤ length (now store)) × (k ≤ most) ⌝ }
+    ensures { λ r. ⌜ Gathered (now (words .entry)) n (now (ranks .entry)) b k (now (store .entry)) (now (store .exit)) r ⌝ }
+{
+    if MOST <= k {
+        return k;
+    }
+    let x = probe::visit(words, n, ranks, index, w, b);
+    match x {
+        Node::View(v) => {
+            page::put(store, k, v);
+            k + 1
+        }
+        Node::Empty => k,
+        Node::Open(c, m, live) => {
+            let o = bounds::out(c, m);
+            let t = index::among(index, live, c, o);
+            let j = gather(words, n, ranks, index, t, o, store, k);
+            let p = bounds::into(c, m);
+            let t = index::among(index, live, c, p);
+            gather(words, n, ranks, index, t, p, store, j)
+        }
+    }
+}
+
+// The pair a comes before b, if both take the same exceptions: the lowest statement that differs decides.
+pub fn sooner(a: Pair, b: Pair) -> bool
+    ensures { λ r. ⌜ Sooner a b r ⌝ }
+{
+    let i = waiting::low((a.held ^ b.held) | (a.denied ^ b.denied));
+    if 64 <= i {
+        return false;
+    }
+    page::value_at(a, i + 1) < page::value_at(b, i + 1)
+}
+
+// The same of the pairs at places i and j of the store.
+pub fn sooner_at(store: &[u64], i: usize, j: usize) -> bool
+    requires { ⌜ (i * 3 + 3 ≤ length (now store)) × (j * 3 + 3 ≤ length (now store)) ⌝ }
+    ensures { λ r. ⌜ Sooner (pairAt (now (store .entry)) i) (pairAt (now (store .entry)) j) r ⌝ }
+{
+    sooner(page::pair_at(store, i), page::pair_at(store, j))
+}
+
+// Of the first k pairs the one at place i is later than the one at place `last`, if there is one.
+pub fn follows(store: &[u64], k: usize, last: usize, i: usize) -> bool
+    requires { ⌜ (k * 3 ≤ length (now store)) × (i < k) ⌝ }
+    ensures { λ r. ⌜ Follows (now (store .entry)) k last i r ⌝ }
+{
+    if last < k {
+        return sooner_at(store, last, i);
+    }
+    true
+}
+
+// Of the first k pairs the one at place i comes before the one at place `best`, if there is one.
+pub fn leads(store: &[u64], k: usize, i: usize, best: usize) -> bool
+    requires { ⌜ (k * 3 ≤ length (now store)) × (i < k) ⌝ }
+    ensures { λ r. ⌜ Leads (now (store .entry)) k i best r ⌝ }
+{
+    if best < k {
+        return sooner_at(store, i, best);
+    }
+    true
+}
+
+// The place of the first of those that are later than the one at place `last`, of the pair at place i and those before it: of these it is at
+// place `best`.
+pub fn better(store: &[u64], k: usize, last: usize, best: usize, i: usize) -> usize
+    requires { ⌜ (k * 3 ≤ length (now store)) × (i < k) ⌝ }
+    ensures { λ r. ⌜ (FirstOf (now (store .entry)) k last i best → FirstOf (now (store .entry)) k last (i + 1) r) ⌝ }
+{
+    if !follows(store, k, last, i) {
+        return best;
+    }
+    if leads(store, k, i, best) {
+        return i;
+    }
+    best
+}
+
+// The place of the first in order of those of the first k pairs that are later than the one at place `last`; of all where there is no such
+// place. It is k if there are none.
+pub fn first_later(store: &[u64], k: usize, last: usize) -> usize
+    requires { ⌜ k * 3 ≤ length (now store) ⌝ }
+    ensures { λ r. ⌜ FirstOf (now (store .entry)) k last k r ⌝ }
+{
+    let mut best = k;
+    let mut i: usize = 0;
+    while i < k {
+        best = better(store, k, last, best, i);
+        i += 1;
+    }
+    best
+}
+
+// Puts the first k pairs of the store on the page from place `at` on, in the order of pairs, until it is full. Answers the place after them.
+pub fn put_sorted(store: &[u64], k: usize, room: usize, out: &mut [u64], at: usize) -> usize
+    requires { ⌜ (k * 3 ≤ length (now store)) × (room * 3 ≤ length (now out)) × (at ≤ room) ⌝ }
+    ensures { λ r. ⌜ PutSorted (now (store .entry)) k room at (now (out .entry)) (now (out .exit)) r ⌝ }
+{
+    let mut place = at;
+    let mut j = first_later(store, k, k);
+    while place < room {
+        if k <= j {
+            return place;
+        }
+        page::put(out, place, page::pair_at(store, j));
+        place += 1;
+        j = first_later(store, k, j);
+    }
+    place
+}
+
+// Puts all views within the bounds at rest on the page from place `at` on, in the order of pairs until it is full, if they are few.
+pub fn list_few(
+    words: &[u64],
+    ranks: &[u64],
+    index: &Index,
+    task: Task,
+    rest: Rest,
+    out: &mut [u64],
+    at: usize,
+) -> Few
+    requires { ⌜ (Fits (now words) (now ranks) (now out) task at) × Chains (now words) (task .rules) (now index) ⌝ }
+    ensures { λ r. ⌜ FewListed (now (words .entry)) (now (ranks .entry)) task (rest .bounds) at (now (out .entry)) (now (out .exit)) r ⌝ }
+{
+    let mut store = [0u64; MOST * 3];
+    let w = waiting::none(rest.live);
+    let k = gather(
+        words,
+        task.rules,
+        ranks,
+        index,
+        w,
+        rest.bounds,
+        &mut store,
+        0,
+    );
+    if MOST <= k {
+        return Few::Many;
+    }
+    Few::All(put_sorted(&store, k, task.room, out, at))
+}
+
+// Puts all views with these exceptions on the page from place `at` on, in the order of pairs until it is full; where `after` is true only those
+// later than the task's point. None of those views may be beyond the bounds at rest. Answers the place after them.
+pub fn list(
+    words: &[u64],
+    ranks: &[u64],
+    index: &Index,
+    task: Task,
+    taken: u64,
+    rest: Rest,
+    after: bool,
+    out: &mut [u64],
+    at: usize,
+) -> usize
+    requires { ⌜ (Fits (now words) (now ranks) (now out) task at) × Chains (now words) (task .rules) (now index) ⌝ }
+    ensures { λ r. ⌜ Listed (now (words .entry)) (now (ranks .entry)) task taken (rest .bounds) after at (now (out .entry)) (now (out .exit)) r ⊎ ((after ≡ false) × AllListed (now (words .entry)) (now (ranks .entry)) task (rest .bounds) at (now (out .entry)) (now (out .exit)) r) ⌝ }
+{
+    if after {
+        return page::list_views(words, ranks, index, task, taken, rest, after, out, at);
+    }
+    let f = list_few(words, ranks, index, task, rest, out, at);
+    match f {
+        Few::All(r) => r,
+        Few::Many => page::list_views(words, ranks, index, task, taken, rest, after, out, at),
+    }
+}
