@@ -1,28 +1,13 @@
 -- Which sets of exceptions a resolution can have (document 01): no view has a proper subset, and no view has a member that outranks one.
-use Prim.Native.Nat.{ℕ, _^_, _<_, _≤_}
+use Prim.Native.Nat.{ℕ, _<_, _≤_}
 use mathlib.Core.Path.{_≡_}
 use mathlib.Core.List.{List}
-use lib.Bits.{bitAnd}
 use lib.ListN.{length, getD}
 use Rattle.sets.specs.declared.Pair.{Pair}
-use Rattle.sets.specs.Sets.{bitOf, Within, Apart, without}
+use Rattle.sets.specs.Sets.{bitOf, Within, Apart}
 use Rattle.masks.specs.declared.Bounds.{Bounds}
 use Rattle.masks.specs.Views.{MaskView}
 use Rattle.bounds.specs.Sound.{In}
-
--- The bounds root with no exceptions but those of taken, the one at place e left out.
-unfoldable pub belowOf : Bounds → ℕ → ℕ → Bounds
-belowOf root taken e = record {
-  lo = root .lo;
-  hi = record { taken = bitAnd (root .hi .taken) (without taken (2 ^ e)); held = root .hi .held; denied = root .hi .denied };
-}
-
--- The bounds root with no exceptions but those of taken.
-unfoldable pub beneathOf : Bounds → ℕ → Bounds
-beneathOf root taken = record {
-  lo = root .lo;
-  hi = record { taken = bitAnd (root .hi .taken) taken; held = root .hi .held; denied = root .hi .denied };
-}
 
 -- No view within root has a proper subset of taken; the same of the subsets that lack the exception at place e.
 pub record Minimal (ws : List ℕ) (n : ℕ) (ranks : List ℕ) (root : Bounds) (taken : ℕ) : Type 0 where

@@ -1,32 +1,14 @@
 // Which sets of exceptions a resolution can have: no view has a proper subset, and no view has a member that outranks one.
-ghost use mathlib.Core.Path.{_≡_};
 ghost use Prim.Native.Nat.{_*_, _<_, _≤_};
 ghost use lib.ListN.{length};
 ghost use Rattle.logic.specs.Tests.{Decides};
 ghost use Rattle.queue.specs.Chains.{Chains};
-ghost use Rattle.admissible.specs.Admissible.{belowOf, beneathOf, Minimal, MinimalAt, Undominated, UndominatedAt, Admissible};
+ghost use Rattle.admissible.specs.Admissible.{Minimal, MinimalAt, Undominated, UndominatedAt, Admissible};
 use masks::Bounds;
 use probe::Answer;
 use queue::index;
 use queue::index::Index;
 use queue::waiting::Waiting;
-use sets::Pair;
-
-// The bounds root with no exceptions but those of `taken`, the one at place e left out.
-pub fn below(root: Bounds, taken: u64, e: u64) -> Bounds
-    requires { ⌜ e < 64 ⌝ }
-    ensures { λ b. ⌜ b ≡ belowOf root taken e ⌝ }
-{
-    let lo = root.lo;
-    Bounds {
-        lo,
-        hi: Pair {
-            taken: root.hi.taken & (taken ^ (taken & (1 << e))),
-            held: root.hi.held,
-            denied: root.hi.denied,
-        },
-    }
-}
 
 // No view within root has a subset of `taken` that lacks its exception at place e. The bounds root are at rest with these live rules.
 pub fn minimal_at(
@@ -48,7 +30,7 @@ pub fn minimal_at(
     if (root.lo.taken >> e) % 2 == 1 {
         return true;
     }
-    let b = below(root, taken, e);
+    let b = bounds::with_sets(root, 0, taken ^ (taken & (1 << e)));
     let t = index::among(index, live, root, b);
     let a = probe::probe(words, n, ranks, index, t, b);
     match a {
@@ -80,21 +62,6 @@ pub fn each_needed(
     true
 }
 
-// The bounds root with no exceptions but those of `taken`.
-pub fn beneath(root: Bounds, taken: u64) -> Bounds
-    ensures { λ b. ⌜ b ≡ beneathOf root taken ⌝ }
-{
-    let lo = root.lo;
-    Bounds {
-        lo,
-        hi: Pair {
-            taken: root.hi.taken & taken,
-            held: root.hi.held,
-            denied: root.hi.denied,
-        },
-    }
-}
-
 // No view within root has a proper subset of `taken`. What all subsets have in common is found first, once for all members.
 pub fn minimal(
     words: &[u64],
@@ -107,7 +74,7 @@ pub fn minimal(
     requires { ⌜ (n * 8 ≤ length (now words)) × (length (now ranks) ≤ 64) × Chains (now words) n (now index) ⌝ }
     ensures { λ r. ⌜ Decides r (Minimal (now (words .entry)) n (now (ranks .entry)) root taken) ⌝ }
 {
-    let b = beneath(root, taken);
+    let b = bounds::with_sets(root, 0, taken);
     let rest = queue::propagate(words, n, ranks, index, index::changed(index, root, b), b);
     each_needed(words, n, ranks, index, rest.live, rest.bounds, taken)
 }

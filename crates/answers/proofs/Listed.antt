@@ -2,8 +2,8 @@
 -- computed answer, so the claim about lists of calls follows.
 use mathlib.Core.Path.{_≡_, refl}
 use mathlib.Core.List.{List}
-use mathlib.Core.Logic.{_⊎_, inl, inr, ⊎-elim}
-use Prim.Native.Nat.{ℕ, zero, suc, _<_}
+use mathlib.Core.Logic.{⊎-elim}
+use Prim.Native.Nat.{ℕ, zero, suc}
 use native.Mathlib.Omega.{arith}
 use lib.IntN.{ℤ}
 use Rattle.sets.specs.declared.Pair.{Pair}
@@ -13,7 +13,7 @@ use Rattle.text.specs.Reading.Outcome.{accepted}
 use Rattle.meaning.specs.Books.{Book, PairRefused, past-exceptions, past-statements, shared}
 use Rattle.meaning.specs.Meant.{bookOf}
 use Rattle.meaning.specs.Order.{at}
-use Rattle.meaning.specs.Listings.{Answer, refused, Operation, first, after, pointOf, Refused, unlawful, short, Demand3}
+use Rattle.meaning.specs.Listings.{refused, Operation, first, after, pointOf, Refused, unlawful, short, Demand3}
 use Rattle.meaning.specs.Twins.Verdicts.{pairRefusal}
 use Rattle.meaning.specs.Twins.Next.{nextFrom}
 use Rattle.meaning.proofs.Refusals.{lawful-or-refused, refusal-one}

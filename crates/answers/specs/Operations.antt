@@ -1,9 +1,8 @@
 -- What Judge, First, After, a page and Line answer on every input (document 01, 'Six operations'): the text's refusal first, then the pair's,
 -- then that of the lent buffer, then the answer.
-use Prim.Native.Nat.{ℕ, zero, suc, _*_, _/_}
-use mathlib.Core.Bool.{Bool, true, false}
+use Prim.Native.Nat.{ℕ, zero, suc, _/_}
 use mathlib.Core.Path.{_≡_}
-use mathlib.Core.List.{List, [], _∷_}
+use mathlib.Core.List.{List}
 use lib.Dec.{ltb}
 use lib.ListN.{length}
 use Rattle.logic.specs.Tests.{pick}
@@ -14,7 +13,7 @@ use Rattle.text.specs.Reading.Outcome.{accepted, refused as unread}
 use Rattle.text.specs.ALines.{aLine}
 use Rattle.meaning.specs.Books.{Book}
 use Rattle.meaning.specs.Meant.{bookOf}
-use Rattle.meaning.specs.Order.{Point, start, at}
+use Rattle.meaning.specs.Order.{start, at}
 use Rattle.meaning.specs.Listings.{Answer, found, end, refused, Operation, first, after}
 use Rattle.meaning.specs.Twins.Verdicts.{pairRefusal, verdict}
 use Rattle.meaning.specs.Twins.Next.{nextFrom, pageFrom}

@@ -1,6 +1,5 @@
 -- What the program `ways` prints for a text on its standard input (document 01, 'Six operations', its last paragraph).
 use Prim.Native.Nat.{ℕ, suc}
-use mathlib.Core.Bool.{Bool}
 use mathlib.Core.List.{List, [], _∷_, _++_}
 use lib.Dec.{ltb}
 use lib.IntN.{pos}

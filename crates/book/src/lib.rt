@@ -1,6 +1,6 @@
 // The book as a type: its limits, its kinds of line, the empty book.
 ghost use mathlib.Core.Path.{_≡_};
-ghost use mathlib.Core.Bool.{Bool, true, false};
+ghost use mathlib.Core.Bool.{true, false};
 ghost use Prim.Native.Nat.{_<_};
 ghost use lib.ListN.{length, getD};
 ghost use Rattle.book.specs.Kinds.{kind, none, contents};

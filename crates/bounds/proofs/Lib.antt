@@ -1,2 +1,3 @@
 pub mod Singles
+pub mod Ranges
 pub mod Steps

@@ -3,6 +3,7 @@
 use Prim.Native.Nat.{ℕ}
 use mathlib.Core.Path.{_≡_}
 use mathlib.Core.List.{List, []}
+use lib.Bits.{bitAnd, bitOr}
 use Rattle.sets.specs.declared.Pair.{Pair}
 use Rattle.sets.specs.Sets.{bitOf, Apart}
 use Rattle.sets.specs.Pairs.{Sub, joinOf, meetOf, minusOf}
@@ -28,6 +29,13 @@ outOf b m = record { lo = b .lo; hi = minusOf (b .hi) m }
 
 unfoldable pub narrowOf : Bounds → Bounds → Bounds
 narrowOf b o = record { lo = joinOf (b .lo) (o .lo); hi = meetOf (b .hi) (o .hi) }
+
+-- The bounds root with only the sets of exceptions from lo to hi.
+unfoldable pub withSets : Bounds → ℕ → ℕ → Bounds
+withSets root lo hi = record {
+  lo = record { taken = bitOr (root .lo .taken) lo; held = root .lo .held; denied = root .lo .denied };
+  hi = record { taken = bitAnd (root .hi .taken) hi; held = root .hi .held; denied = root .hi .denied };
+}
 
 -- What follows are the properties P of a view that the steps use, each by a fact of ALGORITHM.md.
 -- The pair meets the rule and satisfies its body; it meets the rule and does not.

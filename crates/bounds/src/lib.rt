@@ -1,10 +1,10 @@
 // Sound steps on bounds: no view within them is lost. In which order steps are taken, no proof depends on.
 ghost use mathlib.Core.Path.{_≡_};
-ghost use Prim.Native.Nat.{_+_, _*_, _<_, _≤_};
+ghost use Prim.Native.Nat.{_*_, _<_, _≤_};
 ghost use lib.ListN.{length};
 ghost use Rattle.masks.specs.Views.{Meets};
 ghost use Rattle.bounds.specs.Singles.{oneOf, Place, Picked};
-ghost use Rattle.bounds.specs.Sound.{Keeps, Firing, Idle, Coherent, Levelled, LevelledAt, Ruled, intoOf, outOf, narrowOf};
+ghost use Rattle.bounds.specs.Sound.{Keeps, Firing, Idle, Coherent, Levelled, LevelledAt, Ruled, intoOf, outOf, narrowOf, withSets};
 use masks::Bounds;
 use masks::Masks;
 use sets::Pair;
@@ -115,6 +115,24 @@ pub fn narrowed(b: Bounds, o: Bounds) -> Bounds
     Bounds {
         lo: sets::join(b.lo, o.lo),
         hi: sets::meet(b.hi, o.hi),
+    }
+}
+
+// The bounds root with only the sets of exceptions from lo to hi.
+pub fn with_sets(root: Bounds, lo: u64, hi: u64) -> Bounds
+    ensures { λ b. ⌜ b ≡ withSets root lo hi ⌝ }
+{
+    Bounds {
+        lo: Pair {
+            taken: root.lo.taken | lo,
+            held: root.lo.held,
+            denied: root.lo.denied,
+        },
+        hi: Pair {
+            taken: root.hi.taken & hi,
+            held: root.hi.held,
+            denied: root.hi.denied,
+        },
     }
 }
 

@@ -1,17 +1,16 @@
 -- What is answered of a prepared book: its root bounds, the verdict, pages. A page of the walk is the page of the definitions, since both are
 -- the front of the one list of all later resolutions.
-use mathlib.Core.Path.{_≡_, refl, sym, ap, _∙_}
-use mathlib.Core.List.{List, [], _∷_, _++_}
-use Prim.Native.Nat.{ℕ, zero, suc, _-_, _*_, _/_, _<_, _≤_}
-use native.Mathlib.Nat.{le-trans, div-mul-le-self}
+use mathlib.Core.Path.{_≡_, sym, _∙_}
+use mathlib.Core.List.{List}
+use Prim.Native.Nat.{ℕ, _-_, _*_, _/_, _≤_}
+use native.Mathlib.Nat.{div-mul-le-self}
 use native.Mathlib.Omega.{arith}
 use lib.IntN.{ℤ}
-use lib.ListN.{length, take, drop, length-take}
+use lib.ListN.{length, take, length-take}
 use lib.Seq.{sets}
 use Rattle.sets.specs.declared.Pair.{Pair}
 use Rattle.sets.specs.Pairs.{flat}
 use Rattle.book.specs.declared.Shape.{Shape}
-use Rattle.book.specs.Limits as limit
 use Rattle.text.specs.Reading.{over}
 use Rattle.text.proofs.Lent.{over-sets}
 use Rattle.masks.specs.declared.Bounds.{Bounds}
@@ -19,7 +18,7 @@ use Rattle.bounds.specs.Sound.{Propagated}
 use Rattle.page.specs.declared.Task.{Task}
 use Rattle.page.specs.Pages.{Page}
 use Rattle.page.proofs.Pages.{flat-length}
-use Rattle.meaning.specs.Books.{Book, Lawful}
+use Rattle.meaning.specs.Books.{Book}
 use Rattle.meaning.specs.Meant.{bookOf}
 use Rattle.meaning.specs.Order.{Point, start, at, LawfulPoint, AllLater}
 use Rattle.meaning.specs.Twins.Next.{pageFrom}
@@ -27,7 +26,6 @@ use Rattle.meaning.proofs.Meant.{exceptions-count}
 use Rattle.meaning.proofs.Pages.{page-is}
 use Rattle.bridge.specs.Roots.{rootOf}
 use Rattle.bridge.specs.Rows.{ruleCount}
-use Rattle.resolution.specs.Rooted.{Rooted}
 use Rattle.resolution.proofs.Resolutions.{rooted}
 use Rattle.judge.specs.Judged.{Judged}
 use Rattle.walk.specs.Walks.{Serves, FirstPage, PageAfter}

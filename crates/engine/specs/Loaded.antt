@@ -1,5 +1,5 @@
 -- A book as it is prepared for the search, and what is answered of it.
-use Prim.Native.Nat.{ℕ, _*_, _/_, _≤_}
+use Prim.Native.Nat.{ℕ, _/_, _≤_}
 use mathlib.Core.Path.{_≡_}
 use mathlib.Core.List.{List}
 use lib.IntN.{ℤ}
@@ -9,7 +9,7 @@ use Rattle.sets.specs.Pairs.{flat}
 use Rattle.book.specs.declared.Shape.{Shape}
 use Rattle.book.specs.Limits as limit
 use Rattle.text.specs.Reading.{over}
-use Rattle.meaning.specs.Books.{Book, Lawful}
+use Rattle.meaning.specs.Books.{Lawful}
 use Rattle.meaning.specs.Meant.{bookOf}
 use Rattle.meaning.specs.Order.{Point, LawfulPoint}
 use Rattle.meaning.specs.Twins.Verdicts.{verdict}

@@ -1,5 +1,4 @@
 // A prepared book: the verdict on a pair, and the pages of its resolutions.
-ghost use mathlib.Core.Path.{_≡_};
 ghost use Prim.Native.Nat.{_+_, _<_};
 ghost use Rattle.book.specs.Kinds.{sets as setsOf};
 ghost use Rattle.meaning.specs.Order.{start, at as atPair};

@@ -1,8 +1,8 @@
 -- Of two coherent pairs with the same exceptions the lowest place at which their words differ decides which comes first.
 use mathlib.Core.Path.{_≡_, refl, sym, ap, _∙_}
-use mathlib.Core.Bool.{Bool, true, false}
-use mathlib.Core.Logic.{_⊎_, inl, inr, ⊎-elim}
-use Prim.Native.Nat.{ℕ, zero, suc, _+_, _-_, _^_, _<_, _≤_, max}
+use mathlib.Core.Bool.{Bool, false}
+use mathlib.Core.Logic.{inl, inr, ⊎-elim}
+use Prim.Native.Nat.{ℕ, zero, suc, _+_, _^_, _<_, _≤_, max}
 use native.Mathlib.Nat.{eq-or-lt-of-le}
 use native.Mathlib.Numerals.{add-one}
 use native.Mathlib.Omega.{arith}
@@ -16,7 +16,7 @@ use Rattle.sets.proofs.Digits.{by-digits, bit-lt, bit-or, bit-xor, ext}
 use Rattle.sets.proofs.Words.{member-suc, apart-disjoint}
 use Rattle.sets.proofs.Pairs.{pair}
 use Rattle.bounds.specs.Singles.{Lowest}
-use Rattle.meaning.specs.Order.{valueOf, value, Before, differs}
+use Rattle.meaning.specs.Order.{value, differs}
 use Rattle.meaning.proofs.Ordered.{held-digit, denied-digit}
 use Rattle.few.specs.Few.{Sooner}
 

@@ -1,19 +1,16 @@
 -- The store has all views within the bounds: those of one half after those of the other.
-use mathlib.Core.Path.{_≡_, sym}
+use mathlib.Core.Path.{_≡_}
 use mathlib.Core.List.{List, [], _∷_, _++_}
-use mathlib.Core.Logic.{_⊎_, inl, inr, ⊎-elim}
-use Prim.Native.Nat.{ℕ, _+_, _-_, _*_, _<_, _≤_}
+use mathlib.Core.Logic.{inl, ⊎-elim}
+use Prim.Native.Nat.{ℕ, _+_, _*_, _<_, _≤_}
 use native.Mathlib.Omega.{arith}
-use lib.ListN.{length, take}
 use lib.Seq.{sets}
-use Rattle.logic.specs.Lists.{Among}
 use Rattle.logic.proofs.Members.{among-left, among-right, among-either}
 use Rattle.sets.specs.declared.Pair.{Pair}
 use Rattle.sets.specs.Pairs.{flat}
 use Rattle.sets.proofs.Pairs.{off-sym}
 use Rattle.masks.specs.declared.Bounds.{Bounds}
-use Rattle.masks.specs.Views.{MaskView}
-use Rattle.bounds.specs.Sound.{In, intoOf, outOf}
+use Rattle.bounds.specs.Sound.{intoOf, outOf}
 use Rattle.bounds.proofs.Steps.{in-into, in-out}
 use Rattle.queue.specs.declared.waiting.Waiting.{Waiting}
 use Rattle.probe.specs.declared.Node.{Node}

@@ -1,25 +1,23 @@
 -- The page of few views: the store, which is not full, has all views within the bounds, and its pairs are put on the page in order.
 use mathlib.Core.Path.{_≡_, refl, sym, ap, _∙_}
-use mathlib.Core.Bool.{Bool, true, false}
-use mathlib.Core.List.{List, [], _∷_, _++_}
+use mathlib.Core.Bool.{Bool, false}
+use mathlib.Core.List.{List, [], _∷_}
 use mathlib.Core.Logic.{_⊎_, inl, inr, ⊎-elim}
-use Prim.Native.Nat.{ℕ, zero, suc, _+_, _-_, _*_, _<_, _≤_}
+use Prim.Native.Nat.{ℕ, zero, suc, _+_, _*_, _<_, _≤_}
 use native.Mathlib.Nat.{zero-add}
 use native.Mathlib.Omega.{arith}
-use lib.ListN.{length, take, drop}
+use lib.ListN.{length, take}
 use lib.Seq.{sets, sets-eq}
 use Rattle.logic.specs.Lists.{Among}
 use Rattle.sets.specs.declared.Pair.{Pair}
 use Rattle.sets.specs.Pairs.{flat}
 use Rattle.masks.specs.declared.Bounds.{Bounds}
-use Rattle.masks.specs.Views.{MaskView}
-use Rattle.meaning.specs.Order.{Ascending}
 use Rattle.page.specs.declared.Task.{Task}
 use Rattle.page.specs.Pages.{pairAt, pairsIn, Page, Listed}
 use Rattle.page.proofs.Pages.{flat-length, pairs-front}
 use Rattle.few.specs.declared.Few.{Few}
 use Rattle.few.specs.declared.Few.the-variants.{All, Many}
-use Rattle.few.specs.Few.{most, Stock, Gathered, Alike, Sorts, PutSorted, OneSet, AllListed, FewListed}
+use Rattle.few.specs.Few.{most, Stock, Gathered, PutSorted, AllListed, FewListed}
 
 -- ---- the pairs of a store
 pairs-among : (l : List ℕ) (k i j : ℕ) → i < k → Among (pairAt l (j + i)) (pairsIn l j k)

@@ -4,7 +4,7 @@ use mathlib.Core.Bool.{Bool, true, false}
 use mathlib.Core.Path.{_≡_}
 use mathlib.Core.List.{List}
 use mathlib.Core.Logic.{_⊎_}
-use Rattle.logic.specs.Lists.{Among, Every}
+use Rattle.logic.specs.Lists.{Among}
 use Rattle.sets.specs.declared.Pair.{Pair}
 use Rattle.sets.specs.Sets.{Apart}
 use Rattle.masks.specs.declared.Bounds.{Bounds}

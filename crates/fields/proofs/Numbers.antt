@@ -2,17 +2,15 @@
 -- Ranges by their bounds, counts as signed numbers, and what a line's numbers say.
 use mathlib.Core.Path.{_≡_, refl, sym, ap, _∙_}
 use mathlib.Core.Bool.{Bool, true, false, not, _||_}
-use mathlib.Core.List.{List, [], _∷_}
-use Prim.Native.Nat.{ℕ, zero, suc, _+_, _-_, _*_, _<_, _≤_}
+use Prim.Native.Nat.{ℕ, zero, suc, _+_, _<_}
 use native.Mathlib.Omega.{arith}
-use lib.Dec.{ltb, leb}
 use lib.IntN.{ℤ, pos, negsuc, negℤ, _-ℤ_, +ℤ-idl}
 use lib.Signed.{mag, ltZ, leZ}
 use mir.Syntax.{w32}
-use mir.Val.{toZ, ofZ, SFits}
+use mir.Val.{toZ, SFits}
 use mir.Facts.{toZ-ofZ, toZ-pos}
 use borrow.Author.Needs.{sfits-of}
-use borrow.Author.Tests.{ltb-true, ltb-false, le-leb, lt-leb}
+use borrow.Author.Tests.{ltb-true}
 use Rattle.logic.specs.Tests.{both, either, pick}
 use Rattle.book.specs.declared.Content.{Content}
 use Rattle.book.specs.declared.Content.the-variants.{Edition, Statements, Literal, Exception, Total}
@@ -24,7 +22,7 @@ use Rattle.fields.specs.declared.Checked.{Checked}
 use Rattle.fields.specs.declared.Checked.the-variants.{Fine, Refused}
 use Rattle.fields.specs.declared.Seen.{Seen}
 use Rattle.fields.specs.Checks.{numberIs, range, seeOf}
-use Rattle.fields.proofs.Columns.{back, back-same, lt-le, ge-le}
+use Rattle.fields.proofs.Columns.{back, lt-le, ge-le}
 
 -- ---- one number
 module _ (low high v : ℤ) (q : ℕ) (b : Bool) (f : b ≡ between low high v) where

@@ -1,5 +1,4 @@
 // The verdict on a lawful pair of a prepared book.
-ghost use mathlib.Core.Path.{_≡_};
 ghost use Prim.Native.Nat.{_*_, _≤_};
 ghost use lib.ListN.{length};
 ghost use Rattle.queue.specs.Chains.{Chains};

@@ -1,17 +1,14 @@
 -- The code's tests of a pair are document 01's conditions: a bit past k is a number not below 2 ^ k, a shared bit a common member.
-use mathlib.Core.Path.{_≡_, refl, sym}
-use mathlib.Core.Logic.{_⊎_, inl, inr, ⊎-elim}
-use Prim.Native.Nat.{ℕ, _+_, _*_, _/_, _%_, _^_, _<_, _≤_}
+use mathlib.Core.Path.{_≡_, sym}
+use Prim.Native.Nat.{ℕ, _+_, _*_, _/_, _%_, _^_, _<_}
 use native.Mathlib.Nat.{div-eq-of-lt, mod-lt}
 use native.Mathlib.Omega.{arith}
 use lib.Bits.{bitAnd}
-use lib.ListN.{length}
 use lib.Pow.{split, pow-pos}
 use Rattle.sets.specs.declared.Pair.{Pair}
 use Rattle.sets.proofs.Words.{and-none, none-and, apart-disjoint, disjoint-apart}
-use Rattle.meaning.specs.Literals.{Consistent, isIn}
-use Rattle.meaning.specs.Books.{Book, conclusions, Lawful, PairRefused, past-exceptions, past-statements, shared}
-use Rattle.meaning.specs.Twins.Verdicts.{pairRefusal}
+use Rattle.meaning.specs.Literals.{isIn}
+use Rattle.meaning.specs.Books.{past-exceptions, past-statements, shared}
 use Rattle.meaning.proofs.Refusals.{refusal-one, lawful-none}
 use Rattle.lawful.specs.Refusals.{Refuses}
 

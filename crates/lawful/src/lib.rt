@@ -1,5 +1,4 @@
 // The refusal of a pair: 12 to 14 of document 01, or none.
-ghost use mathlib.Core.Path.{_≡_};
 ghost use Prim.Native.Nat.{_<_};
 ghost use Rattle.lawful.specs.Refusals.{Refuses};
 use sets::Pair;

@@ -5,7 +5,6 @@ use Prim.Native.Nat.{ℕ}
 use lib.ListN.{replicate}
 use Rattle.logic.specs.Tests.{both, either, pick, keep, consIf, concatMap}
 use Rattle.sets.specs.Sets.{member, sizeTo, size}
-use Rattle.sets.specs.declared.Pair.{Pair}
 use Rattle.text.specs.Fields.{columnOf, columns, written, writtenAll}
 use Rattle.text.specs.ALines.{from, takenFields, mark, aLine}
 

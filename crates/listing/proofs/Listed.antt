@@ -1,24 +1,22 @@
 -- What the buffers hold is what is listed.
-use Prim.Native.Nat.{ℕ, zero, suc, _+_, _-_, _*_, _/_, _<_, _≤_}
+use Prim.Native.Nat.{ℕ, suc, _+_, _-_, _*_, _/_, _<_, _≤_}
 use mathlib.Core.Path.{_≡_, refl, sym, ap, _∙_}
-use mathlib.Core.Bool.{Bool, true, false}
 use mathlib.Core.List.{List, [], _∷_, _++_}
 use native.Mathlib.Nat.{le-trans, mul-le-mul-right, mul-le-mul-left}
 use native.Mathlib.Omega.{arith}
 use lib.IntN.{ℤ}
-use lib.ListN.{length, take, drop, length-append}
+use lib.ListN.{length, take, length-append}
 use lib.Seq.{sets, take-all, take-take, length-take-le}
 use Rattle.logic.proofs.Stores.{sets-append}
 use Rattle.sets.specs.declared.Pair.{Pair}
-use Rattle.sets.specs.Pairs.{flat}
 use Rattle.book.specs.declared.Shape.{Shape}
 use Rattle.book.specs.Limits as limit
 use Rattle.text.specs.Reading.{over}
-use Rattle.meaning.specs.Books.{Book, Lawful}
+use Rattle.meaning.specs.Books.{Book}
 use Rattle.meaning.specs.Meant.{bookOf}
-use Rattle.meaning.specs.Order.{Point, start, at, LawfulPoint}
+use Rattle.meaning.specs.Order.{Point, at, LawfulPoint}
 use Rattle.meaning.specs.Twins.Next.{pageFrom}
-use Rattle.answers.specs.Ways.{linesOf, listed, printed, mostLines}
+use Rattle.answers.specs.Ways.{linesOf, listed, printed}
 use Rattle.line.specs.Parts.{lineBytes}
 use Rattle.engine.specs.Loaded.{Loaded, PageIs}
 use Rattle.page.specs.Pages.{pairsIn}

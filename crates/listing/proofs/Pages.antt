@@ -1,14 +1,13 @@
 -- Pages one after another: a full page goes on from its last pair, and a page that is not full is all there is.
-use Prim.Native.Nat.{ℕ, zero, suc, _+_, _*_, _<_, _≤_}
-use mathlib.Core.Path.{_≡_, refl, sym, ap, _∙_}
+use Prim.Native.Nat.{ℕ, zero, suc, _+_, _<_, _≤_}
+use mathlib.Core.Path.{_≡_, refl, ap}
 use mathlib.Core.List.{List, [], _∷_, _++_}
 use native.Mathlib.Nat.{zero-add, suc-add, add-zero}
 use native.Mathlib.Omega.{arith}
-use lib.ListN.{length, take, getD}
+use lib.ListN.{length, take}
 use Rattle.sets.specs.declared.Pair.{Pair}
-use Rattle.sets.specs.Pairs.{flat}
 use Rattle.meaning.specs.Books.{Book}
-use Rattle.meaning.specs.Order.{Point, start, at, LawfulPoint}
+use Rattle.meaning.specs.Order.{Point, at, LawfulPoint}
 use Rattle.meaning.specs.Listings.{Answer, found, end, refused, FirstLater}
 use Rattle.meaning.specs.Twins.Next.{nextFrom, onwardFrom, pageFrom}
 use Rattle.meaning.proofs.Next.{next-is}

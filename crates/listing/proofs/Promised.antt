@@ -1,7 +1,7 @@
 -- What `opening`, `go_on` and `begin` promise, from what their parts left.
-use Prim.Native.Nat.{ℕ, zero, suc, _+_, _-_, _*_, _/_, _^_, _<_, _≤_}
+use Prim.Native.Nat.{ℕ, suc, _+_, _-_, _*_, _/_, _<_, _≤_}
 use mathlib.Core.Path.{_≡_, refl, sym, ap, _∙_}
-use mathlib.Core.Bool.{Bool, true, false}
+use mathlib.Core.Bool.{true, false}
 use mathlib.Core.List.{List, [], _∷_, _++_}
 use mathlib.Core.Logic.{_⊎_, inl, inr, ⊎-elim}
 use native.Mathlib.Nat.{lt-of-lt-of-le}
@@ -9,7 +9,7 @@ use native.Mathlib.Omega.{arith}
 use lib.IntN.{ℤ}
 use lib.ListN.{length, take}
 use lib.Pow.{pow-mono}
-use lib.Seq.{sets, take-all}
+use lib.Seq.{sets}
 use Rattle.logic.proofs.Decide.{clash}
 use Rattle.sets.specs.declared.Pair.{Pair}
 use Rattle.sets.proofs.Digits.{lt-or-le}
@@ -20,20 +20,18 @@ use Rattle.text.specs.declared.Refusal.{Refusal}
 use Rattle.text.specs.Fields.{written, writtenAll, columns}
 use Rattle.text.specs.Reading.{readText}
 use Rattle.text.specs.Reading.Outcome.{accepted, refused}
-use Rattle.meaning.specs.Books.{Book, Lawful}
 use Rattle.meaning.specs.Meant.{bookOf}
 use Rattle.meaning.specs.Order.{Point, start, at, LawfulPoint}
 use Rattle.meaning.specs.Twins.Next.{pageFrom}
 use Rattle.meaning.proofs.Meant.{exceptions-count}
 use Rattle.answers.specs.Operations.{onText}
-use Rattle.answers.specs.Ways.{linesOf, listed, mostLines, failed, waysOf}
-use Rattle.answers.proofs.Refused.{Known, text-known}
+use Rattle.answers.specs.Ways.{linesOf, mostLines, failed, waysOf}
+use Rattle.answers.proofs.Refused.{text-known}
 use Rattle.line.specs.Parts.{lineBytes}
 use Rattle.engine.specs.Loaded.{Loaded, PageIs}
 use Rattle.listing.specs.declared.Part.{Part}
-use Rattle.listing.specs.declared.Begun.{Begun}
 use Rattle.page.specs.Pages.{pairAt, pairsIn}
-use Rattle.listing.specs.Parts.{partLines, longestLine, partBytes, Closes, Fills, Prints, Lists, Prepared, Ready, Begins, GoesOn}
+use Rattle.listing.specs.Parts.{partLines, longestLine, partBytes, Closes, Fills, Prints, Lists, Prepared, Ready, Begins}
 use Rattle.listing.proofs.Pages.{lastPoint, page-lawful, last-point}
 use Rattle.listing.proofs.Printed.{front-is}
 use Rattle.listing.proofs.Listed.{front-listed, ended-listed, cut-listed, at-most, statements-same, page-count, page-few, page-pairs, page-all, lines-shown, closed-shown}

@@ -1,16 +1,16 @@
 -- What `ways` prints, part by part: the first from the text, each other from the prepared book, the point and the lines that are left.
-use Prim.Native.Nat.{ℕ, zero, suc, _+_, _-_, _*_, _<_, _≤_}
+use Prim.Native.Nat.{ℕ, _+_, _-_, _*_, _<_, _≤_}
 use mathlib.Core.Bool.{true, false}
 use mathlib.Core.Path.{_≡_}
 use mathlib.Core.List.{List, [], _∷_, _++_}
 use lib.IntN.{ℤ}
-use lib.ListN.{length, take, getD}
+use lib.ListN.{length, take}
 use Rattle.sets.specs.declared.Pair.{Pair}
 use Rattle.book.specs.declared.Shape.{Shape}
 use Rattle.book.specs.Limits as limit
 use Rattle.meaning.specs.Books.{Lawful}
 use Rattle.meaning.specs.Meant.{bookOf}
-use Rattle.meaning.specs.Order.{Point, start, at, LawfulPoint}
+use Rattle.meaning.specs.Order.{Point, at, LawfulPoint}
 use Rattle.answers.specs.Ways.{linesOf, listed, mostLines, waysOf}
 use Rattle.line.specs.Parts.{lineBytes}
 use Rattle.page.specs.Pages.{pairAt, pairsIn}

@@ -2,8 +2,7 @@
 use mathlib.Core.Path.{_≡_, refl, sym, ap, _∙_}
 use mathlib.Core.Bool.{Bool, true, false}
 use mathlib.Core.List.{List, [], _∷_}
-use mathlib.Core.Logic.{_⊎_, inl, inr, ⊎-elim}
-use Prim.Native.Nat.{ℕ, zero, suc, _+_, _-_, _<_, _≤_}
+use Prim.Native.Nat.{ℕ, zero, suc, _-_, _≤_}
 use native.Mathlib.Omega.{arith}
 use lib.ListN.{length}
 use Rattle.logic.specs.Lists.{Every}
@@ -15,7 +14,7 @@ use Rattle.sets.proofs.Words.{member-empty}
 use Rattle.meaning.specs.Literals.{Literal, pos, neg, Conclusions, isIn, _∈_, _⊆_}
 use Rattle.meaning.specs.Rules.{Head, none, gives, Rule}
 use Rattle.meaning.specs.AnswerSets.{Given, Closed, Least}
-use Rattle.meaning.specs.Twins.Closure.{add, addHead, Fired, nothing, fires, keepBack, takeOut, closeBy, empty, closure}
+use Rattle.meaning.specs.Twins.Closure.{addHead, Fired, nothing, fires, keepBack, takeOut, closeBy, empty, closure}
 use Rattle.meaning.proofs.Members.{add-keeps, add-has, add-only, At, subset-same}
 
 -- The rule's needed entries are all in t.

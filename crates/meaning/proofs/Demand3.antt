@@ -2,25 +2,24 @@
 -- resolutions and leaves its tail; a refused call leaves the list as it is.
 use mathlib.Core.Path.{_≡_, refl, sym, ap, _∙_}
 use mathlib.Core.Bool.{Bool, true, false}
-use mathlib.Core.List.{List, [], _∷_, _++_}
+use mathlib.Core.List.{List, [], _∷_}
 use mathlib.Core.Logic.{_⊎_, inl, inr, ⊎-elim, _↔_}
-use Prim.Native.Nat.{ℕ, zero, suc, _+_, _-_, _<_, _≤_, min}
+use Prim.Native.Nat.{ℕ, zero, suc, _+_}
 use native.Mathlib.Omega.{arith}
 use lib.Dec.{ltb}
 use lib.ListN.{length, take, drop, length-take, length-drop}
 use lib.Seq.{take-add, drop-drop}
-use borrow.Author.Tests.{ltb-true, ltb-false, lt-ltb, le-ltb}
-use Rattle.logic.specs.Lists.{Among, Every}
-use Rattle.logic.proofs.Decide.{clash}
+use borrow.Author.Tests.{ltb-true, lt-ltb}
+use Rattle.logic.specs.Lists.{Among}
 use Rattle.logic.proofs.Members.{every-at, every-of}
 use Rattle.sets.specs.declared.Pair.{Pair}
-use Rattle.meaning.specs.Books.{Book, Lawful, PairRefused, past-exceptions, past-statements, shared}
+use Rattle.meaning.specs.Books.{Book, PairRefused, past-exceptions, past-statements, shared}
 use Rattle.meaning.specs.Resolutions.{Resolution}
 use Rattle.meaning.specs.Order.{Before, Point, start, at, LawfulPoint, Later, AllLater}
 use Rattle.meaning.specs.Listings.{Answer, found, end, refused, Operation, first, after, pointOf, FirstLater, Refused, unlawful, short, Call, goOn, turnedDown, onward, handed, moved, goings, answered, answersTo, listing, reached, OfKind, Calls, Meets, Listed, Demand3}
 use Rattle.meaning.specs.Twins.Next.{nextFrom}
 use Rattle.meaning.specs.Twins.Verdicts.{pairRefusal}
-use Rattle.meaning.proofs.Refusals.{lawful-or-refused, refusal-one, lawful-none, lawful-kept}
+use Rattle.meaning.proofs.Refusals.{lawful-or-refused, refusal-one, lawful-none}
 use Rattle.meaning.proofs.Sorted.{all-later}
 use Rattle.meaning.proofs.Next.{next-iff}
 use Rattle.meaning.proofs.Ordered.{before-irreflexive, before-transitive}

@@ -1,25 +1,20 @@
 -- What the definitions say together: verdicts, the published form, and books whose plain rules have an answer set.
-use mathlib.Core.Path.{_≡_, refl, sym, ap, _∙_}
+use mathlib.Core.Path.{_≡_, refl, sym, _∙_}
 use mathlib.Core.Bool.{Bool, true, false}
 use mathlib.Core.List.{List, [], _∷_, _++_}
-use mathlib.Core.Logic.{_⊎_, inl, inr, ⊎-elim, _↔_}
-use Prim.Native.Nat.{ℕ, zero, suc, _<_, _^_}
-use native.Mathlib.Omega.{arith}
-use lib.Dec.{eqb}
-use lib.Pow.{pow-pos}
-use Rattle.logic.specs.Lists.{Among, Every, Some}
-use Rattle.logic.specs.Tests.{Decides, consIf}
+use mathlib.Core.Logic.{⊎-elim, _↔_}
+use Prim.Native.Nat.{ℕ, suc}
+use Rattle.logic.specs.Tests.{consIf}
 use Rattle.logic.proofs.Decide.{clash, decides-eq, fails, holds, holds-or-not}
-use Rattle.sets.specs.Sets.{ProperSubset, member}
+use Rattle.sets.specs.Sets.{ProperSubset}
 use Rattle.sets.specs.declared.Pair.{Pair}
 use Rattle.sets.proofs.Words.{contained-same, member-empty}
-use Rattle.meaning.specs.Literals.{Conclusions}
-use Rattle.meaning.specs.Rules.{Rule, Satisfied}
+use Rattle.meaning.specs.Rules.{Rule}
 use Rattle.meaning.specs.AnswerSets.{AnswerSet}
-use Rattle.meaning.specs.Books.{Book, Lawful, conclusions, takenFrom, applied}
-use Rattle.meaning.specs.Views.{Answers, RankedWithin, Bodies, View, Dominates}
-use Rattle.meaning.specs.Resolutions.{Dominated, Exceeded, Resolution, Verdict, no-answer-set, ranked-within, body-unsatisfied, dominated, not-minimal, resolution}
-use Rattle.meaning.specs.Published.{Candidate, Chosen}
+use Rattle.meaning.specs.Books.{Book, Lawful, conclusions, takenFrom}
+use Rattle.meaning.specs.Views.{View}
+use Rattle.meaning.specs.Resolutions.{Dominated, Resolution, Verdict, no-answer-set, ranked-within, body-unsatisfied, dominated, not-minimal, resolution}
+use Rattle.meaning.specs.Published.{Chosen}
 use Rattle.meaning.specs.Twins.Verdicts.{verdict, answers, rankedWithin, dominates, bodies, views, dominatedBy, exceededBy}
 use Rattle.meaning.proofs.Twins.{decides-answers, decides-bodies, decides-dominated, decides-exceeded, verdict-is}
 use Rattle.meaning.proofs.Ranks.{decides-within}

@@ -1,10 +1,8 @@
 -- Members of sets of conclusions: what adding a conclusion does, and that a set is its members.
 use mathlib.Core.Path.{_≡_, refl, sym, ap, _∙_}
 use mathlib.Core.Bool.{Bool, true, false}
-use Prim.Native.Nat.{ℕ, zero, suc, _+_, _-_, _^_, _<_}
-use native.Mathlib.Nat.{lt-of-lt-of-le}
-use native.Mathlib.Omega.{arith}
-use lib.Bits.{bitAnd, bitOr, or-disjoint}
+use Prim.Native.Nat.{ℕ, _+_, _-_, _^_}
+use lib.Bits.{bitOr, or-disjoint}
 use lib.Dec.{eqb}
 use borrow.Author.Tests.{eqb-true, eq-eqb}
 use Rattle.logic.specs.Tests.{either}

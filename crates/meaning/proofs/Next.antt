@@ -3,21 +3,20 @@ use mathlib.Core.Path.{_≡_, refl, sym, ap, _∙_}
 use mathlib.Core.Bool.{Bool, true, false}
 use mathlib.Core.List.{List, [], _∷_}
 use mathlib.Core.Logic.{_⊎_, inl, inr, ⊎-elim, _↔_}
-use Prim.Native.Nat.{ℕ, zero, suc, _+_, _-_, _<_, _≤_, _^_}
+use Prim.Native.Nat.{ℕ, zero, suc, _+_, _<_, _≤_}
 use native.Mathlib.Nat.{eq-or-lt-of-le}
 use native.Mathlib.Omega.{arith}
 use lib.Dec.{eqb, ltb}
-use borrow.Author.Tests.{ltb-true, eqb-true, lt-ltb, le-ltb, eq-eqb}
+use borrow.Author.Tests.{lt-ltb, eq-eqb}
 use Rattle.logic.specs.Lists.{Among, Every}
 use Rattle.logic.specs.Tests.{Decides}
-use Rattle.logic.proofs.Decide.{clash, decided, either-way}
+use Rattle.logic.proofs.Decide.{clash, decided}
 use Rattle.logic.proofs.Members.{every-at, every-of}
-use Rattle.sets.specs.Sets.{member, size}
+use Rattle.sets.specs.Sets.{size}
 use Rattle.sets.specs.declared.Pair.{Pair}
 use Rattle.sets.proofs.Digits.{lt-or-le}
 use Rattle.sets.proofs.Words.{member-past}
 use Rattle.meaning.specs.Books.{Book, Lawful}
-use Rattle.meaning.specs.Resolutions.{Resolution}
 use Rattle.meaning.specs.Order.{valueOf, value, Before, fewer, smaller, differs, Point, start, at, LawfulPoint, Later}
 use Rattle.meaning.specs.Twins.Verdicts.{resolutions}
 use Rattle.meaning.specs.Twins.Tables.{differsFrom, before}

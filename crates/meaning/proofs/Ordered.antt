@@ -1,21 +1,17 @@
 -- The order of pairs is a strict total order on the lawful pairs of a book. Idea of totality: look at the statements 1 to n in turn.
-use mathlib.Core.Path.{_≡_, refl, sym, ap, _∙_}
+use mathlib.Core.Path.{_≡_, refl, sym, _∙_}
 use mathlib.Core.Bool.{Bool, true, false}
-use mathlib.Core.List.{List, [], _∷_}
 use mathlib.Core.Logic.{_⊎_, inl, inr, ⊎-elim}
-use Prim.Native.Nat.{ℕ, zero, suc, _+_, _-_, _^_, _<_, _≤_}
+use Prim.Native.Nat.{ℕ, zero, suc, _+_, _-_, _<_, _≤_}
 use native.Mathlib.Nat.{eq-or-lt-of-le}
 use native.Mathlib.Omega.{arith}
-use lib.ListN.{length}
-use Rattle.logic.specs.Lists.{Among, Every, Some}
-use Rattle.logic.proofs.Decide.{clash, either-way}
 use Rattle.sets.specs.Sets.{member, size}
 use Rattle.sets.specs.declared.Pair.{Pair}
 use Rattle.sets.proofs.Digits.{lt-or-le}
 use Rattle.sets.proofs.Words.{member-past, same-members}
-use Rattle.meaning.specs.Literals.{isIn, pos, neg}
-use Rattle.meaning.specs.Books.{Book, Lawful, conclusions}
-use Rattle.meaning.specs.Order.{valueOf, value, Before, fewer, smaller, differs, Ascending}
+use Rattle.meaning.specs.Literals.{isIn}
+use Rattle.meaning.specs.Books.{Book, Lawful}
+use Rattle.meaning.specs.Order.{valueOf, value, Before, fewer, smaller, differs}
 
 -- Numbers are smaller, equal or larger.
 pub three : (a b : ℕ) → (a < b) ⊎ (a ≡ b) ⊎ (b < a)

@@ -1,6 +1,5 @@
 -- A part of a listing: the resolutions later than a point that have a property, in order, each once. Parts of which one comes before the other
 -- join to a part, and the part of a property that every resolution has is the list of all later resolutions.
-use mathlib.Core.Path.{_≡_, refl, sym, ap, _∙_}
 use mathlib.Core.List.{List, [], _∷_, _++_}
 use mathlib.Core.Logic.{_⊎_, inl, inr, ⊎-elim}
 use Rattle.logic.specs.Lists.{Among, Every}

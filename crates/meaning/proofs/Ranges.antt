@@ -2,8 +2,8 @@
 use mathlib.Core.Path.{_≡_, refl, sym, ap, _∙_}
 use mathlib.Core.Bool.{Bool, true, false, not}
 use mathlib.Core.List.{List, [], _∷_, _++_}
-use mathlib.Core.Logic.{_⊎_, inl, inr, ⊎-elim, _↔_}
-use Prim.Native.Nat.{ℕ, zero, suc, _-_, _%_, _^_, _<_, _≤_}
+use mathlib.Core.Logic.{_⊎_, inl, inr, _↔_}
+use Prim.Native.Nat.{ℕ, suc, _-_, _%_, _^_, _<_, _≤_}
 use native.Mathlib.Nat.{mod-lt}
 use native.Mathlib.Omega.{arith}
 use lib.Dec.{eqb}
@@ -11,14 +11,13 @@ use lib.ListN.{length}
 use lib.Pow.{pow-pos}
 use Rattle.logic.specs.Lists.{Every}
 use Rattle.logic.specs.Tests.{consIf}
-use Rattle.logic.proofs.Decide.{clash}
 use Rattle.logic.proofs.Members.{every-map}
-use Rattle.sets.specs.Sets.{bitOf, member}
+use Rattle.sets.specs.Sets.{member}
 use Rattle.sets.specs.declared.Pair.{Pair}
-use Rattle.sets.proofs.Digits.{bit-mod, bit-over, lt-or-le}
+use Rattle.sets.proofs.Digits.{bit-mod, lt-or-le}
 use Rattle.sets.proofs.Words.{member-past, same-members}
 use Rattle.meaning.specs.Literals.{Literal, pos, neg, Conclusions, isIn, _∈_}
-use Rattle.meaning.specs.Rules.{Head, none, gives, Body, Rule}
+use Rattle.meaning.specs.Rules.{Head, none, gives, Rule}
 use Rattle.meaning.specs.AnswerSets.{someIn, struck, reduct, AnswerSet}
 use Rattle.meaning.specs.Books.{Book, Lawful, conclusions, takenFrom, applied}
 use Rattle.meaning.specs.Views.{Answers}

@@ -1,20 +1,19 @@
 -- The test of outranking decides it. Idea: what a outranks is the least set closed under the lines, begun with a's own.
-use mathlib.Core.Path.{_≡_, refl, sym, ap, _∙_}
+use mathlib.Core.Path.{_≡_, refl, sym, _∙_}
 use mathlib.Core.Bool.{Bool, true, false}
 use mathlib.Core.List.{List, [], _∷_}
 use mathlib.Core.Logic.{_⊎_, inl, inr, ⊎-elim}
-use Prim.Native.Nat.{ℕ, zero, suc, _-_}
+use Prim.Native.Nat.{ℕ, suc, _-_}
 use native.Mathlib.Omega.{arith}
 use lib.Dec.{eqb}
 use borrow.Author.Tests.{eqb-true, eq-eqb}
 use Rattle.logic.specs.Lists.{Among, Every, Some}
-use Rattle.logic.specs.Tests.{Decides, some}
-use Rattle.logic.proofs.Decide.{clash, decided, decides-both, decides-some, either-way, is, reworded}
+use Rattle.logic.specs.Tests.{Decides}
+use Rattle.logic.proofs.Decide.{clash, decided, decides-both, decides-some, is, reworded}
 use Rattle.logic.proofs.Members.{some-at, some-of}
 use Rattle.sets.specs.Sets.{member}
 use Rattle.sets.specs.declared.Pair.{Pair}
-use Rattle.meaning.specs.Literals.{Literal, pos, neg, Conclusions, isIn, _∈_}
-use Rattle.meaning.specs.Rules.{Rule}
+use Rattle.meaning.specs.Literals.{Literal, pos, Conclusions, _∈_}
 use Rattle.meaning.specs.AnswerSets.{Closed}
 use Rattle.meaning.specs.Preferences.{Outranks, step, chain}
 use Rattle.meaning.specs.Books.{Book}

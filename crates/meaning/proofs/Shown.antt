@@ -1,21 +1,21 @@
 -- What a passed test of an example says, in the words of the definitions; and the table of small books, so read.
-use mathlib.Core.Path.{_≡_, refl, sym, ap, _∙_}
+use mathlib.Core.Path.{_≡_, refl, ap}
 use mathlib.Core.Bool.{Bool, true, false}
 use mathlib.Core.List.{List, [], _∷_}
-use mathlib.Core.Logic.{_⊎_, inl, inr, ⊎-elim}
+use mathlib.Core.Logic.{⊎-elim}
 use Prim.Native.Nat.{ℕ, zero, suc, _<_}
 use native.Mathlib.Nat.{eq-or-lt-of-le}
 use native.Mathlib.Omega.{arith}
 use lib.Dec.{eqb, ltb}
 use borrow.Author.Tests.{ltb-true, eqb-true}
-use Rattle.logic.specs.Lists.{Among, Every, Some}
-use Rattle.logic.specs.Tests.{Decides, every, some}
+use Rattle.logic.specs.Lists.{Among, Every}
+use Rattle.logic.specs.Tests.{Decides, every}
 use Rattle.logic.proofs.Decide.{clash, decides-both, decides-eq, decides-every, decides-some, decides-then, reworded}
 use Rattle.logic.proofs.Members.{every-at, every-of}
 use Rattle.sets.specs.Sets.{size}
 use Rattle.sets.specs.declared.Pair.{Pair}
 use Rattle.meaning.specs.Books.{Book, Lawful}
-use Rattle.meaning.specs.Resolutions.{Resolution, Verdict}
+use Rattle.meaning.specs.Resolutions.{Verdict}
 use Rattle.meaning.specs.Order.{value, Before, fewer, smaller, differs, Ascending, start, AllLater}
 use Rattle.meaning.specs.Twins.Verdicts.{lawful, verdict, resolutions}
 use Rattle.meaning.specs.Twins.Tables.{differsFrom, before, ascending, samePair, Example, sameMembers, right}

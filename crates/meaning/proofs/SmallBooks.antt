@@ -3,7 +3,7 @@
 use Prim.Native.Nat.{ℕ}
 use lib.IntN.{ℤ}
 use lib.IntN as Z
-use mathlib.Core.Bool.{Bool, true, false}
+use mathlib.Core.Bool.{true}
 use mathlib.Core.Path.{_≡_, refl}
 use mathlib.Core.List.{List, [], _∷_}
 use Rattle.logic.specs.Tests.{concatMap, consIf, every, keep, some}
@@ -12,7 +12,7 @@ use Rattle.sets.specs.declared.Pair.{Pair}
 use Rattle.meaning.specs.Literals.{Literal, pos, neg, isIn}
 use Rattle.meaning.specs.Rules.{Head, none, gives, Rule}
 use Rattle.meaning.specs.AnswerSets.{someIn, struck, reduct}
-use Rattle.meaning.specs.Books.{Book, takenFrom}
+use Rattle.meaning.specs.Books.{takenFrom}
 use Rattle.meaning.specs.Meant.{entry, headOf, number, entriesAt, ruleAt, rulesAt, preferencesAt, bookOf}
 use Rattle.meaning.specs.Order.{valueOf, value}
 use Rattle.meaning.specs.Twins.Closure.{addTo, add, addHead, keepBack, takeOut, closeBy, empty, closure}

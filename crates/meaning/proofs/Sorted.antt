@@ -1,9 +1,8 @@
 -- The list of all resolutions later than a point exists and is one. Idea: put the resolutions into place one by one.
-use mathlib.Core.Path.{_≡_, refl, sym, ap, _∙_}
+use mathlib.Core.Path.{_≡_, refl, sym}
 use mathlib.Core.List.{List, [], _∷_}
 use mathlib.Core.Logic.{_⊎_, inl, inr, ⊎-elim}
-use Prim.Native.Nat.{ℕ}
-use Rattle.logic.specs.Lists.{Among, Every, Some}
+use Rattle.logic.specs.Lists.{Among, Every}
 use Rattle.logic.proofs.Members.{among-same, every-at, every-of}
 use Rattle.sets.specs.declared.Pair.{Pair}
 use Rattle.meaning.specs.Books.{Book, Lawful}

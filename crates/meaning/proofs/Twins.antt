@@ -1,24 +1,24 @@
 -- Each test of specs/Verdicts decides its definition.
 use mathlib.Core.Path.{_≡_, refl, sym, ap, _∙_}
 use mathlib.Core.Bool.{Bool, true, false, not}
-use mathlib.Core.List.{List, [], _∷_, _++_}
+use mathlib.Core.List.{List, _++_}
 use mathlib.Core.Logic.{_⊎_, inl, inr, ⊎-elim}
 use Prim.Native.Nat.{ℕ, zero, suc, _-_, _^_, _<_, _≤_}
 use native.Mathlib.Nat.{eq-or-lt-of-le}
 use native.Mathlib.Omega.{arith}
 use lib.Dec.{eqb, ltb}
 use lib.ListN.{length}
-use Rattle.logic.specs.Lists.{Among, Every, Some}
-use Rattle.logic.specs.Tests.{Decides, concatMap, every, keep, some}
-use Rattle.logic.proofs.Decide.{clash, decided, decides-both, decides-eq, decides-every, decides-lt, decides-not, decides-some, decides-then, either-way, fails, holds, is, reworded}
+use Rattle.logic.specs.Lists.{Among}
+use Rattle.logic.specs.Tests.{Decides, every, keep}
+use Rattle.logic.proofs.Decide.{clash, decided, decides-both, decides-eq, decides-every, decides-lt, decides-not, decides-some, decides-then, holds, is, reworded}
 use Rattle.logic.proofs.Members.{among-concat, every-at, keep-in, keep-only, kept-from, some-at, some-of}
 use Rattle.sets.specs.Sets.{Contained, ProperSubset, member}
 use Rattle.sets.specs.declared.Pair.{Pair}
 use Rattle.sets.proofs.Digits.{lt-or-le, lt-pow}
-use Rattle.sets.proofs.Words.{contained-same, member-past}
-use Rattle.meaning.specs.Literals.{Literal, pos, neg, Conclusions, isIn, _∈_, Consistent}
+use Rattle.sets.proofs.Words.{member-past}
+use Rattle.meaning.specs.Literals.{pos, neg, Conclusions, isIn, _∈_, Consistent}
 use Rattle.meaning.specs.Rules.{Head, none, gives, Body, Rule, Satisfied}
-use Rattle.meaning.specs.AnswerSets.{reduct, Least, Breaks, AnswerSet}
+use Rattle.meaning.specs.AnswerSets.{reduct, Breaks, AnswerSet}
 use Rattle.meaning.specs.Books.{Book, Lawful, conclusions, applied}
 use Rattle.meaning.specs.Views.{Answers, RankedWithin, Bodies, View, Dominates}
 use Rattle.meaning.specs.Resolutions.{Dominated, Exceeded, Resolution, Verdict, no-answer-set, ranked-within, body-unsatisfied, dominated, not-minimal, resolution}

@@ -1,5 +1,5 @@
 -- Books and pairs (document 01, 'A book and its lines', 'The order of pairs').
-use Prim.Native.Nat.{ℕ, zero, suc, _^_, _<_}
+use Prim.Native.Nat.{ℕ, suc, _^_, _<_}
 use mathlib.Core.List.{List, [], _∷_}
 use lib.ListN.{length}
 use Rattle.logic.specs.Tests.{consIf}

@@ -1,5 +1,5 @@
 -- Resolutions and verdicts (source 000, Definition 7; source 003, Definition 2.8).
-use Prim.Native.Nat.{ℕ, zero, suc}
+use Prim.Native.Nat.{ℕ}
 use Rattle.sets.specs.Sets.{ProperSubset}
 use Rattle.sets.specs.declared.Pair.{Pair}
 use Rattle.meaning.specs.Books.{Book}

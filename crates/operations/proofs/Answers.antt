@@ -1,11 +1,10 @@
 -- What the operations answer: the text's refusal, the pair's, or what the prepared book gives. A page of one pair is the next answer.
 use mathlib.Core.Path.{_≡_, refl, sym, ap, _∙_}
-use mathlib.Core.List.{List, [], _∷_, _++_}
-use Prim.Native.Nat.{ℕ, zero, suc, _/_, _^_, _<_, _≤_}
+use mathlib.Core.List.{List}
+use Prim.Native.Nat.{ℕ, zero, suc, _/_, _<_, _≤_}
 use native.Mathlib.Nat.{lt-of-lt-of-le}
-use native.Mathlib.Omega.{arith}
 use lib.IntN.{ℤ}
-use lib.ListN.{length, getD, drop}
+use lib.ListN.{length, getD}
 use lib.Pow.{pow-mono}
 use Rattle.sets.specs.declared.Pair.{Pair}
 use Rattle.sets.specs.Pairs.{flat}
@@ -15,20 +14,17 @@ use Rattle.book.specs.Kinds.{sets}
 use Rattle.text.specs.declared.Refusal.{Refusal}
 use Rattle.text.specs.Reading.{readText, over}
 use Rattle.text.specs.Reading.Outcome.{accepted, refused as unread}
-use Rattle.answers.specs.declared.Found.{Found}
 use Rattle.answers.specs.declared.Found.the-variants.{Resolution, End, Refused}
-use Rattle.answers.specs.declared.Judged.{Judged}
 use Rattle.answers.specs.declared.Judged.the-variants.{Verdict, Refused as NotJudged}
-use Rattle.answers.specs.declared.Paged.{Paged}
 use Rattle.answers.specs.declared.Paged.the-variants.{Pairs, Refused as NotPaged}
-use Rattle.answers.specs.Operations.{Told, told, turned, answerOf, verdictOf, countOf, counted, left, onText, firstAnswer, afterAnswer, judgeAnswer, firstPage, pageAfter, PageMet}
+use Rattle.answers.specs.Operations.{told, turned, answerOf, verdictOf, countOf, counted, left, onText, firstAnswer, afterAnswer, judgeAnswer, firstPage, pageAfter, PageMet}
 use Rattle.answers.proofs.Listed.{unless-other, unless-none}
 use Rattle.lawful.specs.Refusals.{Refuses}
 use Rattle.meaning.specs.Books.{Book, Lawful}
 use Rattle.meaning.specs.Meant.{bookOf}
 use Rattle.meaning.specs.Order.{Point, start, at, LawfulPoint}
 use Rattle.meaning.specs.Listings.{Answer, found, end, refused, FirstLater}
-use Rattle.meaning.specs.Twins.Verdicts.{pairRefusal, verdict}
+use Rattle.meaning.specs.Twins.Verdicts.{pairRefusal}
 use Rattle.meaning.specs.Twins.Next.{nextFrom, onwardFrom, pageFrom}
 use Rattle.meaning.proofs.Meant.{exceptions-count}
 use Rattle.meaning.proofs.Next.{next-is}

@@ -1,8 +1,7 @@
 -- Calls made one after the other: what a list of calls hands out is what its front hands out and then the rest from the point reached.
 use mathlib.Core.Path.{_≡_, refl, sym, ap, _∙_}
 use mathlib.Core.List.{List, [], _∷_, _++_}
-use Prim.Native.Nat.{ℕ, zero, suc, _+_, _*_, _<_, _≤_, min}
-use native.Mathlib.Nat.{add-zero, zero-add}
+use Prim.Native.Nat.{ℕ, zero, suc, _+_, _*_, _≤_}
 use native.Mathlib.Numerals.{add-one}
 use native.Mathlib.Omega.{arith}
 use lib.ListN.{length, length-append}
@@ -12,8 +11,8 @@ use Rattle.sets.specs.declared.Pair.{Pair}
 use Rattle.sets.specs.Pairs.{flat}
 use Rattle.page.proofs.Pages.{flat-append, flat-length}
 use Rattle.meaning.specs.Books.{Book}
-use Rattle.meaning.specs.Order.{Point, start, at}
-use Rattle.meaning.specs.Listings.{Answer, found, end, refused, Call, goOn, turnedDown, after, onward, handed, moved, answered, listing, reached}
+use Rattle.meaning.specs.Order.{Point, at}
+use Rattle.meaning.specs.Listings.{Answer, found, end, refused, Call, handed, moved, answered, listing, reached}
 use Rattle.answers.specs.declared.Found.{Found}
 use Rattle.answers.specs.declared.Found.the-variants.{Resolution, End, Refused}
 use Rattle.answers.specs.Operations.{answerOf, asks, firstAnswer, afterAnswer}

@@ -1,11 +1,10 @@
 -- A parsed text is loaded: an accepted book's facts are what packing its rules and its preferences ask of its rows.
-use mathlib.Core.Path.{_≡_, refl, sym, ap, _∙_}
+use mathlib.Core.Path.{_≡_, sym}
 use mathlib.Core.List.{List}
-use Prim.Native.Nat.{ℕ, zero, suc, _+_, _*_, _<_, _≤_}
-use native.Mathlib.Nat.{add-mul}
+use Prim.Native.Nat.{ℕ, _+_, _*_}
 use native.Mathlib.Omega.{arith}
-use lib.IntN.{ℤ, pos, natAbs}
-use lib.ListN.{length, take, getD}
+use lib.IntN.{ℤ}
+use lib.ListN.{take}
 use Rattle.book.specs.declared.Shape.{Shape}
 use Rattle.book.specs.Kinds.{ruleFields, preferenceFields}
 use Rattle.text.specs.declared.Refusal.{Refusal}
@@ -16,10 +15,8 @@ use Rattle.text.specs.Reading.Outcome.{accepted, refused}
 use Rattle.text.specs.Accepted.{ruleNumbers, rowNumbers, Accepted as Facts}
 use Rattle.read.specs.Storing.{outcomeOf}
 use Rattle.read.specs.Parsing.{Parsing}
-use Rattle.meaning.specs.Meant.{bookOf, number}
-use Rattle.bridge.specs.Packed.{Packs}
-use Rattle.bridge.specs.Ranks.{RanksOf}
-use Rattle.bridge.specs.Rows.{ruleCount, RowsLawful}
+use Rattle.meaning.specs.Meant.{number}
+use Rattle.bridge.specs.Rows.{RowsLawful}
 use Rattle.engine.specs.Loaded.{Loaded, Small}
 use Rattle.operations.specs.Loads.{Loads, Filled}
 

@@ -8,7 +8,7 @@ use Prim.Native.Nat.{ℕ, suc, _-_, _<_, _≤_}
 use native.Mathlib.Omega.{arith}
 use lib.Dec.{eqb, ltb}
 use borrow.Author.Tests.{ltb-true, ltb-false, lt-ltb, le-ltb, eq-eqb, ne-eqb}
-use Rattle.logic.specs.Lists.{Among, Every}
+use Rattle.logic.specs.Lists.{Among}
 use Rattle.logic.specs.Tests.{Decides, both, pick}
 use Rattle.logic.proofs.Decide.{clash, fails}
 use Rattle.logic.proofs.Members.{every-at}

@@ -10,7 +10,7 @@ use native.Mathlib.Omega.{arith}
 use lib.ListN.{length}
 use lib.Pow.{pow-pos}
 use borrow.Author.Tests.{eq-eqb, le-ltb}
-use Rattle.logic.specs.Lists.{Among, Every}
+use Rattle.logic.specs.Lists.{Among}
 use Rattle.logic.specs.Tests.{Decides, pick, keep}
 use Rattle.logic.proofs.Decide.{clash, decided, holds, decides-and}
 use Rattle.logic.proofs.Members.{every-of, every-at, every-map, keep-in, keep-only, kept-from}

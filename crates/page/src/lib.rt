@@ -1,5 +1,4 @@
 // The views with one set of exceptions, in the order of pairs, from a point on, into a lent slice until it is full.
-ghost use mathlib.Core.Bool.{true};
 ghost use mathlib.Core.Path.{_≡_};
 ghost use mathlib.Core.List.{[], _∷_};
 ghost use Prim.Native.Nat.{_+_, _-_, _*_, _<_, _≤_};

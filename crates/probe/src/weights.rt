@@ -34,11 +34,6 @@ pub fn add_pair(t: &mut Weights, x: Pair, w: u64) {
     add(t, 128, x.taken, w);
 }
 
-// The word without its lowest member.
-pub fn fewer(x: u64) -> u64 {
-    waiting::cleared(x, waiting::low(x))
-}
-
 // How many members a word has, from 4 on counted as 4.
 pub fn few(x: u64) -> u64
     ensures { λ k. ⌜ k ≤ 4 ⌝ }
@@ -46,15 +41,15 @@ pub fn few(x: u64) -> u64
     if x == 0 {
         return 0;
     }
-    let y = fewer(x);
+    let y = waiting::fewer(x);
     if y == 0 {
         return 1;
     }
-    let z = fewer(y);
+    let z = waiting::fewer(y);
     if z == 0 {
         return 2;
     }
-    if fewer(z) == 0 {
+    if waiting::fewer(z) == 0 {
         return 3;
     }
     4

@@ -4,8 +4,7 @@ use mathlib.Core.Path.{_≡_, refl, sym, ap, _∙_}
 use mathlib.Core.Bool.{Bool, true, false, not}
 use mathlib.Core.List.{List}
 use mathlib.Core.Logic.{_⊎_, inl, inr, ⊎-elim}
-use Prim.Native.Nat.{ℕ, zero, suc, _+_, _-_, _*_, _^_, _<_, _≤_}
-use native.Mathlib.Nat.{le-refl}
+use Prim.Native.Nat.{ℕ, zero, suc, _+_, _-_, _^_, _<_, _≤_}
 use native.Mathlib.Omega.{arith}
 use borrow.Author.Tests.{eqb-true, not-true, not-false}
 use lib.Dec.{eqb}
@@ -14,8 +13,8 @@ use lib.Seq.{getD-set-same, getD-set-other}
 use Rattle.logic.specs.Tests.{Decides}
 use Rattle.logic.proofs.Decide.{clash, holds-or-not, decides-eq}
 use Rattle.sets.specs.declared.Pair.{Pair}
-use Rattle.sets.specs.Sets.{bitOf, Within}
-use Rattle.sets.specs.Pairs.{Sub, Off}
+use Rattle.sets.specs.Sets.{Within}
+use Rattle.sets.specs.Pairs.{Sub}
 use Rattle.sets.proofs.Digits.{bit-zero, bit-single, lt-or-le}
 use Rattle.sets.proofs.Words.{single-has}
 use Rattle.masks.specs.declared.Masks.{Masks}
@@ -23,7 +22,9 @@ use Rattle.masks.specs.declared.Bounds.{Bounds}
 use Rattle.masks.specs.Views.{masksAt, Fires, Constraint}
 use Rattle.bounds.specs.Singles.{oneOf}
 use Rattle.queue.specs.declared.heads.Givers.{Givers}
-use Rattle.queue.specs.Chains.{firstAt, nextAt, Gives, ChainsFrom, Chains, Chained, headless, headed, Seen, Counted, idle, sole, more, Given}
+use Rattle.queue.specs.declared.heads.Givers.the-variants.{Nobody, One, Several}
+use Rattle.queue.specs.Places.{firstAt, nextAt, wholePlace, indexLength}
+use Rattle.queue.specs.Chains.{Gives, ChainsFrom, Chains, Chained, headless, headed, Seen, Counted, idle, sole, more}
 
 -- ---- one conclusion
 same-place : (i j : ℕ) → Within (2 ^ i) (2 ^ j) → i ≡ j
@@ -71,7 +72,7 @@ module _ (ws : List ℕ) (n : ℕ) where
   from-or-past : (k j : ℕ) → k ≤ j → (j ≡ k) ⊎ (k + 1 ≤ j)
   from-or-past k j h = ⊎-elim (λ l. inr (omega arith)) (λ l. inl (omega arith)) (lt-or-le k j)
 
-  module _ (index : List ℕ) (long : length index ≡ 1154) (k : ℕ) (few : k < 256) (c : ChainsFrom ws n index (k + 1)) (r : Masks) (er : r ≡ masksAt ws k) where
+  module _ (index : List ℕ) (long : length index ≡ indexLength) (k : ℕ) (few : k < 256) (c : ChainsFrom ws n index (k + 1)) (r : Masks) (er : r ≡ masksAt ws k) where
     chain-headless : Constraint r → ChainsFrom ws n index k
     chain-headless q = record {
       first = λ s i j a b f g e. ⊎-elim (λ x. absurd (not-k s i a (rw x at e))) (λ x. c .first s i j a b x g e) (from-or-past k j f);
@@ -131,20 +132,20 @@ module _ (ws : List ℕ) (n : ℕ) where
 -- ---- all rules
 module _ (ws : List ℕ) (n : ℕ) where
   -- Rule k is the next, going down; w says whether every rule so far has one conclusion for its head, or none.
-  pub chains-turn : (index index′ : List ℕ) → length index ≡ 1154 → (k l w : ℕ) → l ≡ k - 1 → 0 < k → k ≤ n → n ≤ 256 → (w ≡ 1 → ChainsFrom ws n index k) → (r : Masks) → r ≡ masksAt ws l
+  pub chains-turn : (index index′ : List ℕ) → length index ≡ indexLength → (k l w : ℕ) → l ≡ k - 1 → 0 < k → k ≤ n → n ≤ 256 → (w ≡ 1 → ChainsFrom ws n index k) → (r : Masks) → r ≡ masksAt ws l
       → (z : Bool) → (z ≡ true → Chained index r l index′) → not z ≡ false → w ≡ 1 → ChainsFrom ws n index′ l
   chains-turn index index′ long k l w el p h few c r er z f e ew =
       let ek : k ≡ l + 1 = omega arith in
       chain-more ws n index long l (omega arith) (rw ek at (c ew)) r er index′ (f (not-false z e))
 
-  pub chains-done : (index : List ℕ) → length index ≡ 1154 → (k w : ℕ) → k ≤ 0 → n ≤ 256 → (w ≡ 1 → ChainsFrom ws n index k) → Chains ws n (set index 1153 w)
+  pub chains-done : (index : List ℕ) → length index ≡ indexLength → (k w : ℕ) → k ≤ 0 → n ≤ 256 → (w ≡ 1 → ChainsFrom ws n index k) → Chains ws n (set index wholePlace w)
   chains-done index long k w h few c = record {
     few = few;
     whole = λ e.
-        let d = c (sym (getD-set-same index 1153 w 0 (rw long (omega arith))) ∙ e) in
+        let d = c (sym (getD-set-same index wholePlace w 0 (rw long (omega arith))) ∙ e) in
         record {
-          first = λ s i j a b f g x. rw (getD-set-other index 1153 (firstAt s i) w 0 (λ z. omega arith)) (d .first s i j a b (omega arith) g x);
-          next = λ s i j l a b f g z x y. rw (getD-set-other index 1153 (nextAt j) w 0 (λ u. omega arith)) (d .next s i j l a b (omega arith) g z x y);
+          first = λ s i j a b f g x. rw (getD-set-other index wholePlace (firstAt s i) w 0 (λ z. omega arith)) (d .first s i j a b (omega arith) g x);
+          next = λ s i j l a b f g z x y. rw (getD-set-other index wholePlace (nextAt j) w 0 (λ u. omega arith)) (d .next s i j l a b (omega arith) g z x y);
         };
   }
 
@@ -152,41 +153,49 @@ module _ (ws : List ℕ) (n : ℕ) where
 pub gives-is : (ws : List ℕ) (s i k : ℕ) (m : Pair) (r : Masks) (w : Bool) → m ≡ oneOf s i → r ≡ masksAt ws k → Decides w (Sub m (r .head)) → not w ≡ false → Gives ws s i k
 gives-is ws s i k m r w em er d e = rw (em, er) at (d .yes (not-false w e))
 
+-- The three are apart.
+pub nobody-one : {P : Type 0} {k : ℕ} → Nobody ≡ One k → P
+nobody-one e = absurd (let z : _≡_ {A = ℕ} 0 1 = cc in omega arith)
+
+pub nobody-several : {P : Type 0} → Nobody ≡ Several → P
+nobody-several e = absurd (let z : _≡_ {A = ℕ} 0 1 = cc in omega arith)
+
+pub one-several : {P : Type 0} {k : ℕ} → One k ≡ Several → P
+one-several e = absurd (let z : _≡_ {A = ℕ} 0 1 = cc in omega arith)
+
+pub same-one : {j k : ℕ} → One j ≡ One k → k ≡ j
+same-one e = cc
+
 module _ (r : Masks) (b : Bounds) (k : ℕ) (g : Givers) where
   pub counted-idle : (w : Bool) → Decides w (Fires r (b .lo) (b .hi)) → not w ≡ true → Counted r b k g g
   counted-idle w d e = idle (d .no (not-true w e)) refl
 
-  pub counted-sole : g .count ≡ 0 → Counted r b k g (record { count = 1; rule = k })
-  counted-sole e = sole e refl
-
-  pub counted-more : (h : Givers) → h .count ≡ 2 → Counted r b k g h
-  counted-more h e = more e
-
 module _ (ws : List ℕ) (n : ℕ) (m : Pair) (b : Bounds) where
   -- The first of the chain has no rule with its head before it.
-  pub seen-first : (p : ℕ) → ((k : ℕ) → k < n → Sub m (masksAt ws k .head) → p ≤ k) → (g : Givers) → g ≡ record { count = 0; rule = 0 } → Seen ws n p m b g
-  seen-first p f g e = rw e (record { most = omega arith; rule = λ q. absurd (omega arith); only = λ k h l x y. let z = f k h y in absurd (omega arith) })
-
-  -- Rule p and the next of its chain.
-  pub seen-next : (p q : ℕ) (r : Masks) (g h : Givers) → Seen ws n p m b g → p < n → r ≡ masksAt ws p → Counted r b p g h → (h .count ≡ 2 → ⊥)
-      → ((k : ℕ) → p < k → k < n → Sub m (masksAt ws k .head) → q ≤ k) → Seen ws n q m b h
-  seen-next p q r g h s l er (idle x e) n2 f = rw e (record { most = s .most; rule = s .rule; only = only })
-    where
-      only : (k : ℕ) → k < n → k < q → Fires (masksAt ws k) (b .lo) (b .hi) → Sub m (masksAt ws k .head) → (g .count ≡ 1) × (k ≡ g .rule)
-      only k a c y z = ⊎-elim (λ u. s .only k a u y z) (λ u. ⊎-elim (λ v. let w = f k v a z in absurd (omega arith)) (λ v. absurd (x (rw er (rw (same k p u v) at y)))) (lt-or-le p k)) (lt-or-le k p)
-        where
-          same : (k p : ℕ) → p ≤ k → k ≤ p → k ≡ p
-          same k p u v = omega arith
-  seen-next p q r g h s l er (sole x e) n2 f = rw e (record { most = le-refl 1; rule = λ u. l; only = only })
-    where
-      only : (k : ℕ) → k < n → k < q → Fires (masksAt ws k) (b .lo) (b .hi) → Sub m (masksAt ws k .head) → (_≡_ {A = ℕ} 1 1) × (k ≡ p)
-      only k a c y z = ⊎-elim (λ u. let w = s .only k a u y z in absurd (omega (arith, w .0))) (λ u. ⊎-elim (λ v. let w = f k v a z in absurd (omega arith)) (λ v. (refl, omega arith)) (lt-or-le p k)) (lt-or-le k p)
-  seen-next p q r g h s l er (more x) n2 f = absurd (n2 x)
-
-  -- The end of the chain.
-  pub given-seen : (p : ℕ) (g : Givers) → n ≤ p → Seen ws n p m b g → Given ws n m b g
-  given-seen p g l s = record { seen = λ c. record { most = s .most; rule = s .rule; only = λ k h x. s .only k h (omega arith) } }
+  pub seen-first : (p : ℕ) → ((k : ℕ) → k < n → Sub m (masksAt ws k .head) → p ≤ k) → Seen ws n p m b Nobody
+  seen-first p f = record { rule = λ k e. nobody-one e; only = λ k h l x y. let z = f k h y in absurd (omega arith) }
 
   -- Nothing is known.
-  pub given-more : (g : Givers) → g .count ≡ 2 → Given ws n m b g
-  given-more g e = record { seen = λ c. absurd (c e) }
+  pub seen-several : (p : ℕ) (g : Givers) → g ≡ Several → Seen ws n p m b g
+  seen-several p g e = record { rule = λ k q. one-several (sym q ∙ e); only = λ k h l x y. inr e }
+
+  -- Rule p and the next of its chain.
+  pub seen-next : (p q : ℕ) (r : Masks) (g h : Givers) → Seen ws n p m b g → p < n → r ≡ masksAt ws p → Counted r b p g h
+      → ((k : ℕ) → p < k → k < n → Sub m (masksAt ws k .head) → q ≤ k) → Seen ws n q m b h
+  seen-next p q r g h s l er c f = go c
+    where
+      -- A rule before the next of the chain stands before p or is p.
+      before : (k : ℕ) → k < n → k < q → Sub m (masksAt ws k .head) → (k < p) ⊎ (k ≡ p)
+      before k a d z = ⊎-elim (λ u. inl u) (λ u. ⊎-elim (λ v. let w = f k v a z in absurd (omega arith)) (λ v. inr (omega arith)) (lt-or-le p k)) (lt-or-le k p)
+
+      go : Counted r b p g h → Seen ws n q m b h
+      go (idle x e) = rw e (record { rule = s .rule; only = λ k a d y z. ⊎-elim (λ u. s .only k a u y z) (λ u. absurd (x (rw er (rw u at y)))) (before k a d z) })
+      go (sole x e) = rw e (record {
+        rule = λ k u. rw (same-one u) l;
+        only = λ k a d y z. ⊎-elim (λ u. ⊎-elim (λ v. nobody-one (sym x ∙ v)) (λ v. nobody-several (sym x ∙ v)) (s .only k a u y z)) (λ u. inl (ap (λ (j : ℕ). One j) (sym u))) (before k a d z);
+      })
+      go (more e) = seen-several q h e
+
+  -- The end of the chain.
+  pub seen-all : (p : ℕ) (g : Givers) → n ≤ p → Seen ws n p m b g → Seen ws n n m b g
+  seen-all p g l s = record { rule = s .rule; only = λ k h x. s .only k h (omega arith) }

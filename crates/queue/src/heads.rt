@@ -6,7 +6,9 @@ ghost use Prim.Native.Nat.{_+_, _*_, _<_, _≤_};
 ghost use lib.ListN.{length};
 ghost use Rattle.bounds.specs.Singles.{oneOf};
 ghost use Rattle.bounds.specs.Sound.{Keeps, Ruled};
-ghost use Rattle.queue.specs.Chains.{Chains, Chained, Counted, Given};
+ghost use Rattle.queue.specs.Places.{indexLength};
+ghost use Rattle.queue.specs.Chains.{Chains, Chained, Seen, Counted, FiringFor};
+use crate::index;
 use crate::index::Index;
 use crate::waiting;
 use masks::Bounds;
@@ -15,11 +17,11 @@ use sets::Pair;
 
 // Places in the index: the first rules of 64 conclusions held and 64 denied; the rule after each of 256 with the same head; whether
 // the chains are whole.
-pub const FIRST: usize = 769;
+pub const FIRST: usize = index::CIRCLE + 1;
 
-pub const NEXT: usize = 897;
+pub const NEXT: usize = FIRST + 128;
 
-pub const WHOLE: usize = 1153;
+pub const WHOLE: usize = NEXT + 256;
 
 // The word in which a conclusion of x stands.
 pub fn side(x: Pair) -> u64
@@ -43,7 +45,7 @@ pub fn place(x: Pair) -> u64
 
 // Puts rule k before the rules with its head; whether that is one conclusion or none.
 pub fn chain(index: &mut [u64], r: Masks, k: usize) -> bool
-    requires { ⌜ (k < 256) × (length (now index) ≡ 1154) ⌝ }
+    requires { ⌜ (k < 256) × (length (now index) ≡ indexLength) ⌝ }
     ensures { λ ok. ⌜ (ok ≡ true → Chained (now (index .entry)) r k (now (index .exit))) ⌝ }
 {
     if masks::constraint(r) {
@@ -65,7 +67,7 @@ pub fn chain(index: &mut [u64], r: Masks, k: usize) -> bool
 
 // No chain has a rule yet.
 pub fn clear(index: &mut [u64], n: usize)
-    requires { ⌜ length (now index) ≡ 1154 ⌝ }
+    requires { ⌜ length (now index) ≡ indexLength ⌝ }
 {
     let mut k = FIRST;
     while k < NEXT {
@@ -76,7 +78,7 @@ pub fn clear(index: &mut [u64], n: usize)
 
 // Chains the first n rules, from the last to the first.
 pub fn chains(words: &[u64], n: usize, index: &mut [u64])
-    requires { ⌜ (n * 8 ≤ length (now words)) × (n ≤ 256) × (length (now index) ≡ 1154) ⌝ }
+    requires { ⌜ (n * 8 ≤ length (now words)) × (n ≤ 256) × (length (now index) ≡ indexLength) ⌝ }
     ensures { λ _. ⌜ Chains (now (words .entry)) n (now (index .exit)) ⌝ }
 {
     clear(index, n);
@@ -91,10 +93,11 @@ pub fn chains(words: &[u64], n: usize, index: &mut [u64])
     index[WHOLE] = whole;
 }
 
-// How many rules can give a conclusion within bounds: none; one, and which; perhaps more.
-pub struct Givers {
-    pub count: u64,
-    pub rule: usize,
+// The rules that can give a conclusion within bounds: none; one, and which; perhaps more.
+pub enum Givers {
+    Nobody,
+    One(usize),
+    Several,
 }
 
 // The givers g and rule k, if it can fire.
@@ -104,23 +107,22 @@ pub fn with_rule(r: Masks, b: Bounds, k: usize, g: Givers) -> Givers
     if !masks::fires(r, b.lo, b.hi) {
         return g;
     }
-    if g.count == 0 {
-        return Givers { count: 1, rule: k };
+    match g {
+        Givers::Nobody => Givers::One(k),
+        _ => Givers::Several,
     }
-    Givers { count: 2, rule: k }
 }
 
 // The rules that can give the conclusion at place i of word s.
 pub fn count_givers(words: &[u64], n: usize, index: &Index, s: u64, i: u64, b: Bounds) -> Givers
     requires { ⌜ (n * 8 ≤ length (now words)) × Chains (now words) n (now index) × (s < 2) × (i < 64) ⌝ }
-    ensures { λ g. ⌜ Given (now (words .entry)) n (oneOf s i) b g ⌝ }
+    ensures { λ g. ⌜ Seen (now (words .entry)) n n (oneOf s i) b g ⌝ }
 {
-    let more = Givers { count: 2, rule: 0 };
     if index[WHOLE] != 1 {
-        return more;
+        return Givers::Several;
     }
     let m = bounds::one(s, i);
-    let mut g = Givers { count: 0, rule: 0 };
+    let mut g = Givers::Nobody;
     let mut k = index[FIRST + (s * 64 + i) as usize] as usize;
     let mut turn: u64 = 0;
     while turn < 256 {
@@ -129,34 +131,43 @@ pub fn count_givers(words: &[u64], n: usize, index: &Index, s: u64, i: u64, b: B
         }
         let r = masks::masks_at(words, k);
         if !sets::within(m, r.head) {
-            return more;
+            return Givers::Several;
         }
         g = with_rule(r, b, k, g);
-        if g.count == 2 {
-            return g;
+        match g {
+            Givers::Several => {
+                return g;
+            }
+            _ => {}
         }
         k = index[NEXT + k] as usize;
         turn += 1;
     }
-    more
+    Givers::Several
 }
 
-// A conclusion that no rule can give is out; where one rule alone can give a sure conclusion, that rule fires. (d), (B2)
+// The rule r alone can give the conclusion m: if m is sure, r fires. (B2)
+pub fn sole_giver(r: Masks, m: Pair, b: Bounds) -> Bounds
+    ensures { λ o. ⌜ Keeps (FiringFor r m) b o ⌝ }
+{
+    if sets::within(m, b.lo) {
+        return bounds::forced(r, b);
+    }
+    b
+}
+
+// A conclusion that no rule can give is out; a sure one makes the rule fire that alone can give it. (d), (B2)
 pub fn support(words: &[u64], n: usize, index: &Index, s: u64, i: u64, b: Bounds) -> Bounds
     requires { ⌜ (n * 8 ≤ length (now words)) × Chains (now words) n (now index) × (s < 2) × (i < 64) ⌝ }
     ensures { λ o. ⌜ Keeps (Ruled (now (words .entry)) n) b o ⌝ }
 {
     let m = bounds::one(s, i);
     let g = count_givers(words, n, index, s, i, b);
-    if g.count == 0 {
-        return bounds::out(b, m);
+    match g {
+        Givers::Nobody => bounds::out(b, m),
+        Givers::One(k) => sole_giver(masks::masks_at(words, k), m, b),
+        Givers::Several => b,
     }
-    if g.count == 1 {
-        if sets::within(m, b.lo) {
-            return bounds::forced(masks::masks_at(words, g.rule), b);
-        }
-    }
-    b
 }
 
 // The conclusions x without the one at that place.
@@ -164,13 +175,13 @@ pub fn others(x: Pair) -> Pair {
     if x.held != 0 {
         return Pair {
             taken: 0,
-            held: waiting::cleared(x.held, waiting::low(x.held)),
+            held: waiting::fewer(x.held),
             denied: x.denied,
         };
     }
     Pair {
         taken: 0,
         held: 0,
-        denied: waiting::cleared(x.denied, waiting::low(x.denied)),
+        denied: waiting::fewer(x.denied),
     }
 }

@@ -10,14 +10,13 @@ use masks::Bounds;
 use masks::Masks;
 use sets::Pair;
 
-// Four words for each row: rows 0 to 63 for the statements held, 64 to 127 denied, 128 to 191 for the exceptions.
+// Four words for each of 192 rows: rows 0 to 63 for the statements held, 64 to 127 denied, 128 to 191 for the exceptions.
 // Then one word, not 0 if conclusions can need each other in a circle; then the chains of `heads`.
-pub const LENGTH: usize = 1154;
+pub const CIRCLE: usize = 192 * 4;
+
+pub const LENGTH: usize = heads::WHOLE + 1;
 
 pub type Index = [u64; LENGTH];
-
-// Where the word about circles stands.
-pub const CIRCLE: usize = 768;
 
 // The rules of t with those of a row.
 pub fn added(index: &Index, row: u64, t: Waiting) -> Waiting

@@ -31,7 +31,7 @@ pub struct Rest {
 
 // The word has two members at least.
 pub fn several(x: u64) -> bool {
-    x ^ (x & (1 << (waiting::low(x) % 64))) != 0
+    waiting::fewer(x) != 0
 }
 
 // The rule says nothing new within the bounds. No contract depends on this: a wrong answer costs time, not truth.

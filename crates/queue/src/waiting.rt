@@ -82,6 +82,11 @@ pub fn cleared(x: u64, i: u64) -> u64 {
     x
 }
 
+// The word without its lowest member.
+pub fn fewer(x: u64) -> u64 {
+    cleared(x, low(x))
+}
+
 // The first rule that waits, 256 if none does.
 pub fn next(t: Waiting) -> u64
     ensures { λ r. ⌜ r ≤ 256 ⌝ }

@@ -2,25 +2,24 @@
 -- One lemma for each way out of the loop and one for its turn.
 use mathlib.Core.Path.{_≡_, refl, sym, ap, _∙_}
 use mathlib.Core.Bool.{Bool, true, false}
-use mathlib.Core.List.{List, [], _∷_, _++_}
-use Prim.Native.Nat.{ℕ, zero, suc, _+_, _-_, _*_, _<_, _≤_}
+use mathlib.Core.List.{List, _∷_}
+use Prim.Native.Nat.{ℕ, suc, _+_, _*_, _<_, _≤_}
 use native.Mathlib.Nat.{add-zero}
 use native.Mathlib.Numerals.{add-one}
 use native.Mathlib.Omega.{arith}
-use lib.IntN.{ℤ, pos}
+use lib.IntN.{ℤ}
 use lib.ListN.{getD, drop, take, set, length, drop-of-length-le, length-drop}
-use lib.Seq.{sets, drop-cons, drop-drop, getD-take, getD-drop, length-take-le}
+use lib.Seq.{drop-cons, drop-drop, getD-take, getD-drop, length-take-le}
 use mir.Syntax.{w32}
-use mir.Val.{toZ, ofZ, SFits}
+use mir.Val.{SFits}
 use mir.Facts.{toZ-ofZ}
 use Rattle.logic.specs.Tests.{pick}
 use Rattle.book.specs.declared.Kind.{Kind}
 use Rattle.book.specs.declared.Content.{Content}
 use Rattle.book.specs.declared.Content.the-variants.{Edition}
-use Rattle.book.specs.Kinds.{contents, fieldsOf, exception, Range, rangeOf}
+use Rattle.book.specs.Kinds.{contents, fieldsOf, Range, rangeOf}
 use Rattle.text.specs.declared.Field.{Field}
 use Rattle.text.specs.declared.Field.the-variants.{Value, Misspelt}
-use Rattle.text.specs.declared.State.{State}
 use Rattle.text.specs.Fields.{firstField}
 use Rattle.text.specs.Lines.{Numbers, inside, andThen, testField, readFields}
 use Rattle.text.specs.Lines.Numbers.{numbers, fault}
@@ -31,8 +30,7 @@ use Rattle.fields.specs.Checks.{numberIs, seeOf, seeAll}
 use Rattle.fields.proofs.Columns.{back}
 use Rattle.read.specs.declared.Number.{Number}
 use Rattle.read.specs.declared.Number.the-variants.{Is, Not}
-use Rattle.read.specs.Storing.{numberOf, noneSeen, Left, store, storeFields, answerFields}
-use Rattle.read.specs.Storing.Left.{kept, lost}
+use Rattle.read.specs.Storing.{numberOf, noneSeen, store, storeFields, answerFields}
 use Rattle.read.specs.declared.Fields.the-variants.{Right, Wrong}
 
 -- ---- one field

@@ -3,8 +3,8 @@
 use mathlib.Core.Path.{_≡_, refl, sym, ap, _∙_}
 use mathlib.Core.Bool.{Bool, true, false}
 use mathlib.Core.List.{List, [], _∷_, _++_, append-assoc, append-nil}
-use Prim.Native.Nat.{ℕ, zero, suc, _+_, _-_, _*_, _/_, _%_, _<_, _≤_}
-use native.Mathlib.Nat.{add-zero, not-suc-le-zero, div-add-mod', mod-lt}
+use Prim.Native.Nat.{ℕ, zero, suc, _+_, _*_, _<_, _≤_}
+use native.Mathlib.Nat.{add-zero, div-add-mod', mod-lt}
 use native.Mathlib.Numerals.{add-one}
 use native.Mathlib.Omega.{arith}
 use lib.Dec.{eqb}
@@ -13,28 +13,25 @@ use lib.Signed.{leZ}
 use lib.ListN.{getD, drop, take, set, length, replicate, length-drop, length-append, drop-of-length-le}
 use lib.Seq.{sets, sets-eq, length-sets, take-at, length-take-le}
 use borrow.Author.Tests.{eqb-true, eqb-false, eq-eqb, ne-eqb, leb-true, le-ltb}
-use Rattle.logic.specs.Tests.{both, pick, consIf}
-use Rattle.logic.proofs.Decide.{clash}
-use Rattle.book.specs.declared.Shape.{Shape}
+use Rattle.logic.specs.Tests.{pick, consIf}
 use Rattle.book.specs.declared.Content.{Content}
 use Rattle.book.specs.declared.Content.the-variants.{Edition, Statements, Literal, Exception, Total}
 use Rattle.book.specs.Limits as limit
-use Rattle.book.specs.Kinds.{kinds, kind, bytes, most, fieldsOf, none, width, longest, ruleFields, Range, rangeOf}
+use Rattle.book.specs.Kinds.{kinds, kind, bytes, most, fieldsOf, none, width, longest, ruleFields, rangeOf}
 use Rattle.text.specs.declared.State.{State}
 use Rattle.text.specs.declared.Field.the-variants.{Value}
 use Rattle.text.specs.declared.Reading.{Reading}
-use Rattle.text.specs.declared.Reading.the-variants.{Accepted, Refused}
-use Rattle.text.specs.Fields.{writtenAll}
-use Rattle.text.specs.Lines.{Numbers, Line, between, inside, code, numbersIn, lineOf, lines, readLine}
-use Rattle.text.specs.Lines.Numbers.{numbers, fault}
+use Rattle.text.specs.declared.Reading.the-variants.{Accepted}
+use Rattle.text.specs.Lines.{Line, between, inside, code, numbersIn, lineOf, lines, readLine}
+use Rattle.text.specs.Lines.Numbers.{numbers}
 use Rattle.text.specs.Lines.Line.{line, wrong}
 use Rattle.text.specs.Reading.{Outcome, start, toNat, lastOr, step, rowOf, prepend, shapeOf, readEnd, onLine, readLines, lastByte, readText}
 use Rattle.text.specs.Reading.Outcome.{accepted, refused}
 use Rattle.text.specs.Tables.{testFields}
-use Rattle.text.specs.Accepted.{rowNumbers, Accepted as Facts}
-use Rattle.text.proofs.Tests.{both-left, both-right}
+use Rattle.text.specs.Accepted.{rowNumbers}
+use Rattle.text.proofs.Tests.{both-right}
 use Rattle.text.proofs.KindFacts.{width-is, narrow}
-use Rattle.text.proofs.Lines.{Passed, row-passed, read-line, fields-length, first-numbers}
+use Rattle.text.proofs.Lines.{row-passed, read-line, fields-length, first-numbers}
 use Rattle.text.proofs.Texts.{prepend-none}
 use Rattle.text.proofs.Books.{in-first}
 use Rattle.text.proofs.Facts.{accepted-facts}
@@ -42,7 +39,7 @@ use Rattle.read.specs.declared.LineIs.{LineIs}
 use Rattle.read.specs.declared.LineIs.the-variants.{Of, Bad}
 use Rattle.cursor.specs.declared.Cursor.{Cursor}
 use Rattle.cursor.specs.Places.{firstCursor, pastLine}
-use Rattle.read.specs.Storing.{LineLeft, storeLine, answerLine, stepWith, untilFeed, room, noReading, endOf, outcomeOf}
+use Rattle.read.specs.Storing.{storeLine, answerLine, stepWith, untilFeed, room, noReading, endOf, outcomeOf}
 use Rattle.read.specs.Storing.LineLeft.{keptLine, lostLine}
 use Rattle.read.proofs.Feeds.{line-in, line-split}
 use Rattle.read.proofs.States.{step-with}

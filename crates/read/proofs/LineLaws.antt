@@ -7,13 +7,12 @@ use Prim.Native.Nat.{ℕ, zero, suc, _+_, _-_, _*_, _<_, _≤_}
 use native.Mathlib.Nat.{add-zero}
 use native.Mathlib.Numerals.{add-one}
 use native.Mathlib.Omega.{arith}
-use lib.Dec.{eqb, ltb, leb}
 use lib.IntN.{ℤ, pos}
-use lib.Signed.{mag, leZ}
-use lib.ListN.{getD, drop, take, set, length, length-drop, length-append, List·getD-append}
+use lib.Signed.{leZ}
+use lib.ListN.{getD, drop, take, length, length-drop, length-append, List·getD-append}
 use lib.Seq.{sets, drop-cons, length-take-le, sets-eq, getD-append-add, getD-take, take-nil}
 use mir.Syntax.{w32}
-use mir.Val.{toZ, ofZ, SFits}
+use mir.Val.{SFits}
 use mir.Facts.{toZ-ofZ}
 use borrow.Author.Tests.{eq-eqb, ne-eqb, lt-ltb, le-ltb, le-leb, lt-leb}
 use Rattle.logic.specs.Tests.{both, either, pick, consIf, some}
@@ -23,20 +22,19 @@ use Rattle.book.specs.declared.Content.the-variants.{Edition, Statements, Liter
 use Rattle.book.specs.Kinds.{kind, contents, fieldsOf, bytes, none, exception}
 use Rattle.text.specs.declared.State.{State}
 use Rattle.text.specs.Fields.{firstField}
-use Rattle.text.specs.Lines.{Numbers, Line, between, readFields, code, numbersIn, headless, missing, miscounted, wholeOf, unless, judged, kindFor, readRest, readKind, readLine}
+use Rattle.text.specs.Lines.{Numbers, between, readFields, code, numbersIn, headless, missing, miscounted, wholeOf, unless, judged, kindFor, readRest, readKind, readLine}
 use Rattle.text.specs.Lines.Numbers.{numbers, fault}
-use Rattle.text.specs.Lines.Line.{line, wrong}
-use Rattle.text.specs.Reading.{toNat, lastOr, step}
+use Rattle.text.specs.Lines.Line.{line}
+use Rattle.text.specs.Reading.{lastOr, step}
 use Rattle.text.proofs.KindFacts.{width-is, narrow, some-field, contents-in}
 use Rattle.text.proofs.Lines.{numbers-length}
 use Rattle.fields.specs.declared.Seen.{Seen}
 use Rattle.fields.specs.Checks.{seeOf, seeAll}
-use Rattle.fields.proofs.Columns.{back, back-same}
+use Rattle.fields.proofs.Columns.{back}
 use Rattle.read.specs.declared.Fields.{Fields}
 use Rattle.read.specs.declared.Fields.the-variants.{Right, Wrong}
-use Rattle.read.specs.declared.LineIs.{LineIs}
 use Rattle.read.specs.declared.LineIs.the-variants.{Of, Bad}
-use Rattle.read.specs.Storing.{noneSeen, Left, LineLeft, store, storeFields, answerFields, wholeIs, storeLine, answerLine}
+use Rattle.read.specs.Storing.{noneSeen, store, storeFields, answerFields, wholeIs, storeLine, answerLine}
 use Rattle.read.specs.Storing.Left.{kept, lost}
 use Rattle.read.specs.Storing.LineLeft.{keptLine, lostLine}
 

@@ -1,21 +1,19 @@
 -- The state from line to line: what each return of the functions on it is by the definitions.
 -- A kind that was looked up is rewritten by its place.
-use mathlib.Core.Path.{_≡_, refl, sym, ap, _∙_}
-use mathlib.Core.Bool.{Bool, true, false}
-use mathlib.Core.List.{List, [], _∷_}
-use Prim.Native.Nat.{ℕ, suc, _+_, _<_, _≤_}
+use mathlib.Core.Path.{_≡_, refl, _∙_}
+use mathlib.Core.Bool.{true, false}
+use mathlib.Core.List.{List}
+use Prim.Native.Nat.{ℕ, _+_}
 use native.Mathlib.Numerals.{add-one}
-use lib.Dec.{eqb}
 use lib.IntN.{ℤ}
 use lib.ListN.{getD, set}
 use borrow.Author.Tests.{eq-eqb, ne-eqb}
 use Rattle.logic.specs.Tests.{pick}
 use Rattle.book.specs.declared.Kind.{Kind}
-use Rattle.book.specs.declared.Shape.{Shape}
 use Rattle.book.specs.Kinds.{kind, none, plain, exception, preference, width}
 use Rattle.text.specs.declared.State.{State}
 use Rattle.text.specs.declared.Reading.{Reading}
-use Rattle.text.specs.declared.Reading.the-variants.{Accepted, Refused}
+use Rattle.text.specs.declared.Reading.the-variants.{Accepted}
 use Rattle.text.specs.Reading.{after, step, shapeOf}
 use Rattle.read.specs.Storing.{stepWith, noReading, endOf}
 

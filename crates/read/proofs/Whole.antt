@@ -1,20 +1,17 @@
 -- The whole text, and the number table in the lent slice: what each return is by the definitions.
 -- Rows are copied one by one: what is left to put, from here, gives the final slice.
-use mathlib.Core.Path.{_≡_, refl, sym, ap, _∙_}
-use mathlib.Core.Bool.{Bool, true, false}
-use mathlib.Core.List.{List, [], _∷_, _++_}
-use Prim.Native.Nat.{ℕ, zero, suc, _+_, _-_, _*_, _/_, _<_, _≤_}
+use mathlib.Core.Path.{_≡_, refl, sym, _∙_}
+use mathlib.Core.List.{List, [], _∷_}
+use Prim.Native.Nat.{ℕ, zero, suc, _+_, _-_, _<_, _≤_}
 use native.Mathlib.Nat.{add-zero}
 use native.Mathlib.Numerals.{add-one}
 use native.Mathlib.Omega.{arith}
-use lib.Dec.{eqb, ltb}
 use lib.IntN.{ℤ, pos}
-use lib.Signed.{mag}
-use lib.ListN.{getD, take, drop, set, length, length-drop, length-take}
+use lib.ListN.{getD, take, drop, set, length, length-take}
 use lib.Seq.{sets, sets-eq, drop-cons, length-take-le}
 use mir.Syntax.{w32}
-use mir.Val.{toZ, ofZ, SFits}
-use mir.Facts.{toZ-pos, toZ-ofZ}
+use mir.Val.{toZ}
+use mir.Facts.{toZ-pos}
 use borrow.Author.Tests.{eq-eqb, ne-eqb, lt-ltb, le-ltb}
 use Rattle.logic.specs.Tests.{pick}
 use Rattle.book.specs.declared.Shape.{Shape}
@@ -27,8 +24,7 @@ use Rattle.text.specs.Reading.{Outcome, start, readLines, lastByte, readText, t
 use Rattle.text.specs.Reading.Outcome.{accepted, refused}
 use Rattle.text.specs.Accepted.{rowNumbers, Accepted as Facts}
 use Rattle.text.proofs.Facts.{accepted-facts}
-use Rattle.fields.proofs.Columns.{back, back-same}
-use Rattle.read.specs.Storing.{noReading, room, outcomeOf}
+use Rattle.read.specs.Storing.{noReading, outcomeOf}
 use Rattle.read.specs.Parsing.{Parsing, Met}
 use Rattle.read.proofs.Going.{refused-is}
 

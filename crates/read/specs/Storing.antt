@@ -1,6 +1,6 @@
 -- What the functions of the reader answer and leave in a slice of numbers, by the definitions of crate text.
-use Prim.Native.Nat.{ℕ, zero, suc, _+_, _/_}
-use mathlib.Core.Bool.{Bool, true, false}
+use Prim.Native.Nat.{ℕ, suc, _+_, _/_}
+use mathlib.Core.Bool.{false}
 use mathlib.Core.List.{List, [], _∷_}
 use lib.Dec.{eqb, leb}
 use lib.IntN.{ℤ, pos}
@@ -8,13 +8,11 @@ use lib.ListN.{getD, take, set}
 use lib.Seq.{sets}
 use Rattle.logic.specs.Tests.{both, pick}
 use Rattle.book.specs.declared.Kind.{Kind}
-use Rattle.book.specs.declared.Shape.{Shape}
 use Rattle.book.specs.declared.Content.{Content}
-use Rattle.book.specs.Kinds.{kind, none, exception, longest, ruleFields, Range}
+use Rattle.book.specs.Kinds.{kind, none, longest, ruleFields, Range}
 use Rattle.text.specs.declared.Field.{Field}
 use Rattle.text.specs.declared.Field.the-variants.{Value, Misspelt}
 use Rattle.text.specs.declared.State.{State}
-use Rattle.text.specs.declared.Refusal.{Refusal}
 use Rattle.text.specs.declared.Reading.{Reading}
 use Rattle.text.specs.declared.Reading.the-variants.{Accepted, Refused}
 use Rattle.text.specs.Lines.{Numbers, Line, between, inside, readFields}

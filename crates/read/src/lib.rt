@@ -1,8 +1,7 @@
 // Read: from a text to the number table. One pass finds a line's end, one reads its fields.
 ghost use mathlib.Core.Path.{_≡_};
-ghost use mathlib.Core.List.{List, [], _∷_};
-ghost use Prim.Native.Nat.{ℕ, _+_, _*_, _<_, _≤_};
-ghost use lib.IntN.{ℤ, pos};
+ghost use Prim.Native.Nat.{_+_, _*_, _<_, _≤_};
+ghost use lib.IntN.{pos};
 ghost use lib.ListN.{length, getD, drop, take};
 ghost use lib.Seq.{sets};
 ghost use Rattle.book.specs.Kinds.{kind, none, rangeOf, contents, fieldsOf, width, longest, exception};
@@ -10,7 +9,7 @@ ghost use Rattle.text.specs.Fields.{firstField};
 ghost use Rattle.logic.specs.Tests.{both};
 ghost use Rattle.text.specs.Lines.{kindFor, between, readLine, lines};
 ghost use Rattle.text.specs.Reading.{start, lastByte, readLines, tableOf, over};
-ghost use Rattle.read.specs.Storing.{numberOf, noneSeen, answerFields, storeFields, wholeIs, answerLine, storeLine, stepWith, untilFeed, endOf, noReading, room, outcomeOf};
+ghost use Rattle.read.specs.Storing.{numberOf, answerFields, storeFields, wholeIs, answerLine, storeLine, stepWith, untilFeed, endOf, noReading, room, outcomeOf};
 ghost use Rattle.read.specs.Parsing.{Parsing, Met};
 use book::Book;
 use book::Content;

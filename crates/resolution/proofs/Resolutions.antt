@@ -14,8 +14,7 @@ use Rattle.meaning.specs.Books.{Book}
 use Rattle.meaning.specs.Views.{View}
 use Rattle.meaning.specs.Resolutions.{Dominated, Exceeded, Resolution}
 use Rattle.masks.specs.declared.Bounds.{Bounds}
-use Rattle.masks.specs.Views.{MaskView}
-use Rattle.bounds.specs.Sound.{In, Propagated}
+use Rattle.bounds.specs.Sound.{Propagated}
 use Rattle.admissible.specs.Admissible.{Minimal, Undominated, Admissible}
 use Rattle.bridge.specs.Packed.{Packs}
 use Rattle.bridge.specs.Ranks.{RanksOf}

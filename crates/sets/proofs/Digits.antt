@@ -10,7 +10,7 @@ use lib.Bits.{bitAnd, bitOr, bitXor, differ, and-shr, or-shr, xor-shr, and-mod, 
 use lib.Count.{ones, ones-cat}
 use lib.Dec.{eqb, ltb, lit<}
 use lib.Pow.{split, shr-lt, field, mod-mod-pow, pow-pos, pow-add, pow-lt, pow-mono, shl-shr}
-use borrow.Author.Tests.{eqb-true, eqb-false, eq-eqb, ne-eqb, ltb-true, ltb-false}
+use borrow.Author.Tests.{eq-eqb, ne-eqb, ltb-true, ltb-false}
 use Rattle.sets.specs.Sets.{bitOf, sizeTo, without}
 
 two : zero < 2

@@ -1,14 +1,14 @@
 -- The laws of sets on the three words of a pair at once: all that the search needs to know of sets.
-use mathlib.Core.Path.{_≡_, refl, sym, ap, _∙_}
-use mathlib.Core.Logic.{_⊎_, inl, inr, ⊎-elim}
-use Prim.Native.Nat.{ℕ, _+_, _^_, _≤_}
+use mathlib.Core.Path.{_≡_, ap}
+use mathlib.Core.Logic.{inl, inr, ⊎-elim}
+use Prim.Native.Nat.{ℕ, _^_}
 use native.Mathlib.Nat.{le-refl, le-trans}
 use native.Mathlib.Omega.{arith}
 use lib.Bits.{bitAnd, bitOr, bitXor}
 use lib.Dec.{eqb}
 use Rattle.logic.specs.Tests.{Decides}
 use Rattle.sets.specs.declared.Pair.{Pair}
-use Rattle.sets.specs.Sets.{bitOf, Within, Apart, without}
+use Rattle.sets.specs.Sets.{without}
 use Rattle.sets.specs.Pairs.{Sub, Off, joinOf, meetOf, minusOf, Atom}
 use Rattle.sets.proofs.Words as N
 use Rattle.sets.proofs.Words.{decide, single, none-sub, none-off, minus-zero, zero-minus, and-none, none-and, same-word, word-same, or-zero}

@@ -1,16 +1,15 @@
 -- Sets in one word: unions, common parts and differences by digits, tests, and members.
 use mathlib.Core.Path.{_≡_, refl, sym, ap, _∙_}
 use mathlib.Core.Bool.{Bool, true, false, not}
-use mathlib.Core.Logic.{_⊎_, inl, inr, ⊎-elim}
-use Prim.Native.Nat.{ℕ, zero, suc, _+_, _-_, _^_, _<_, _≤_, min, max}
-use native.Mathlib.Nat.{lt-of-lt-of-le}
+use mathlib.Core.Logic.{_⊎_, inl, inr}
+use Prim.Native.Nat.{ℕ, zero, suc, _+_, _-_, _^_, _<_, _≤_, max}
 use native.Mathlib.Omega.{arith}
 use lib.Bits.{bitAnd, bitOr, bitXor, or-add-and, and-le-l, and-le-r, xor-add-and, xor-self}
 use lib.Dec.{eqb}
-use lib.Pow.{pow-mono, pow-pos}
+use lib.Pow.{pow-pos}
 use borrow.Author.Tests.{eqb-true, eqb-false, eq-eqb, ne-eqb}
 use Rattle.logic.specs.Tests.{Decides, both, either}
-use Rattle.logic.proofs.Decide.{clash, decided}
+use Rattle.logic.proofs.Decide.{clash}
 use Rattle.sets.specs.Sets.{member, Contained, Disjoint, bitOf, Within, Apart, without}
 use Rattle.sets.proofs.Digits.{lt-pow, bit-lt, bit-and, bit-or, bit-without, bit-zero, bit-over, bit-single, ext, by-digits}
 

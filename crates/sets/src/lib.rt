@@ -1,6 +1,6 @@
 // Sets of numbers 1 to 64 in a word, and pairs (S, T) in three words. Nothing above this crate reasons about bits.
 ghost use mathlib.Core.Path.{_≡_};
-ghost use mathlib.Core.Bool.{Bool, true, false, not};
+ghost use mathlib.Core.Bool.{false, not};
 ghost use Prim.Native.Nat.{ℕ, _<_, _≤_};
 ghost use lib.Dec.{eqb};
 ghost use Rattle.logic.specs.Tests.{Decides, both, either};

@@ -1,36 +1,31 @@
 -- Whole books: the lines of a book of this shape, run as a text, give what the table's test gives of its rows; and accepted lines are those
 -- of the shape and the rows that they give. The line B is taken off in front, and the laws of the rows do the rest.
 use mathlib.Core.Path.{_≡_, refl, sym, ap, _∙_}
-use mathlib.Core.Bool.{Bool, true, false, not}
+use mathlib.Core.Bool.{Bool, true, false}
 use mathlib.Core.List.{List, [], _∷_, _++_}
-use Prim.Native.Nat.{ℕ, zero, suc, _+_, _*_, _<_, _≤_}
-use native.Mathlib.Nat.{add-zero, zero-add}
+use Prim.Native.Nat.{ℕ, zero, suc, _+_, _<_}
+use native.Mathlib.Nat.{zero-add}
 use native.Mathlib.Omega.{arith}
-use lib.Dec.{eqb, ltb, leb}
 use lib.IntN.{ℤ, pos, negsuc}
-use lib.Signed.{leZ}
 use lib.ListN.{length, getD, replicate, length-append, length-replicate, getD-replicate}
-use borrow.Author.Tests.{eqb-true, leb-true, le-leb}
 use Rattle.logic.specs.Tests.{both, either, pick, consIf, some}
 use Rattle.logic.proofs.Decide.{clash}
 use Rattle.book.specs.declared.Shape.{Shape}
-use Rattle.book.specs.declared.Content.{Content}
 use Rattle.book.specs.declared.Content.the-variants.{Edition, Statements}
-use Rattle.book.specs.Kinds.{kinds, kind, contents, fieldsOf, none, first, last, exception, Range, rangeOf}
+use Rattle.book.specs.Kinds.{kinds, kind, contents, fieldsOf, first, last, Range, rangeOf}
 use Rattle.text.specs.declared.State.{State}
 use Rattle.text.specs.declared.Field.the-variants.{Value}
-use Rattle.text.specs.Lines.{Numbers, Line, between, inside, andThen, testField, code, numbersIn, headless, missing, miscounted, wholeOf, unless, judged}
+use Rattle.text.specs.Lines.{Numbers, between, inside, andThen, testField, code, numbersIn, headless, missing, miscounted, wholeOf, unless, judged}
 use Rattle.text.specs.Lines.Numbers.{numbers, fault}
-use Rattle.text.specs.Lines.Line.{line, wrong}
-use Rattle.text.specs.Reading.{Outcome, start, toNat, lastOr, after, step, rowOf, prepend, readEnd, onLine}
-use Rattle.text.specs.Reading.Outcome.{accepted, refused}
+use Rattle.text.specs.Lines.Line.{line}
+use Rattle.text.specs.Reading.{start, toNat, lastOr, after, step, rowOf, readEnd, onLine}
+use Rattle.text.specs.Reading.Outcome.{accepted}
 use Rattle.text.specs.Tables.{Row, countsOf, layout, widths, cut, rowsOf, testFields, testRows}
 use Rattle.text.specs.Writing.{firstRow, lastRow, total, bookRows}
-use Rattle.text.proofs.Tests.{both-left, both-right}
-use Rattle.text.proofs.KindFacts.{mayCome, first-only}
+use Rattle.text.proofs.KindFacts.{first-only}
 use Rattle.text.proofs.Lines.{runRow, Passed, row-passed, fields-tested, first-numbers}
-use Rattle.text.proofs.Texts.{run, Went, went, prepend-none}
-use Rattle.text.proofs.Layouts.{occurs, Rising, rising-layout, layout-rising, occurs-layout}
+use Rattle.text.proofs.Texts.{run, went, prepend-none}
+use Rattle.text.proofs.Layouts.{occurs, rising-layout, layout-rising, occurs-layout}
 use Rattle.text.proofs.Rows.{countOf, Within, Fits, run-rows}
 use Rattle.text.proofs.Runs.{Form, formed, between-same}
 

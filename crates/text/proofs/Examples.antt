@@ -1,9 +1,8 @@
 -- Books that are accepted: the empty book, and a full one of 48 statements, 200 R, 12 X and 32 P lines. So no shape of book is shut out.
 -- The tables' tests are computed; that the texts are accepted follows by `write-read`.
 use mathlib.Core.Path.{_≡_, refl}
-use mathlib.Core.Bool.{true, false, not}
 use mathlib.Core.List.{List, [], _∷_, _++_}
-use Prim.Native.Nat.{ℕ, _*_}
+use Prim.Native.Nat.{_*_}
 use lib.IntN.{ℤ, pos}
 use lib.ListN.{replicate}
 use Rattle.logic.specs.Tests.{both, either, pick, consIf, some, concatMap}

@@ -4,15 +4,15 @@ use mathlib.Core.Path.{_≡_, refl, sym, ap, _∙_}
 use mathlib.Core.Bool.{Bool, true, false, not}
 use mathlib.Core.List.{List, [], _∷_, _++_}
 use Prim.Native.Nat.{ℕ, zero, suc, _+_, _-_, _*_, _/_, _%_, _<_, _≤_}
-use native.Mathlib.Nat.{add-zero, zero-mul, div-add-mod', mod-lt, suc-mul, not-suc-le-zero, add-mul}
+use native.Mathlib.Nat.{add-zero, zero-mul, div-add-mod', mod-lt, suc-mul, not-suc-le-zero}
 use native.Mathlib.Omega.{arith}
-use lib.Dec.{eqb, ltb, leb}
+use lib.Dec.{ltb, leb}
 use lib.IntN.{ℤ, pos, negsuc, negℤ, natAbs}
 use lib.Signed.{leZ}
-use lib.ListN.{length, getD, take, drop, replicate, length-append, length-replicate, getD-replicate}
+use lib.ListN.{length, getD, take, drop, replicate, length-replicate, getD-replicate}
 use lib.Seq.{drop-drop, getD-take, getD-drop}
-use borrow.Author.Tests.{eqb-true, ltb-true, ltb-false, leb-true, le-leb, not-false}
-use Rattle.logic.specs.Tests.{both, either, pick, consIf, some}
+use borrow.Author.Tests.{ltb-true, ltb-false, leb-true}
+use Rattle.logic.specs.Tests.{both, pick, consIf, some}
 use Rattle.logic.proofs.Decide.{clash}
 use Rattle.book.specs.declared.Shape.{Shape}
 use Rattle.book.specs.declared.Content.{Content}
@@ -20,17 +20,17 @@ use Rattle.book.specs.declared.Content.the-variants.{Edition, Literal, Exceptio
 use Rattle.book.specs.Limits as limit
 use Rattle.book.specs.Kinds.{kinds, kind, contents, fieldsOf, plain, exception, preference, ruleFields, preferenceFields, rangeOf}
 use Rattle.text.specs.declared.Field.the-variants.{Value}
-use Rattle.text.specs.Lines.{Numbers, between, inside, testField, code, numbersIn, headless, missing}
-use Rattle.text.specs.Lines.Numbers.{numbers, fault}
-use Rattle.text.specs.Reading.{Outcome, readText, tableOf, toNat}
-use Rattle.text.specs.Reading.Outcome.{accepted, refused}
+use Rattle.text.specs.Lines.{between, inside, code, numbersIn, headless, missing}
+use Rattle.text.specs.Lines.Numbers.{numbers}
+use Rattle.text.specs.Reading.{readText, tableOf, toNat}
+use Rattle.text.specs.Reading.Outcome.{accepted}
 use Rattle.text.specs.Tables.{countsOf, layout, widths, cut, rowsOf, testFields, rowFault, testRows, shapeIn}
 use Rattle.text.specs.Accepted.{ruleNumbers, rowNumbers, Named, Accepted}
 use Rattle.text.proofs.Tests.{both-left, both-right}
 use Rattle.text.proofs.Lines.{first-numbers, fields-tested}
 use Rattle.text.proofs.Rows.{countOf, Within}
 use Rattle.text.proofs.Books.{Sized, in-first}
-use Rattle.text.proofs.Written.{Row-passed, Rest, next-row}
+use Rattle.text.proofs.Written.{Row-passed, next-row}
 use Rattle.text.proofs.Inverse.{Table, table-passed, read-write}
 
 -- ---- a block of rows of one kind

@@ -1,19 +1,18 @@
 -- Fields: what is written is read back, and what is read as a number is how that number is written.
 -- The first by one computed test of all numbers of four columns; the second by the definition, which compares with the written form.
-use mathlib.Core.Path.{_≡_, refl, sym, ap, _∙_}
+use mathlib.Core.Path.{_≡_, refl, _∙_}
 use mathlib.Core.Bool.{Bool, true, false}
 use mathlib.Core.List.{List, [], _∷_, _++_}
-use Prim.Native.Nat.{ℕ, zero, suc, _+_, _<_, _≤_}
-use native.Mathlib.Nat.{not-suc-le-zero}
+use Prim.Native.Nat.{ℕ, zero, suc, _<_}
 use native.Mathlib.Omega.{arith}
-use lib.Dec.{eqb, ltb}
-use lib.IntN.{ℤ, pos, negsuc, negℤ}
-use lib.ListN.{length, getD, drop}
-use borrow.Author.Tests.{eqb-true, eqb-false, eq-eqb}
+use lib.Dec.{eqb}
+use lib.IntN.{ℤ, pos, negsuc}
+use lib.ListN.{length, drop}
+use borrow.Author.Tests.{eqb-true}
 use Rattle.text.specs.declared.Field.{Field}
 use Rattle.text.specs.declared.Field.the-variants.{Value, Misspelt}
 use Rattle.logic.specs.Tests.{both, either, pick}
-use Rattle.text.specs.Fields.{columnOf, columns, written, writtenAll, digitOf, sizeOf, minusIn, signed, same, readColumns, spelt, firstField}
+use Rattle.text.specs.Fields.{columnOf, columns, written, digitOf, sizeOf, minusIn, signed, same, readColumns, spelt, firstField}
 use Rattle.text.proofs.Tests.{both-left, both-right, all, all-at}
 
 pub same-eq : (xs ys : List ℕ) → same xs ys ≡ true → xs ≡ ys

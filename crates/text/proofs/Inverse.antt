@@ -3,7 +3,7 @@
 use mathlib.Core.Path.{_≡_, refl, sym, ap, _∙_}
 use mathlib.Core.Bool.{Bool, true, false, not}
 use mathlib.Core.List.{List, [], _∷_, _++_}
-use Prim.Native.Nat.{ℕ, zero, suc, _+_, _*_, _<_, _≤_}
+use Prim.Native.Nat.{ℕ, zero, suc, _+_, _<_, _≤_}
 use native.Mathlib.Omega.{arith}
 use lib.Dec.{eqb, ltb, leb}
 use lib.IntN.{ℤ, pos, negsuc}
@@ -15,9 +15,9 @@ use Rattle.logic.specs.Tests.{both, either, pick}
 use Rattle.logic.proofs.Decide.{clash}
 use Rattle.book.specs.declared.Shape.{Shape}
 use Rattle.book.specs.declared.Content.the-variants.{Statements}
-use Rattle.book.specs.Kinds.{kinds, kind, none, first, last, plain, exception, preference, most, longest, mostRows, rangeOf}
-use Rattle.text.specs.Lines.{between, inside, lines, unlines}
-use Rattle.text.specs.Reading.{Outcome, start, toNat, readLines, lastByte, readText, tableOf}
+use Rattle.book.specs.Kinds.{kinds, kind, last, plain, exception, preference, most, longest, mostRows, rangeOf}
+use Rattle.text.specs.Lines.{between, inside, lines}
+use Rattle.text.specs.Reading.{start, toNat, readLines, lastByte, readText, tableOf}
 use Rattle.text.specs.Reading.Outcome.{accepted, refused}
 use Rattle.text.specs.Tables.{Row, countsOf, layout, widths, cut, rowsOf, testRows, shapeIn, miscount, testTable}
 use Rattle.text.specs.Writing.{firstRow, lastRow, total, bookRows, rowLines, textOf}

@@ -2,20 +2,19 @@
 -- Each fact is one computed test of all kinds, so that a further kind changes no proof here.
 use mathlib.Core.Path.{_≡_, refl, sym, ap, _∙_}
 use mathlib.Core.Bool.{Bool, true, false, not}
-use mathlib.Core.List.{List, [], _∷_, _++_}
-use mathlib.Core.Logic.{_⊎_, inl, inr, ⊎-elim}
-use Prim.Native.Nat.{ℕ, zero, suc, _+_, _*_, _<_, _≤_}
+use mathlib.Core.List.{List, [], _∷_}
+use Prim.Native.Nat.{ℕ, suc, _+_, _<_, _≤_}
 use native.Mathlib.Omega.{arith}
 use lib.Dec.{eqb, ltb, leb}
-use lib.IntN.{ℤ, pos}
-use lib.ListN.{length, getD, drop, take, replicate, drop-of-length-le, length-drop}
+use lib.IntN.{ℤ}
+use lib.ListN.{length, getD, drop, drop-of-length-le, length-drop}
 use lib.Seq.{drop-cons}
-use borrow.Author.Tests.{eqb-true, eqb-false, eq-eqb, ne-eqb, ltb-true, ltb-false, leb-true, lt-ltb, le-ltb, le-leb, lt-leb, not-true}
+use borrow.Author.Tests.{eqb-true, eqb-false, ne-eqb, ltb-true, ltb-false, leb-true, lt-ltb, le-ltb, le-leb, lt-leb, not-true}
 use Rattle.logic.specs.Tests.{both, either, pick, consIf, every}
-use Rattle.logic.proofs.Decide.{clash, either-way}
+use Rattle.logic.proofs.Decide.{clash}
 use Rattle.book.specs.declared.Kind.{Kind}
 use Rattle.book.specs.declared.Content.{Content}
-use Rattle.book.specs.declared.Content.the-variants.{Edition, Statements, Literal, Exception, Total}
+use Rattle.book.specs.declared.Content.the-variants.{Statements, Exception, Total}
 use Rattle.book.specs.Kinds.{kinds, kind, unknown, contents, fieldsOf, none, first, exception, last}
 use Rattle.text.specs.Lines.{seek, kindFor, code, numbersIn}
 use Rattle.text.proofs.Tests.{both-left, both-right, agree, agreed, all, all-at, pairs-at}

@@ -3,25 +3,24 @@
 use mathlib.Core.Path.{_≡_, refl, sym, ap, _∙_}
 use mathlib.Core.Bool.{Bool, true, false}
 use mathlib.Core.List.{List, [], _∷_, _++_}
-use Prim.Native.Nat.{ℕ, zero, suc, _+_, _*_, _<_, _≤_}
+use Prim.Native.Nat.{ℕ, zero, suc, _+_, _*_, _<_}
 use native.Mathlib.Omega.{arith}
-use lib.Dec.{eqb, ltb, leb}
-use lib.IntN.{ℤ, pos, negsuc, negℤ}
+use lib.Dec.{eqb, ltb}
+use lib.IntN.{ℤ}
 use lib.ListN.{length, getD, drop, length-append}
-use borrow.Author.Tests.{eqb-true, eqb-false, eq-eqb, ne-eqb, leb-true, ltb-true, lt-ltb, le-ltb}
+use borrow.Author.Tests.{eqb-true, eq-eqb, ltb-true, lt-ltb}
 use Rattle.logic.specs.Lists.{Every}
-use Rattle.logic.specs.Tests.{both, either, pick}
+use Rattle.logic.specs.Tests.{pick}
 use Rattle.book.specs.declared.Content.{Content}
-use Rattle.book.specs.Kinds.{kinds, kind, fieldsOf, bytes, none, Range, rangeOf}
+use Rattle.book.specs.Kinds.{kind, fieldsOf, bytes, none, Range, rangeOf}
 use Rattle.text.specs.declared.Field.{Field}
 use Rattle.text.specs.declared.Field.the-variants.{Value, Misspelt}
 use Rattle.text.specs.declared.State.{State}
-use Rattle.text.specs.Fields.{written, writtenAll, spelt, firstField}
+use Rattle.text.specs.Fields.{written, writtenAll, firstField}
 use Rattle.text.specs.Lines.{Numbers, Line, inside, andThen, testField, readFields, wholeOf, unless, judged, readRest, readKind, readLine, lineOf, kindFor}
 use Rattle.text.specs.Lines.Numbers.{numbers, fault}
 use Rattle.text.specs.Lines.Line.{line, wrong}
 use Rattle.text.specs.Tables.{testFields}
-use Rattle.text.proofs.Tests.{both-left, both-right}
 use Rattle.text.proofs.Fields.{Short, read-written, written-read, field-length, drop-field}
 use Rattle.text.proofs.KindFacts.{mayCome, letter-kind, kind-letter, width-is}
 

@@ -1,18 +1,18 @@
 -- A number table is refused only by 16, 6, 8, 9 and 10 (document 01, 'Turned down, by place').
 -- By cases on the tests in their order; a row's own refusals by its kind's contents, all of whose ranges refuse by 6.
-use mathlib.Core.Path.{_≡_, refl, sym, ap, _∙_}
+use mathlib.Core.Path.{_≡_, refl, sym, _∙_}
 use mathlib.Core.Bool.{Bool, true, false, not}
-use mathlib.Core.List.{List, [], _∷_, _++_}
+use mathlib.Core.List.{List, [], _∷_}
 use mathlib.Core.Logic.{_⊎_, inl, inr, ⊎-elim}
-use Prim.Native.Nat.{ℕ, zero, suc, _+_, _*_, _<_, _≤_}
+use Prim.Native.Nat.{ℕ, zero, suc, _+_, _<_}
 use native.Mathlib.Omega.{arith}
 use lib.Dec.{eqb, ltb}
 use lib.IntN.{ℤ, pos}
-use lib.ListN.{length, getD, take, drop, length-take, length-drop}
+use lib.ListN.{length, getD, take, drop, length-drop}
 use lib.Seq.{length-take-le}
 use borrow.Author.Tests.{eqb-true}
 use Rattle.logic.specs.Lists.{Among}
-use Rattle.logic.specs.Tests.{both, either, pick, every}
+use Rattle.logic.specs.Tests.{either, pick, every}
 use Rattle.logic.proofs.Decide.{clash}
 use Rattle.book.specs.declared.Shape.{Shape}
 use Rattle.book.specs.declared.Content.{Content}
@@ -22,9 +22,9 @@ use Rattle.text.specs.declared.Field.the-variants.{Value}
 use Rattle.text.specs.Lines.{Numbers, Line, inside, andThen, testField, headless, missing, unless, judged}
 use Rattle.text.specs.Lines.Numbers.{numbers, fault}
 use Rattle.text.specs.Lines.Line.{line, wrong}
-use Rattle.text.specs.Reading.{Outcome, prepend, rowOf, onLine}
+use Rattle.text.specs.Reading.{Outcome, prepend, onLine}
 use Rattle.text.specs.Reading.Outcome.{accepted, refused}
-use Rattle.text.specs.Tables.{Row, countsOf, layout, widths, cut, rowsOf, testFields, rowFault, testRow, testRows, shapeIn, miscount, testTable}
+use Rattle.text.specs.Tables.{countsOf, layout, widths, cut, rowsOf, testFields, rowFault, testRow, testRows, shapeIn, miscount, testTable}
 use Rattle.text.proofs.Tests.{all, all-at}
 use Rattle.text.proofs.KindFacts.{width-is}
 use Rattle.text.proofs.Layouts.{Rising}

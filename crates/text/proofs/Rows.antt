@@ -3,31 +3,28 @@
 use mathlib.Core.Path.{_≡_, refl, sym, ap, _∙_}
 use mathlib.Core.Bool.{Bool, true, false, not}
 use mathlib.Core.List.{List, [], _∷_, _++_}
-use mathlib.Core.Logic.{⊎-elim}
-use Prim.Native.Nat.{ℕ, zero, suc, _+_, _*_, _<_, _≤_}
+use Prim.Native.Nat.{ℕ, zero, suc, _+_, _<_, _≤_}
 use native.Mathlib.Nat.{add-zero}
 use native.Mathlib.Omega.{arith}
-use lib.Dec.{eqb, ltb, leb}
-use lib.IntN.{ℤ, pos, negsuc, negℤ}
+use lib.Dec.{eqb, leb}
+use lib.IntN.{ℤ, pos}
 use lib.Signed.{leZ}
-use lib.ListN.{length, getD, take, drop, set, replicate, length-set}
+use lib.ListN.{length, getD, take, drop, length-set}
 use lib.Seq.{getD-set-same, getD-set-other}
-use borrow.Author.Tests.{eqb-true, eqb-false, eq-eqb, ne-eqb, lt-ltb, le-leb, lt-leb, leb-true, leb-false}
-use Rattle.logic.specs.Tests.{both, either, pick, consIf, some}
-use Rattle.book.specs.declared.Kind.{Kind}
+use borrow.Author.Tests.{eqb-true, eqb-false, lt-ltb, le-leb, lt-leb, leb-true, leb-false}
+use Rattle.logic.specs.Tests.{both, pick, consIf, some}
 use Rattle.book.specs.declared.Shape.{Shape}
-use Rattle.book.specs.declared.Content.the-variants.{Statements, Exception, Total}
+use Rattle.book.specs.declared.Content.the-variants.{Exception, Total}
 use Rattle.book.specs.Kinds.{kinds, kind, contents, fieldsOf, none, first, last, plain, exception, preference, most, mostRows, rangeOf}
 use Rattle.text.specs.declared.State.{State}
-use Rattle.text.specs.declared.Field.the-variants.{Value}
-use Rattle.text.specs.Lines.{Numbers, Line, between, inside, andThen, testField, code, numbersIn, headless, missing, miscounted, wholeOf, unless, judged}
+use Rattle.text.specs.Lines.{Numbers, between, inside, andThen, testField, code, numbersIn, headless, missing, miscounted, wholeOf, unless, judged}
 use Rattle.text.specs.Lines.Numbers.{numbers, fault}
-use Rattle.text.specs.Lines.Line.{line, wrong}
-use Rattle.text.specs.Reading.{Outcome, start, toNat, lastOr, after, step, rowOf, prepend, shapeOf, readEnd, onLine}
-use Rattle.text.specs.Reading.Outcome.{accepted, refused}
-use Rattle.text.specs.Tables.{Row, countsOf, layout, widths, cut, testFields, rowFault, testRow, testRows}
-use Rattle.text.specs.Writing.{firstRow, lastRow, total}
-use Rattle.text.proofs.KindFacts.{mayCome, may-come, row-is, no-statements, no-total, no-exception}
+use Rattle.text.specs.Lines.Line.{line}
+use Rattle.text.specs.Reading.{Outcome, lastOr, after, step, rowOf, prepend, shapeOf, readEnd, onLine}
+use Rattle.text.specs.Reading.Outcome.{accepted}
+use Rattle.text.specs.Tables.{countsOf, cut, testFields, rowFault, testRow, testRows}
+use Rattle.text.specs.Writing.{lastRow, total}
+use Rattle.text.proofs.KindFacts.{may-come, row-is, no-statements, no-total, no-exception}
 use Rattle.text.proofs.Lines.{runRow}
 use Rattle.text.proofs.Texts.{run}
 use Rattle.text.proofs.Layouts.{occurs, Rising, occurs-same, occurs-other, occurs-none, occurs-below}

@@ -1,39 +1,33 @@
 -- The lines of an accepted book are those of its shape and rows: B, the rows in the layout of the counts, Z; and no count is over its limit.
 -- By induction on the lines after B: the kinds of the rows to come rise, and each occurs as often as the counts grow.
 use mathlib.Core.Path.{_≡_, refl, sym, ap, _∙_}
-use mathlib.Core.Bool.{Bool, true, false, not}
+use mathlib.Core.Bool.{Bool, true, false}
 use mathlib.Core.List.{List, [], _∷_, _++_}
-use Prim.Native.Nat.{ℕ, zero, suc, _+_, _*_, _<_, _≤_}
-use native.Mathlib.Nat.{add-zero, zero-add}
+use Prim.Native.Nat.{ℕ, zero, suc, _+_, _<_, _≤_}
+use native.Mathlib.Nat.{add-zero}
 use native.Mathlib.Omega.{arith}
 use lib.Dec.{eqb, ltb, leb}
 use lib.IntN.{ℤ, pos, negsuc}
 use lib.Signed.{leZ}
-use lib.ListN.{length, getD, take, drop, replicate, length-append, length-replicate}
+use lib.ListN.{length, getD, length-append}
 use lib.Seq.{take-at, drop-at}
 use borrow.Author.Tests.{eqb-true, eqb-false, eq-eqb, ne-eqb, ltb-true, ltb-false, leb-true, leb-false, not-false}
-use Rattle.logic.specs.Tests.{both, either, pick}
+use Rattle.logic.specs.Tests.{pick}
 use Rattle.logic.proofs.Decide.{clash}
 use Rattle.book.specs.declared.Shape.{Shape}
-use Rattle.book.specs.declared.Content.{Content}
-use Rattle.book.specs.declared.Content.the-variants.{Edition, Statements}
-use Rattle.book.specs.Kinds.{kinds, kind, contents, fieldsOf, none, first, last, plain, exception, preference, Range, rangeOf}
+use Rattle.book.specs.Kinds.{kinds, kind, contents, fieldsOf, none, first, last, exception}
 use Rattle.text.specs.declared.State.{State}
-use Rattle.text.specs.declared.Field.{Field}
-use Rattle.text.specs.declared.Field.the-variants.{Value}
-use Rattle.text.specs.Lines.{Numbers, Line, between, inside, andThen, testField, headless, missing, miscounted, wholeOf, numbersIn, code}
-use Rattle.text.specs.Lines.Numbers.{numbers, fault}
-use Rattle.text.specs.Lines.Line.{line, wrong}
-use Rattle.text.specs.Reading.{Outcome, start, toNat, lastOr, after, step, rowOf, prepend, shapeOf, readEnd, onLine}
+use Rattle.text.specs.Lines.{between, headless, missing, miscounted, wholeOf}
+use Rattle.text.specs.Reading.{after, step, rowOf, shapeOf, readEnd}
 use Rattle.text.specs.Reading.Outcome.{accepted, refused}
-use Rattle.text.specs.Tables.{Row, countsOf, layout, widths, cut, rowsOf, testFields}
-use Rattle.text.specs.Writing.{firstRow, lastRow, total, bookRows}
+use Rattle.text.specs.Tables.{Row, countsOf, widths, cut}
+use Rattle.text.specs.Writing.{lastRow}
 use Rattle.text.proofs.Tests.{both-left, both-right}
-use Rattle.text.proofs.KindFacts.{mayCome, known, not-before, first-only, width-is}
-use Rattle.text.proofs.Lines.{runRow, Passed, row-passed, fields-tested, first-numbers}
-use Rattle.text.proofs.Texts.{run, Went, went}
-use Rattle.text.proofs.Layouts.{occurs, Rising, occurs-none, rising-layout}
-use Rattle.text.proofs.Rows.{countOf, Within, row-next, row-rows, row-statements, row-nums, step-long, step-same, step-other, step-occurs, z-miscounted, z-statements, z-nums}
+use Rattle.text.proofs.KindFacts.{known, not-before, width-is}
+use Rattle.text.proofs.Lines.{runRow, Passed, row-passed}
+use Rattle.text.proofs.Texts.{run, went}
+use Rattle.text.proofs.Layouts.{occurs, Rising, occurs-none}
+use Rattle.text.proofs.Rows.{countOf, row-next, row-rows, row-statements, row-nums, step-long, step-same, step-other, step-occurs, z-miscounted, z-statements, z-nums}
 
 -- ---- what a line that passed shows
 whole-parts : (st : State) (k : ℕ) (vs : List ℤ) → wholeOf st k vs ≡ 0 → (getD (st .counts) k 0 < kind k .limit) × (miscounted (st .rows) (kind k) vs ≡ false)

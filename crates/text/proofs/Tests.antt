@@ -1,13 +1,13 @@
 -- Tests that compute: both of two, the first so many numbers, a test of each number below a bound or of each pair of such numbers.
 -- A test of all, computed once, gives the fact at each: by induction on the bound.
-use mathlib.Core.Path.{_≡_, refl, sym, ap, _∙_}
+use mathlib.Core.Path.{_≡_, refl}
 use mathlib.Core.Bool.{Bool, true, false, not}
-use Prim.Native.Nat.{ℕ, zero, suc, _+_, _<_, _≤_}
+use Prim.Native.Nat.{ℕ, zero, suc, _<_}
 use native.Mathlib.Nat.{not-suc-le-zero}
 use native.Mathlib.Omega.{arith}
 use lib.Dec.{eqb}
 use borrow.Author.Tests.{eqb-true, eqb-false}
-use Rattle.logic.specs.Tests.{both, either, pick}
+use Rattle.logic.specs.Tests.{both}
 use Rattle.logic.proofs.Decide.{clash}
 
 pub both-left : (a b : Bool) → both a b ≡ true → a ≡ true

@@ -1,6 +1,6 @@
 -- Texts and tables with their refusal and its line, or 0 and how many numbers the table has: computed through the definitions.
 -- They are the small books K7 and K8, and for each refusal a case or more, at the first, a middle and the last line.
-use mathlib.Core.Bool.{Bool, true, false, not}
+use mathlib.Core.Bool.{Bool, true, false}
 use mathlib.Core.List.{List, [], _∷_}
 use Prim.Native.Nat.{ℕ}
 use Prim.Native.Char.{code as codeOf}

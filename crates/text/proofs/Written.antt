@@ -1,41 +1,40 @@
 -- The rows of an accepted table can be written: each number has four columns, each row its kind's fields, and the text is not too long.
 -- By the range of each content; the length by induction on the counts, each at most its kind's limit.
-use mathlib.Core.Path.{_≡_, refl, sym, ap, _∙_}
-use mathlib.Core.Bool.{Bool, true, false, not}
+use mathlib.Core.Path.{_≡_, refl, ap, _∙_}
+use mathlib.Core.Bool.{true}
 use mathlib.Core.List.{List, [], _∷_, _++_}
 use Prim.Native.Nat.{ℕ, zero, suc, _+_, _*_, _<_, _≤_}
-use native.Mathlib.Nat.{add-zero, zero-add, suc-mul, mul-le-mul-right}
+use native.Mathlib.Nat.{add-zero, suc-mul, mul-le-mul-right}
 use native.Mathlib.Omega.{arith}
-use lib.Dec.{eqb, ltb, leb}
+use lib.Dec.{leb}
 use lib.IntN.{ℤ, pos, negsuc, negℤ}
 use lib.Signed.{leZ}
-use lib.ListN.{length, getD, take, drop, replicate, length-append, length-take, length-drop, take-append-drop}
+use lib.ListN.{length, getD, take, drop, replicate, length-append, length-drop, take-append-drop}
 use lib.Seq.{drop-cons}
 use borrow.Author.Tests.{leb-true}
 use Rattle.logic.specs.Lists.{Every}
-use Rattle.logic.specs.Tests.{both, either, pick}
+use Rattle.logic.specs.Tests.{pick}
 use Rattle.logic.proofs.Decide.{clash}
 use Rattle.book.specs.declared.Kind.{Kind}
 use Rattle.book.specs.declared.Shape.{Shape}
 use Rattle.book.specs.declared.Content.{Content}
 use Rattle.book.specs.declared.Content.the-variants.{Edition, Statements, Literal, Exception, Total}
-use Rattle.book.specs.Kinds.{kinds, kind, unknown, fieldsOf, bytes, none, first, last, most, longest, mostRows, Range, rangeOf}
+use Rattle.book.specs.Kinds.{kinds, kind, unknown, fieldsOf, bytes, none, first, last, most, longest, mostRows, rangeOf}
 use Rattle.text.specs.declared.Field.the-variants.{Value}
-use Rattle.text.specs.Fields.{writtenAll}
-use Rattle.text.specs.Lines.{Numbers, Line, between, inside, testField, judged, lineOf, unlines}
-use Rattle.text.specs.Lines.Numbers.{numbers, fault}
-use Rattle.text.specs.Lines.Line.{line, wrong}
-use Rattle.text.specs.Reading.{Outcome, rowOf, onLine}
-use Rattle.text.specs.Reading.Outcome.{accepted, refused}
+use Rattle.text.specs.Lines.{between, inside, lineOf, unlines}
+use Rattle.text.specs.Lines.Numbers.{numbers}
+use Rattle.text.specs.Lines.Line.{line}
+use Rattle.text.specs.Reading.{rowOf}
+use Rattle.text.specs.Reading.Outcome.{accepted}
 use Rattle.text.specs.Tables.{Row, countsOf, layout, widths, cut, rowsOf, testFields, rowFault, testRow, testRows}
 use Rattle.text.specs.Writing.{firstRow, lastRow, total, bookRows, rowLines, textOf}
 use Rattle.text.proofs.Tests.{both-left, both-right}
 use Rattle.text.proofs.Fields.{Short}
 use Rattle.text.proofs.KindFacts.{many, width-is}
 use Rattle.text.proofs.Lines.{judged-line, fields-tested, first-numbers, fields-length}
-use Rattle.text.proofs.Texts.{Writable, Went, went}
-use Rattle.text.proofs.Layouts.{Rising, layout-rising}
-use Rattle.text.proofs.Rows.{countOf, Within, row-nums, few-rows}
+use Rattle.text.proofs.Texts.{Writable, went}
+use Rattle.text.proofs.Layouts.{Rising}
+use Rattle.text.proofs.Rows.{countOf, Within, row-nums}
 use Rattle.text.proofs.Books.{Sized, in-first}
 
 -- ---- numbers in range have four columns

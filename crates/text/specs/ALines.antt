@@ -1,9 +1,8 @@
 -- The bytes of Line (document 01, 'Six operations', 5): "writes `A`, the count taken in a field of 4 columns, 12 such fields with the taken
 -- exceptions ascending then 0, and for each statement `.`, `+` or `-`", then a line feed.
-use Prim.Native.Nat.{ℕ, zero, suc, _+_}
-use mathlib.Core.Bool.{Bool}
+use Prim.Native.Nat.{ℕ, zero, suc}
 use mathlib.Core.List.{List, [], _∷_, _++_, map}
-use lib.IntN.{ℤ, pos}
+use lib.IntN.{pos}
 use lib.ListN.{take, replicate}
 use Rattle.logic.specs.Tests.{pick, keep}
 use Rattle.sets.specs.Sets.{member, size}

@@ -1,6 +1,6 @@
 -- A field of 4 columns (document 01, 'A book and its lines'): "a whole number right-justified after spaces, no plus sign, no leading
 -- zero, no "-0"". Bytes are ASCII: 32 is a space, 45 a minus, 48 to 57 are the digits.
-use Prim.Native.Nat.{ℕ, zero, suc, _+_, _-_, _*_, _/_, _%_}
+use Prim.Native.Nat.{ℕ, suc, _+_, _-_, _*_, _/_, _%_}
 use mathlib.Core.Bool.{Bool, true, false}
 use mathlib.Core.List.{List, [], _∷_, _++_}
 use lib.Dec.{eqb, ltb, leb}

@@ -1,7 +1,7 @@
 -- A line, apart from the lines around it (document 01, 'A book and its lines' and 'Turned down, by place'): its letter, its length, its
 -- fields, the line as a whole. What a kind of line is stands in a row of data (crate book, Kinds); nothing here speaks of a letter.
 use Prim.Native.Nat.{ℕ, zero, suc, _+_}
-use mathlib.Core.Bool.{Bool, true, false, not}
+use mathlib.Core.Bool.{Bool, not}
 use mathlib.Core.List.{List, [], _∷_, _++_}
 use lib.Dec.{eqb, ltb, leb}
 use lib.IntN.{ℤ, pos}

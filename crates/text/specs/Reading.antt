@@ -1,8 +1,7 @@
 -- Read (document 01, 'Six operations', 1, and 'Turned down, by place'): from a text to a book's shape and rows, or a refusal with its line.
-use Prim.Native.Nat.{ℕ, zero, suc, _+_}
-use mathlib.Core.Bool.{Bool, true, false}
+use Prim.Native.Nat.{ℕ, suc}
 use mathlib.Core.List.{List, [], _∷_, _++_}
-use lib.Dec.{eqb, ltb, leb}
+use lib.Dec.{eqb, ltb}
 use lib.IntN.{ℤ, pos, negsuc}
 use lib.ListN.{getD, length, replicate, drop, set}
 use Rattle.logic.specs.Tests.{pick}
@@ -10,7 +9,6 @@ use Rattle.book.specs.declared.Shape.{Shape}
 use Rattle.book.specs.declared.Content.the-variants.{Statements}
 use Rattle.book.specs.Kinds.{kind, fieldsOf, none, plain, exception, preference, longest}
 use Rattle.text.specs.declared.State.{State}
-use Rattle.text.specs.declared.Refusal.{Refusal}
 use Rattle.text.specs.declared.Reading.{Reading}
 use Rattle.text.specs.declared.Reading.the-variants.{Accepted, Refused}
 use Rattle.text.specs.Lines.{Line, lines, numbersIn, readLine}

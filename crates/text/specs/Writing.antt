@@ -7,7 +7,6 @@ use lib.ListN.{length}
 use Rattle.logic.specs.Tests.{pick}
 use Rattle.book.specs.declared.Shape.{Shape}
 use Rattle.book.specs.Kinds.{first, last}
-use Rattle.text.specs.declared.Refusal.{Refusal}
 use Rattle.text.specs.declared.Writing.{Writing}
 use Rattle.text.specs.declared.Writing.the-variants.{Written, Refused}
 use Rattle.text.specs.Lines.{lineOf, unlines}

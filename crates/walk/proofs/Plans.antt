@@ -16,12 +16,13 @@ use Rattle.sets.specs.declared.Pair.{Pair}
 use Rattle.sets.specs.Sets.{bitOf, Within, Apart, without}
 use Rattle.sets.specs.Pairs.{Sub}
 use Rattle.sets.proofs.Digits.{bit-lt}
-use Rattle.sets.proofs.Words.{within-contained, both-ways, off-sub, sub-or, sub-and, or-l, or-r, and-l, and-r, none-off, zero-minus}
+use Rattle.sets.proofs.Words.{within-contained, both-ways, off-sub, or-l, or-r, and-l, and-r, none-off, zero-minus}
 use Rattle.sets.proofs.Pairs.{sub-trans}
 use Rattle.book.specs.Kinds.{sets}
 use Rattle.masks.specs.declared.Bounds.{Bounds}
 use Rattle.masks.specs.Views.{MaskView}
-use Rattle.bounds.specs.Sound.{In, Propagated}
+use Rattle.bounds.specs.Sound.{In, Propagated, withSets}
+use Rattle.bounds.proofs.Ranges.{in-sets, in-root, set-above, set-below, one-set}
 use Rattle.probe.specs.declared.Answer.{Answer}
 use Rattle.probe.specs.declared.Answer.the-variants.{Found, Nothing}
 use Rattle.probe.specs.Probes.{Probed}
@@ -35,22 +36,9 @@ use Rattle.walk.specs.Marks.{Struck, shares, between, IsMarked, Marked, 
 use Rattle.walk.specs.declared.Range.{Range}
 use Rattle.resolution.specs.Rooted.{Rooted}
 use Rattle.resolution.proofs.Resolutions.{resolution-same}
-use Rattle.walk.specs.Plans.{withSets, NoView, Wider, Told, Full, MarksRight, Admits, Bounded}
+use Rattle.walk.specs.Plans.{NoView, Wider, Told, Full, MarksRight, Admits, Bounded}
 use Rattle.walk.proofs.Steps.{all-within}
 use Rattle.walk.proofs.Marks.{right-more}
-
--- A pair within root whose set lies from lo to hi is within the narrower bounds.
-in-sets : (root : Bounds) (lo hi : ℕ) (v : Pair) → In root v → Within lo (v .taken) → Within (v .taken) hi → In (withSets root lo hi) v
-unfolding withSets
-in-sets root lo hi v i g h = record {
-  lo = record { taken = sub-or _ _ _ (i .lo .taken) g; held = i .lo .held; denied = i .lo .denied };
-  hi = record { taken = sub-and _ _ _ (i .hi .taken) h; held = i .hi .held; denied = i .hi .denied };
-}
-
--- A pair within the bounds of one set has that set.
-pub one-set : (root : Bounds) (t : ℕ) (v : Pair) → In (withSets root t t) v → v .taken ≡ t
-unfolding withSets
-one-set root t v i = both-ways (v .taken) t (λ k. le-trans (i .hi .taken k) (and-r (root .hi .taken) t k)) (λ k. le-trans (or-r (root .lo .taken) t k) (i .lo .taken k))
 
 -- A view within root whose set lies from lo to hi is none where no view has such a set.
 none-in : (ws : List ℕ) (n : ℕ) (ranks : List ℕ) (root : Bounds) (lo hi : ℕ) → NoView ws n ranks root lo hi
@@ -86,14 +74,6 @@ module _ (b : Book) (ws : List ℕ) (n : ℕ) (ranks : List ℕ) (root : Bounds)
   -- The set of a resolution is admissible.
   pub not-admissible : (t : ℕ) → (Admissible ws n ranks root t → ⊥) → NoneAt b t
   not-admissible t f = record { none = λ p r e. f (rw e at (resolution-same b ws n ranks root rt p .1 r .1)) }
-
--- A pair within the narrower bounds is within root.
-pub in-root : (root : Bounds) (lo hi : ℕ) (v : Pair) → In (withSets root lo hi) v → In root v
-unfolding withSets
-in-root root lo hi v i = record {
-  lo = record { taken = λ k. le-trans (or-l (root .lo .taken) lo k) (i .lo .taken k); held = i .lo .held; denied = i .lo .denied };
-  hi = record { taken = λ k. le-trans (i .hi .taken k) (and-l (root .hi .taken) hi k); held = i .hi .held; denied = i .hi .denied };
-}
 
 -- ---- ranges without a view
 module _ (ws : List ℕ) (n : ℕ) (ranks : List ℕ) (root : Bounds) where
@@ -193,12 +173,10 @@ module _ (ws : List ℕ) (n : ℕ) (ranks : List ℕ) (root : Bounds) (t : ℕ) 
 
   -- The set is not within the sets of root.
   pub admits-beyond : (without t (root .hi .taken) ≡ 0 → ⊥) → Admits ws n ranks root t known m m false
-  unfolding withSets
-  admits-beyond x = admits-none m (record { none = λ v k i. x (zero-minus t (root .hi .taken) (λ j. le-trans (or-r (root .lo .taken) t j) (le-trans (i .lo .taken j) (le-trans (i .hi .taken j) (and-l (root .hi .taken) t j))))) }) (marks-same ws n ranks root m)
+  admits-beyond x = admits-none m (record { none = λ v k i. x (zero-minus t (root .hi .taken) (λ j. le-trans (set-above root t t v i j) (in-root root t t v i .hi .taken j))) }) (marks-same ws n ranks root m)
 
   pub admits-short : (without (root .lo .taken) t ≡ 0 → ⊥) → Admits ws n ranks root t known m m false
-  unfolding withSets
-  admits-short x = admits-none m (record { none = λ v k i. x (zero-minus (root .lo .taken) t (λ j. le-trans (or-l (root .lo .taken) t j) (le-trans (i .lo .taken j) (le-trans (i .hi .taken j) (and-r (root .hi .taken) t j))))) }) (marks-same ws n ranks root m)
+  admits-short x = admits-none m (record { none = λ v k i. x (zero-minus (root .lo .taken) t (λ j. le-trans (in-root root t t v i .lo .taken j) (set-below root t t v i j))) }) (marks-same ws n ranks root m)
 
   module _ (box : Bounds) (eb : box ≡ withSets root t t) (a : Answer) (pr : Probed ws n ranks box a) where
     pub admits-nothing : a ≡ Nothing → Admits ws n ranks root t known m m false

@@ -19,7 +19,8 @@ use Rattle.order.specs.Order.{setAt}
 use Rattle.order.proofs.Rule.{order-rule}
 use Rattle.masks.specs.declared.Bounds.{Bounds}
 use Rattle.masks.specs.Views.{MaskView}
-use Rattle.bounds.specs.Sound.{In}
+use Rattle.bounds.specs.Sound.{In, withSets}
+use Rattle.bounds.proofs.Ranges.{in-root, one-set}
 use Rattle.page.specs.declared.Task.{Task}
 use Rattle.page.specs.Orders.{bare, listFrom, PartOf, Begins}
 use Rattle.page.specs.Pages.{Page, Fits, Listed}
@@ -37,10 +38,10 @@ use Rattle.meaning.proofs.Parts.{Part, part-none, part-same}
 use Rattle.bridge.proofs.Views.{view-same}
 use Rattle.admissible.specs.Admissible.{Minimal}
 use Rattle.walk.specs.Marks.{IsMarked, RightMarks}
-use Rattle.walk.specs.Plans.{withSets, Told, MarksRight, Rests, Admits, Bounded}
+use Rattle.walk.specs.Plans.{Told, MarksRight, Rests, Admits, Bounded}
 use Rattle.resolution.proofs.Resolutions.{resolution-same}
 use Rattle.walk.specs.Walks.{Passed, Serves, SetListed, Beyond, Ready, Walked, FirstPage, PageAfter}
-use Rattle.walk.proofs.Plans.{marks-same, marks-more, told-kept, in-root, one-set, in-bounds, bounds-in}
+use Rattle.walk.proofs.Plans.{marks-same, marks-more, told-kept, in-bounds, bounds-in}
 use Rattle.walk.proofs.Places.{at-or-past, subset-place, none-yet, one-more, all-places, cut-short}
 
 -- Nothing is marked at first.

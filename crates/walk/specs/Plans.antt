@@ -3,26 +3,18 @@ use Prim.Native.Nat.{ℕ, _^_, _<_, _≤_}
 use mathlib.Core.Path.{_≡_}
 use mathlib.Core.Bool.{Bool, true, false}
 use mathlib.Core.List.{List}
-use lib.Bits.{bitAnd, bitOr}
 use lib.ListN.{length}
 use Rattle.sets.specs.declared.Pair.{Pair}
 use Rattle.sets.specs.Sets.{Within}
 use Rattle.book.specs.Kinds.{sets}
 use Rattle.masks.specs.declared.Bounds.{Bounds}
 use Rattle.masks.specs.Views.{MaskView}
-use Rattle.bounds.specs.Sound.{In, Propagated}
+use Rattle.bounds.specs.Sound.{In, Propagated, withSets}
 use Rattle.admissible.specs.Admissible.{Minimal, Admissible}
 use Rattle.meaning.specs.Books.{Book}
 use Rattle.resolution.specs.Rooted.{Rooted}
 use Rattle.walk.specs.declared.Range.{Range}
 use Rattle.walk.specs.Marks.{IsMarked, NoneAt, RightMarks}
-
--- The bounds root with only the sets of exceptions from lo to hi.
-unfoldable pub withSets : Bounds → ℕ → ℕ → Bounds
-withSets root lo hi = record {
-  lo = record { taken = bitOr (root .lo .taken) lo; held = root .lo .held; denied = root .lo .denied };
-  hi = record { taken = bitAnd (root .hi .taken) hi; held = root .hi .held; denied = root .hi .denied };
-}
 
 -- No view has a set of exceptions from lo to hi.
 pub record NoView (ws : List ℕ) (n : ℕ) (ranks : List ℕ) (root : Bounds) (lo hi : ℕ) : Type 0 where

@@ -7,11 +7,11 @@ ghost use Rattle.logic.specs.Tests.{Decides};
 ghost use Rattle.book.specs.Kinds.{sets};
 ghost use Rattle.walk.specs.Marks.{Struck, Marked, Stands, Next, Outranked, WithRank, Surpassed};
 ghost use Rattle.order.specs.Order.{order, setAt};
-ghost use Rattle.bounds.specs.Sound.{Propagated};
+ghost use Rattle.bounds.specs.Sound.{Propagated, withSets};
 ghost use Rattle.queue.specs.Chains.{Chains};
 ghost use Rattle.page.specs.Pages.{Fits};
 ghost use Rattle.walk.specs.Walks.{SetListed, Walked, FirstPage, PageAfter};
-ghost use Rattle.walk.specs.Plans.{withSets, NoView, Wider, MarksRight, Admits, Bounded};
+ghost use Rattle.walk.specs.Plans.{NoView, Wider, MarksRight, Admits, Bounded};
 use book::Book;
 use masks::Bounds;
 use order::Table;
@@ -21,7 +21,6 @@ use queue::Rest;
 use queue::index;
 use queue::index::Index;
 use queue::waiting;
-use sets::Pair;
 
 // A byte for each set of exceptions, not 0 where the set is known to be that of no resolution.
 pub type Marks = [u8; Book::SETS];
@@ -141,24 +140,6 @@ pub fn mark_surpassed(ranks: &[u64], taken: u64, marks: &mut Marks)
     );
 }
 
-// The bounds root with only the sets of exceptions from lo to hi.
-pub fn with_sets(root: Bounds, lo: u64, hi: u64) -> Bounds
-    ensures { λ b. ⌜ b ≡ withSets root lo hi ⌝ }
-{
-    Bounds {
-        lo: Pair {
-            taken: root.lo.taken | lo,
-            held: root.lo.held,
-            denied: root.lo.denied,
-        },
-        hi: Pair {
-            taken: root.hi.taken & hi,
-            held: root.hi.held,
-            denied: root.hi.denied,
-        },
-    }
-}
-
 // Bounds for the views with a set of exceptions from lo to hi, at rest.
 pub fn narrowed(
     words: &[u64],
@@ -172,7 +153,7 @@ pub fn narrowed(
     requires { ⌜ (n * 8 ≤ length (now words)) × (length (now ranks) ≤ 64) × Chains (now words) n (now index) ⌝ }
     ensures { λ r. ⌜ Propagated (now (words .entry)) n (now (ranks .entry)) (withSets root lo hi) (r .bounds) ⌝ }
 {
-    let b = with_sets(root, lo, hi);
+    let b = bounds::with_sets(root, lo, hi);
     queue::propagate(words, n, ranks, index, index::changed(index, root, b), b)
 }
 

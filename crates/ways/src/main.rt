@@ -1,9 +1,6 @@
 // ways: a book on standard input, its resolutions on standard output. All the work is in the library `listing`.
-ghost use Prim.Native.Nat.{_-_, _≤_};
-ghost use mathlib.Core.Path.{_≡_};
-ghost use mathlib.Core.Bool.{true};
 ghost use Rattle.answers.specs.Ways.{mostLines};
-ghost use Rattle.listing.specs.Parts.{partLines, Ready, Reaches};
+ghost use Rattle.listing.specs.Parts.{Ready, Reaches};
 use book::Book;
 use book::Shape;
 use engine::Ranks;

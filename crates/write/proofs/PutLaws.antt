@@ -2,24 +2,22 @@
 -- Each loop: what is left to put, from here, gives the final buffer.
 use mathlib.Core.Path.{_≡_, refl, sym, ap, _∙_}
 use mathlib.Core.Bool.{Bool, true, false}
-use mathlib.Core.List.{List, [], _∷_, _++_, append-assoc, append-nil}
+use mathlib.Core.List.{List, [], _∷_, _++_, append-assoc}
 use Prim.Native.Nat.{ℕ, zero, suc, _+_, _-_, _*_, _<_, _≤_}
-use native.Mathlib.Nat.{add-zero, suc-mul, zero-mul, zero-add}
+use native.Mathlib.Nat.{suc-mul, zero-mul, zero-add}
 use native.Mathlib.Numerals.{add-one}
 use native.Mathlib.Omega.{arith}
 use lib.Dec.{ltb}
-use lib.IntN.{ℤ, pos, negsuc}
+use lib.IntN.{ℤ, pos}
 use lib.ListN.{getD, drop, take, set, length, replicate, length-drop, length-append, length-take, drop-of-length-le, List·getD-eq-default}
-use lib.Seq.{sets, sets-eq, length-sets, drop-cons, drop-drop, getD-take, getD-drop, length-take-le}
+use lib.Seq.{sets, drop-cons, drop-drop, getD-take, getD-drop, length-take-le}
 use mir.Syntax.{w32}
 use mir.Val.{toZ}
 use mir.Facts.{toZ-pos}
-use borrow.Author.Tests.{ltb-true, ltb-false, lt-ltb, le-ltb}
-use Rattle.logic.specs.Tests.{pick}
+use borrow.Author.Tests.{ltb-true, ltb-false}
 use Rattle.logic.proofs.Stores.{sets-append}
 use Rattle.book.specs.declared.Kind.{Kind}
 use Rattle.book.specs.declared.Shape.{Shape}
-use Rattle.book.specs.Limits as limit
 use Rattle.book.specs.Kinds.{kinds, kind, none, first, last, bytes}
 use Rattle.text.specs.Fields.{writtenAll}
 use Rattle.text.specs.Lines.{lineOf, unlines}

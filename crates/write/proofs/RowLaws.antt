@@ -2,8 +2,8 @@
 -- One lemma for each way out of the loop and one for its turn; then one for each return of the test of a row.
 use mathlib.Core.Path.{_≡_, refl, sym, ap, _∙_}
 use mathlib.Core.Bool.{Bool, true, false, not}
-use mathlib.Core.List.{List, [], _∷_, _++_}
-use Prim.Native.Nat.{ℕ, zero, suc, _+_, _-_, _*_, _<_, _≤_}
+use mathlib.Core.List.{List, [], _∷_}
+use Prim.Native.Nat.{ℕ, suc, _+_, _<_, _≤_}
 use native.Mathlib.Nat.{add-zero}
 use native.Mathlib.Numerals.{add-one}
 use native.Mathlib.Omega.{arith}
@@ -11,18 +11,14 @@ use lib.IntN.{ℤ, pos}
 use lib.Signed.{mag, leZ}
 use lib.ListN.{getD, drop, take, length, drop-of-length-le, length-drop}
 use lib.Seq.{drop-cons, getD-take, getD-drop, length-take-le}
-use mir.Syntax.{w32}
-use mir.Val.{toZ, ofZ, SFits}
-use mir.Facts.{toZ-ofZ}
 use Rattle.logic.specs.Tests.{both, either, pick, some}
 use Rattle.book.specs.declared.Kind.{Kind}
 use Rattle.book.specs.declared.Content.{Content}
 use Rattle.book.specs.declared.Content.the-variants.{Edition, Exception}
 use Rattle.book.specs.Kinds.{kind, fieldsOf, none, rangeOf}
-use Rattle.text.specs.declared.Field.the-variants.{Value}
-use Rattle.text.specs.Lines.{Numbers, Line, between, inside, andThen, testField, numbersIn, headless, missing, unless, judged}
+use Rattle.text.specs.Lines.{between, inside, andThen, testField, numbersIn, headless, missing, unless, judged}
 use Rattle.text.specs.Lines.Numbers.{numbers, fault}
-use Rattle.text.specs.Lines.Line.{line, wrong}
+use Rattle.text.specs.Lines.Line.{line}
 use Rattle.text.specs.Tables.{testFields, rowFault}
 use Rattle.text.proofs.KindFacts.{width-is, some-field}
 use Rattle.fields.specs.declared.Checked.{Checked}

@@ -7,13 +7,13 @@ use Prim.Native.Nat.{ℕ, zero, suc, _+_, _-_, _*_, _<_, _≤_}
 use native.Mathlib.Nat.{add-zero, suc-mul, zero-mul}
 use native.Mathlib.Numerals.{add-one}
 use native.Mathlib.Omega.{arith}
-use lib.Dec.{eqb, ltb, leb}
+use lib.Dec.{leb}
 use lib.IntN.{ℤ, pos, negsuc}
 use lib.Signed.{mag, ltZ, leZ}
-use lib.ListN.{getD, drop, take, length, replicate, length-drop, length-append, length-replicate, List·getD-append, drop-of-length-le}
+use lib.ListN.{getD, drop, take, length, replicate, length-append, length-replicate, List·getD-append, drop-of-length-le}
 use lib.Seq.{drop-cons, drop-drop}
 use mir.Syntax.{w32}
-use mir.Val.{toZ, ofZ, SFits}
+use mir.Val.{SFits}
 use mir.Facts.{toZ-ofZ}
 use borrow.Author.Tests.{lt-ltb, le-ltb, eq-eqb, ne-eqb, leb-true, not-false}
 use Rattle.logic.specs.Tests.{both, either, pick}
@@ -21,15 +21,15 @@ use Rattle.book.specs.declared.Kind.{Kind}
 use Rattle.book.specs.declared.Shape.{Shape}
 use Rattle.book.specs.declared.Content.the-variants.{Statements}
 use Rattle.book.specs.Limits as limit
-use Rattle.book.specs.Kinds.{kinds, kind, none, first, last, plain, exception, preference, fieldsOf, rangeOf}
+use Rattle.book.specs.Kinds.{kinds, kind, none, first, last, plain, exception, preference, rangeOf}
 use Rattle.text.specs.declared.Refusal.{Refusal}
 use Rattle.text.specs.declared.Reading.{Reading}
 use Rattle.text.specs.declared.Reading.the-variants.{Accepted, Refused}
-use Rattle.text.specs.Lines.{Line, between, inside, judged}
+use Rattle.text.specs.Lines.{Line, between, inside}
 use Rattle.text.specs.Lines.Line.{line, wrong}
 use Rattle.text.specs.Reading.{Outcome, toNat, prepend, rowOf, onLine, readAnswer}
 use Rattle.text.specs.Reading.Outcome.{accepted, refused}
-use Rattle.text.specs.Tables.{Row, countsOf, layout, widths, cut, rowsOf, testFields, rowFault, testRow, testRows, shapeIn, miscount, testTable}
+use Rattle.text.specs.Tables.{countsOf, layout, widths, cut, rowsOf, testRow, testRows, shapeIn, miscount, testTable}
 use Rattle.text.specs.Accepted.{rowNumbers}
 use Rattle.logic.proofs.Decide.{clash}
 use Rattle.text.proofs.Tests.{both-right}

@@ -2,35 +2,31 @@
 -- An accepted table is that of its shape and rows; its numbers have four columns, and its text is as long as its shape says.
 use mathlib.Core.Path.{_≡_, refl, sym, ap, _∙_}
 use mathlib.Core.Bool.{Bool, true, false}
-use mathlib.Core.List.{List, [], _∷_, _++_}
-use Prim.Native.Nat.{ℕ, zero, suc, _+_, _-_, _*_, _<_, _≤_}
+use mathlib.Core.List.{List}
+use Prim.Native.Nat.{ℕ, zero, suc, _+_, _-_, _<_, _≤_}
 use native.Mathlib.Nat.{zero-add}
 use native.Mathlib.Omega.{arith}
 use lib.Dec.{ltb}
 use lib.IntN.{ℤ, pos, negsuc, natAbs}
-use lib.ListN.{getD, drop, length, length-append, length-drop, List·getD-eq-default}
+use lib.ListN.{getD, drop, length, List·getD-eq-default}
 use lib.Seq.{sets, sets-eq}
 use borrow.Author.Tests.{ltb-true, ltb-false, lt-ltb, le-ltb}
 use Rattle.logic.specs.Tests.{pick}
 use Rattle.book.specs.declared.Shape.{Shape}
-use Rattle.book.specs.Limits as limit
-use Rattle.book.specs.Kinds.{kind, first, last, bytes}
 use Rattle.text.specs.declared.Refusal.{Refusal}
 use Rattle.text.specs.declared.Reading.{Reading}
 use Rattle.text.specs.declared.Reading.the-variants.{Accepted, Refused}
-use Rattle.text.specs.declared.Writing.{Writing}
 use Rattle.text.specs.declared.Writing.the-variants.{Written, Refused as NotWritten}
-use Rattle.text.specs.Lines.{unlines}
 use Rattle.text.specs.Reading.{Outcome, tableOf, over, readAnswer}
 use Rattle.text.specs.Reading.Outcome.{accepted, refused}
-use Rattle.text.specs.Tables.{countsOf, layout, widths, cut, rowsOf, shapeIn, testTable}
-use Rattle.text.specs.Writing.{total, rowLines, textOf, lentBytes, writeWith, writeAnswer, writeInto}
-use Rattle.text.specs.Accepted.{ruleNumbers, rowNumbers, Named, Accepted as Facts}
-use Rattle.text.proofs.Inverse.{Table, table-passed}
+use Rattle.text.specs.Tables.{countsOf, layout, widths, testTable}
+use Rattle.text.specs.Writing.{textOf, lentBytes, writeWith, writeAnswer, writeInto}
+use Rattle.text.specs.Accepted.{ruleNumbers, rowNumbers, Accepted as Facts}
+use Rattle.text.proofs.Inverse.{table-passed}
 use Rattle.text.proofs.Facts.{layout-widths, table-facts}
 use Rattle.fields.specs.Short.{isShort, allShort}
 use Rattle.write.specs.Testing.{Bounded}
-use Rattle.write.specs.Lengths.{sumBytes, textBytes}
+use Rattle.write.specs.Lengths.{textBytes}
 use Rattle.write.specs.Promise.{Met}
 use Rattle.write.proofs.PutLaws.{text-bytes}
 

@@ -1,19 +1,19 @@
 // Write: from a number table to its text. The whole table is tested before a byte is written.
 ghost use mathlib.Core.Path.{_≡_};
-ghost use mathlib.Core.Bool.{Bool, true};
+ghost use mathlib.Core.Bool.{true};
 ghost use mathlib.Core.List.{List, [], _∷_, _++_};
 ghost use Prim.Native.Nat.{ℕ, _+_, _*_, _<_, _≤_};
-ghost use lib.IntN.{ℤ, pos};
+ghost use lib.IntN.{pos};
 ghost use lib.ListN.{length, getD, drop, take, replicate};
 ghost use lib.Seq.{sets};
-ghost use Rattle.book.specs.Kinds.{kind, none, first, last, contents, fieldsOf, bytes, rangeOf};
+ghost use Rattle.book.specs.Kinds.{kind, none, contents, fieldsOf, bytes, rangeOf};
 ghost use Rattle.book.specs.declared.Content.the-variants.{Statements};
 ghost use Rattle.text.specs.Lines.{inside, lineOf, unlines};
 ghost use Rattle.text.specs.Reading.{readAnswer};
 ghost use Rattle.text.specs.Tables.{layout, widths, cut, countsOf, rowsOf, testRows, shapeIn, miscount, testTable};
 ghost use Rattle.text.specs.Writing.{rowLines, textOf};
 ghost use Rattle.fields.specs.Short.{allShort};
-ghost use Rattle.read.specs.Storing.{noReading, noneSeen};
+ghost use Rattle.read.specs.Storing.{noneSeen};
 ghost use Rattle.write.specs.Testing.{testSeen, rowIs, onTested, overCounts, Bounded};
 ghost use Rattle.write.specs.Lengths.{allCounts, sumBytes, textBytes};
 ghost use Rattle.write.specs.Promise.{Met};

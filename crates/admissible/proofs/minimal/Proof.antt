@@ -3,8 +3,8 @@ use borrow.Author.Needs.{needs}
 use Rattle.admissible.proofs.minimal.Statement.{statement}
 use Rattle.admissible.proofs.minimal.Tie as tie
 
-beneath-requires : tie.Need-beneath-requires
-beneath-requires c κs = search needs
+with-sets-requires : tie.Need-with-sets-requires
+with-sets-requires c κs = search needs
 
 changed-requires : tie.Need-changed-requires
 changed-requires c κs = search needs
@@ -16,9 +16,9 @@ each-needed-requires : tie.Need-each-needed-requires
 each-needed-requires c κs = search needs
 
 returns : tie.Need-returns
-returns c = minimal-beneath _ _ _ _ _ _ _ _ (c .before .before .before .beneath .ensures) (c .before .propagate .ensures) (c .each-needed .ensures)
+returns c = minimal-beneath _ _ _ _ _ _ _ _ (c .before .before .before .with-sets .ensures) (c .before .propagate .ensures) (c .each-needed .ensures)
 
 pub minimal-spec : {M : Type 1} → statement M
 minimal-spec =
     tie.close
-    (tie.spec beneath-requires changed-requires propagate-requires each-needed-requires returns)
+    (tie.spec with-sets-requires changed-requires propagate-requires each-needed-requires returns)

@@ -15,8 +15,11 @@ shr-if2 c = search needs
 returns-2 : tie.Need-returns-2
 returns-2 c = minimal-sure _ _ _ _ _ _ (search needs)
 
-below-requires : tie.Need-below-requires
-below-requires c κs = search needs
+shl-with-sets : tie.Need-shl-with-sets
+shl-with-sets c = search needs
+
+with-sets-requires : tie.Need-with-sets-requires
+with-sets-requires c κs = search needs
 
 among-requires : tie.Need-among-requires
 among-requires c κs = search needs
@@ -31,10 +34,10 @@ enum-told-2 : tie.Need-enum-told-2
 enum-told-2 c = search needs
 
 returns-3 : tie.Need-returns-3
-returns-3 c = minimal-found _ _ _ _ _ _ _ (c .before .before .before .before .below .ensures) _ (c .before .before .probe .ensures) (c .enum-told .given .0 .0) (search needs) (c .enum-told .given .1)
+returns-3 c = minimal-found _ _ _ _ _ _ (c .before .before .before .before .before .before .before .before .before .before .pre .2) _ (c .before .before .before .before .with-sets .ensures) _ (c .before .before .probe .ensures) (c .enum-told .given .0 .0) (search needs) (c .enum-told .given .1)
 
 returns-4 : tie.Need-returns-4
-returns-4 c = minimal-none _ _ _ _ _ _ _ (c .before .before .before .before .below .ensures) _ (c .before .before .probe .ensures) (search needs)
+returns-4 c = minimal-none _ _ _ _ _ _ (c .before .before .before .before .before .before .before .before .before .before .pre .2) _ (c .before .before .before .before .with-sets .ensures) _ (c .before .before .probe .ensures) (search needs)
 
 pub minimal-at-spec : {M : Type 1} → statement M
 minimal-at-spec =
@@ -44,7 +47,8 @@ minimal-at-spec =
     returns
     shr-if2
     returns-2
-    below-requires
+    shl-with-sets
+    with-sets-requires
     among-requires
     probe-requires
     enum-told

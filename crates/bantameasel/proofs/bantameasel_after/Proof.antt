@@ -1,12 +1,8 @@
-use mathlib.Core.Path.{_≡_, ap, _∙_}
+use mathlib.Core.Path.{ap, _∙_}
 use Rattle.bantameasel.specs.Across.{answerIn, pairOf}
 use borrow.Author.Needs.{needs}
 use Rattle.bantameasel.proofs.bantameasel_after.Statement.{statement}
 use Rattle.bantameasel.proofs.bantameasel_after.Tie as tie
-use Rattle.bantameasel.proofs.bantameasel_after.Reads as reads
-use Rattle.bantameasel.proofs.bantameasel_after.Lts as lts
-use Rattle.bantameasel.proofs.pair_in.Reads as pair-in-reads
-use Rattle.operations.proofs.after.Reads as after-reads
 
 -- src/lib.rt:213:13
 after-requires : tie.Need-after-requires

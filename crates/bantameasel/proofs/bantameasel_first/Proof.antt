@@ -1,12 +1,8 @@
-use mathlib.Core.Path.{_≡_, ap, _∙_}
-use Rattle.bantameasel.specs.Across.{answerIn, pairOf}
+use mathlib.Core.Path.{ap, _∙_}
+use Rattle.bantameasel.specs.Across.{answerIn}
 use borrow.Author.Needs.{needs}
 use Rattle.bantameasel.proofs.bantameasel_first.Statement.{statement}
 use Rattle.bantameasel.proofs.bantameasel_first.Tie as tie
-use Rattle.bantameasel.proofs.bantameasel_first.Reads as reads
-use Rattle.bantameasel.proofs.bantameasel_first.Lts as lts
-use Rattle.bantameasel.proofs.pair_in.Reads as pair-in-reads
-use Rattle.operations.proofs.first.Reads as first-reads
 
 -- src/lib.rt:200:13
 first-requires : tie.Need-first-requires

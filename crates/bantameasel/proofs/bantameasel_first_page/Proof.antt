@@ -1,12 +1,8 @@
-use mathlib.Core.Path.{_≡_, ap, _∙_}
-use Rattle.bantameasel.specs.Across.{amountIn, pairOf}
+use mathlib.Core.Path.{ap, _∙_}
+use Rattle.bantameasel.specs.Across.{amountIn}
 use borrow.Author.Needs.{needs}
 use Rattle.bantameasel.proofs.bantameasel_first_page.Statement.{statement}
 use Rattle.bantameasel.proofs.bantameasel_first_page.Tie as tie
-use Rattle.bantameasel.proofs.bantameasel_first_page.Reads as reads
-use Rattle.bantameasel.proofs.bantameasel_first_page.Lts as lts
-use Rattle.bantameasel.proofs.count_in.Reads as count-in-reads
-use Rattle.operations.proofs.first_page.Reads as first-page-reads
 
 -- src/lib.rt:222:14
 first-page-requires : tie.Need-first-page-requires

@@ -1,12 +1,8 @@
-use mathlib.Core.Path.{_≡_, ap, _∙_}
+use mathlib.Core.Path.{ap, _∙_}
 use Rattle.bantameasel.specs.Across.{verdictIn, pairOf}
 use borrow.Author.Needs.{needs}
 use Rattle.bantameasel.proofs.bantameasel_judge.Statement.{statement}
 use Rattle.bantameasel.proofs.bantameasel_judge.Tie as tie
-use Rattle.bantameasel.proofs.bantameasel_judge.Reads as reads
-use Rattle.bantameasel.proofs.bantameasel_judge.Lts as lts
-use Rattle.bantameasel.proofs.verdict_in.Reads as verdict-in-reads
-use Rattle.operations.proofs.judge.Reads as judge-reads
 
 -- src/lib.rt:192:16
 judge-requires : tie.Need-judge-requires

@@ -1,12 +1,8 @@
-use mathlib.Core.Path.{_≡_, ap, _∙_}
+use mathlib.Core.Path.{ap, _∙_}
 use Rattle.bantameasel.specs.Across.{amountIn, pairOf}
 use borrow.Author.Needs.{needs}
 use Rattle.bantameasel.proofs.bantameasel_line.Statement.{statement}
 use Rattle.bantameasel.proofs.bantameasel_line.Tie as tie
-use Rattle.bantameasel.proofs.bantameasel_line.Reads as reads
-use Rattle.bantameasel.proofs.bantameasel_line.Lts as lts
-use Rattle.bantameasel.proofs.length_in.Reads as length-in-reads
-use Rattle.line.proofs.line.Reads as line-reads
 
 -- src/lib.rt:240:15
 line-requires : tie.Need-line-requires

@@ -1,12 +1,8 @@
-use mathlib.Core.Path.{_≡_, ap, _∙_}
+use mathlib.Core.Path.{ap, _∙_}
 use Rattle.bantameasel.specs.Across.{amountIn, pairOf}
 use borrow.Author.Needs.{needs}
 use Rattle.bantameasel.proofs.bantameasel_page_after.Statement.{statement}
 use Rattle.bantameasel.proofs.bantameasel_page_after.Tie as tie
-use Rattle.bantameasel.proofs.bantameasel_page_after.Reads as reads
-use Rattle.bantameasel.proofs.bantameasel_page_after.Lts as lts
-use Rattle.bantameasel.proofs.count_in.Reads as count-in-reads
-use Rattle.operations.proofs.page_after.Reads as page-after-reads
 
 -- src/lib.rt:242:14
 page-after-requires : tie.Need-page-after-requires

@@ -1,12 +1,8 @@
-use mathlib.Core.Path.{_≡_, ap, _∙_}
+use mathlib.Core.Path.{ap, _∙_}
 use Rattle.bantameasel.specs.Across.{bookIn}
 use borrow.Author.Needs.{needs}
 use Rattle.bantameasel.proofs.bantameasel_read.Statement.{statement}
 use Rattle.bantameasel.proofs.bantameasel_read.Tie as tie
-use Rattle.bantameasel.proofs.bantameasel_read.Reads as reads
-use Rattle.bantameasel.proofs.bantameasel_read.Lts as lts
-use Rattle.bantameasel.proofs.book_in.Reads as book-in-reads
-use Rattle.read.proofs.read.Reads as read-reads
 
 -- src/lib.rt:170:13
 read-requires : tie.Need-read-requires

@@ -1,13 +1,9 @@
-use mathlib.Core.Path.{_≡_, ap, _∙_}
+use mathlib.Core.Path.{ap, _∙_}
 use Rattle.answers.specs.Operations.{lengthOf}
 use Rattle.bantameasel.specs.Across.{amountIn}
 use borrow.Author.Needs.{needs}
 use Rattle.bantameasel.proofs.bantameasel_write.Statement.{statement}
 use Rattle.bantameasel.proofs.bantameasel_write.Tie as tie
-use Rattle.bantameasel.proofs.bantameasel_write.Reads as reads
-use Rattle.bantameasel.proofs.bantameasel_write.Lts as lts
-use Rattle.bantameasel.proofs.length_in.Reads as length-in-reads
-use Rattle.write.proofs.write.Reads as write-reads
 
 -- src/lib.rt:179:15
 write-requires : tie.Need-write-requires

@@ -3,8 +3,6 @@ use Rattle.bantameasel.specs.Across.{bookIn}
 use borrow.Author.Needs.{needs}
 use Rattle.bantameasel.proofs.book_in.Statement.{statement}
 use Rattle.bantameasel.proofs.book_in.Tie as tie
-use Rattle.bantameasel.proofs.book_in.Reads as reads
-use Rattle.bantameasel.proofs.book_in.Lts as lts
 
 -- src/lib.rt:61:27
 enum-known-r : tie.Need-enum-known-r

@@ -3,8 +3,6 @@ use Rattle.bantameasel.specs.Across.{amountIn}
 use borrow.Author.Needs.{needs}
 use Rattle.bantameasel.proofs.count_in.Statement.{statement}
 use Rattle.bantameasel.proofs.count_in.Tie as tie
-use Rattle.bantameasel.proofs.count_in.Reads as reads
-use Rattle.bantameasel.proofs.count_in.Lts as lts
 
 -- src/lib.rt:101:22
 enum-known-p : tie.Need-enum-known-p

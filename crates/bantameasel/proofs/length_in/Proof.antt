@@ -3,8 +3,6 @@ use Rattle.bantameasel.specs.Across.{amountIn}
 use borrow.Author.Needs.{needs}
 use Rattle.bantameasel.proofs.length_in.Statement.{statement}
 use Rattle.bantameasel.proofs.length_in.Tie as tie
-use Rattle.bantameasel.proofs.length_in.Reads as reads
-use Rattle.bantameasel.proofs.length_in.Lts as lts
 
 -- src/lib.rt:84:26
 enum-known-w : tie.Need-enum-known-w

@@ -3,8 +3,6 @@ use Rattle.bantameasel.specs.Across.{answerIn}
 use borrow.Author.Needs.{needs}
 use Rattle.bantameasel.proofs.pair_in.Statement.{statement}
 use Rattle.bantameasel.proofs.pair_in.Tie as tie
-use Rattle.bantameasel.proofs.pair_in.Reads as reads
-use Rattle.bantameasel.proofs.pair_in.Lts as lts
 
 -- src/lib.rt:135:27
 enum-known-f : tie.Need-enum-known-f

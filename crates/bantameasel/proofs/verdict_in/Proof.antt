@@ -3,8 +3,6 @@ use Rattle.bantameasel.specs.Across.{verdictIn}
 use borrow.Author.Needs.{needs}
 use Rattle.bantameasel.proofs.verdict_in.Statement.{statement}
 use Rattle.bantameasel.proofs.verdict_in.Tie as tie
-use Rattle.bantameasel.proofs.verdict_in.Reads as reads
-use Rattle.bantameasel.proofs.verdict_in.Lts as lts
 
 -- src/lib.rt:118:25
 enum-known-j : tie.Need-enum-known-j

@@ -1,10 +1,7 @@
-use native.Mathlib.Omega.{arith}
 use Rattle.fields.proofs.Numbers.{not-at-most, is-at-most}
 use borrow.Author.Needs.{needs}
 use Rattle.fields.proofs.at_most.Statement.{statement}
 use Rattle.fields.proofs.at_most.Tie as tie
-use Rattle.fields.proofs.at_most.Reads as reads
-use Rattle.fields.proofs.at_most.Lts as lts
 
 -- src/lib.rt:170:9
 cast-if1 : tie.Need-cast-if1

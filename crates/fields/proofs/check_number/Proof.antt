@@ -3,9 +3,6 @@ use Rattle.fields.proofs.Numbers.{number-of, edition-range, statements-
 use borrow.Author.Needs.{needs}
 use Rattle.fields.proofs.check_number.Statement.{statement}
 use Rattle.fields.proofs.check_number.Tie as tie
-use Rattle.fields.proofs.check_number.Reads as reads
-use Rattle.fields.proofs.check_number.Lts as lts
-use Rattle.fields.proofs.in_range.Reads as in-range-reads
 
 -- src/lib.rt:147:29
 enum-told : tie.Need-enum-told

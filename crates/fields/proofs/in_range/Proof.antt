@@ -1,4 +1,4 @@
-use mathlib.Core.Path.{_≡_, refl}
+use mathlib.Core.Path.{refl}
 use borrow.Author.Needs.{needs}
 use Rattle.fields.proofs.Columns.{too-low, too-high, in-between}
 use Rattle.fields.proofs.Numbers.{number-in, number-out}

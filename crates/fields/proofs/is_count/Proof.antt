@@ -1,10 +1,7 @@
-use native.Mathlib.Omega.{arith}
 use Rattle.fields.proofs.Numbers.{below-count, above-count, count-here}
 use borrow.Author.Needs.{needs}
 use Rattle.fields.proofs.is_count.Statement.{statement}
 use Rattle.fields.proofs.is_count.Tie as tie
-use Rattle.fields.proofs.is_count.Reads as reads
-use Rattle.fields.proofs.is_count.Lts as lts
 
 -- src/lib.rt:181:13
 cast-if1 : tie.Need-cast-if1

@@ -2,11 +2,6 @@ use Rattle.fields.proofs.Numbers.{see-statements, see-exception, see-to
 use borrow.Author.Needs.{needs}
 use Rattle.fields.proofs.see.Statement.{statement}
 use Rattle.fields.proofs.see.Tie as tie
-use Rattle.fields.proofs.see.Reads as reads
-use Rattle.fields.proofs.see.Lts as lts
-use Rattle.fields.proofs.at_most.Reads as at-most-reads
-use Rattle.fields.proofs.is_count.Reads as is-count-reads
-use Rattle.fields.proofs.to_nat.Reads as to-nat-reads
 
 -- src/lib.rt:207:25
 enum-told : tie.Need-enum-told

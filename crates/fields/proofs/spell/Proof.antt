@@ -1,6 +1,4 @@
 use Rattle.fields.proofs.Columns.{back-same}
-use mir.Facts.{toZ-ofZ}
-use mathlib.Core.Path.{_≡_, sym, _∙_, ap}
 use Rattle.fields.proofs.Columns.{is-spelt, is-misspelt}
 use borrow.Author.Needs.{needs}
 use Rattle.fields.proofs.spell.Statement.{statement}

@@ -4,11 +4,6 @@ use native.Mathlib.Omega.{arith}
 use borrow.Author.Needs.{needs}
 use Rattle.listing.proofs.begin.Statement.{statement}
 use Rattle.listing.proofs.begin.Tie as tie
-use Rattle.listing.proofs.begin.Reads as reads
-use Rattle.listing.proofs.begin.Lts as lts
-use Rattle.listing.proofs.opening.Reads as opening-reads
-use Rattle.listing.proofs.put_failed.Reads as put-failed-reads
-use Rattle.operations.proofs.load.Reads as load-reads
 
 -- src/lib.rt:157:9
 load-requires : tie.Need-load-requires

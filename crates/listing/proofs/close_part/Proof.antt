@@ -5,10 +5,6 @@ use native.Mathlib.Omega.{arith}
 use borrow.Author.Needs.{needs}
 use Rattle.listing.proofs.close_part.Statement.{statement}
 use Rattle.listing.proofs.close_part.Tie as tie
-use Rattle.listing.proofs.close_part.Reads as reads
-use Rattle.listing.proofs.close_part.Lts as lts
-use Rattle.listing.proofs.put_closing.Reads as put-closing-reads
-use Rattle.listing.proofs.put_lines.Reads as put-lines-reads
 
 -- src/lib.rt:83:9
 put-lines-requires : tie.Need-put-lines-requires

@@ -5,10 +5,6 @@ use Prim.Native.Nat.{ℕ, _*_}
 use borrow.Author.Needs.{needs}
 use Rattle.listing.proofs.go_on.Statement.{statement}
 use Rattle.listing.proofs.go_on.Tie as tie
-use Rattle.listing.proofs.go_on.Reads as reads
-use Rattle.listing.proofs.go_on.Lts as lts
-use Rattle.engine.proofs.after_in.Reads as after-in-reads
-use Rattle.listing.proofs.put_part.Reads as put-part-reads
 
 -- src/lib.rt:132:50
 slice-aggregate-after-in : tie.Need-slice-aggregate-after-in

@@ -1,17 +1,11 @@
 use Rattle.answers.specs.Ways.{mostLines}
 use Rattle.listing.specs.Parts.{partLines}
 use Rattle.listing.proofs.Promised.{part-few, lists}
-use mathlib.Core.Path.{refl}
 use lib.ListN.{length-replicate}
 use Prim.Native.Nat.{ℕ, _*_}
-use native.Mathlib.Omega.{arith}
 use borrow.Author.Needs.{needs}
 use Rattle.listing.proofs.opening.Statement.{statement}
 use Rattle.listing.proofs.opening.Tie as tie
-use Rattle.listing.proofs.opening.Reads as reads
-use Rattle.listing.proofs.opening.Lts as lts
-use Rattle.engine.proofs.first_in.Reads as first-in-reads
-use Rattle.listing.proofs.put_part.Reads as put-part-reads
 
 -- src/lib.rt:122:47
 slice-aggregate-first-in : tie.Need-slice-aggregate-first-in

@@ -1,12 +1,9 @@
 use Rattle.listing.proofs.Stores.{closed}
 use native.Mathlib.Omega.{arith}
-use lib.Seq.{length-sets}
 use lib.ListN.{length-set}
 use borrow.Author.Needs.{needs}
 use Rattle.listing.proofs.put_closing.Statement.{statement}
 use Rattle.listing.proofs.put_closing.Tie as tie
-use Rattle.listing.proofs.put_closing.Reads as reads
-use Rattle.listing.proofs.put_closing.Lts as lts
 
 -- src/lib.rt:72:5
 slice-write-out : tie.Need-slice-write-out

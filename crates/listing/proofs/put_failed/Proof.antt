@@ -4,9 +4,6 @@ use lib.ListN.{length-set}
 use borrow.Author.Needs.{needs}
 use Rattle.listing.proofs.put_failed.Statement.{statement}
 use Rattle.listing.proofs.put_failed.Tie as tie
-use Rattle.listing.proofs.put_failed.Reads as reads
-use Rattle.listing.proofs.put_failed.Lts as lts
-use Rattle.fields.proofs.put_columns.Reads as put-columns-reads
 
 -- src/lib.rt:132:5
 slice-write-out : tie.Need-slice-write-out

@@ -3,11 +3,6 @@ use native.Mathlib.Omega.{arith}
 use borrow.Author.Needs.{needs}
 use Rattle.listing.proofs.put_part.Statement.{statement}
 use Rattle.listing.proofs.put_part.Tie as tie
-use Rattle.listing.proofs.put_part.Reads as reads
-use Rattle.listing.proofs.put_part.Lts as lts
-use Rattle.listing.proofs.close_part.Reads as close-part-reads
-use Rattle.page.proofs.pair_at.Reads as pair-at-reads
-use Rattle.listing.proofs.put_lines.Reads as put-lines-reads
 
 -- src/lib.rt:103:13
 close-part-requires : tie.Need-close-part-requires

@@ -1,6 +1,6 @@
 -- The least closed set, computed: a rule whose needed entries are there is taken out and its head added, until none is left.
 use Prim.Native.Nat.{ℕ, zero, suc, _+_, _-_, _^_}
-use mathlib.Core.Bool.{Bool, true, false}
+use mathlib.Core.Bool.{true, false}
 use mathlib.Core.List.{List, [], _∷_}
 use lib.ListN.{length}
 use Rattle.logic.specs.Tests.{every}

@@ -1,6 +1,6 @@
 use Rattle.operations.proofs.Loading.{refused-was, accepted-was, small-was}
 use Rattle.operations.proofs.Answers.{after-down, after-refused, after-accepted, few-taken}
-use mathlib.Core.Path.{_≡_, refl, ap, _∙_}
+use mathlib.Core.Path.{refl, ap, _∙_}
 use native.Mathlib.Omega.{arith}
 use Rattle.answers.specs.Operations.{answerOf}
 use borrow.Author.Needs.{needs}

@@ -3,10 +3,6 @@ use Rattle.operations.proofs.Answers.{first-page-down, first-page-accep
 use borrow.Author.Needs.{needs}
 use Rattle.operations.proofs.first_page.Statement.{statement}
 use Rattle.operations.proofs.first_page.Tie as tie
-use Rattle.operations.proofs.first_page.Reads as reads
-use Rattle.operations.proofs.first_page.Lts as lts
-use Rattle.engine.proofs.first_in.Reads as first-in-reads
-use Rattle.operations.proofs.load.Reads as load-reads
 
 -- src/lib.rt:132:9
 load-requires : tie.Need-load-requires

@@ -4,11 +4,6 @@ use native.Mathlib.Omega.{arith}
 use borrow.Author.Needs.{needs}
 use Rattle.operations.proofs.page_after.Statement.{statement}
 use Rattle.operations.proofs.page_after.Tie as tie
-use Rattle.operations.proofs.page_after.Reads as reads
-use Rattle.operations.proofs.page_after.Lts as lts
-use Rattle.engine.proofs.after_in.Reads as after-in-reads
-use Rattle.lawful.proofs.refusal.Reads as refusal-reads
-use Rattle.operations.proofs.load.Reads as load-reads
 
 -- src/lib.rt:145:9
 load-requires : tie.Need-load-requires

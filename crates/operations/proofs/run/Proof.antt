@@ -1,6 +1,6 @@
 use native.Mathlib.Nat.{div-mul-le-self}
 use Rattle.operations.proofs.Calls.{ran-all}
-use Prim.Native.Nat.{_-_, _≤_, min, _/_}
+use Prim.Native.Nat.{_-_, _≤_}
 use mathlib.Core.Path.{_≡_, refl, _∙_}
 use native.Mathlib.Omega.{arith}
 use borrow.Author.Needs.{needs}

@@ -2,13 +2,6 @@ use Rattle.page.proofs.Statements.{fixed-keeps}
 use borrow.Author.Needs.{needs}
 use Rattle.page.proofs.fixed.Statement.{statement}
 use Rattle.page.proofs.fixed.Tie as tie
-use Rattle.page.proofs.fixed.Reads as reads
-use Rattle.page.proofs.fixed.Lts as lts
-use Rattle.bounds.proofs.into.Reads as into-reads
-use Rattle.bounds.proofs.out.Reads as out-reads
-use Rattle.page.proofs.about.Reads as about-reads
-use Rattle.page.proofs.said.Reads as said-reads
-use Rattle.sets.proofs.minus.Reads as minus-reads
 
 -- src/lib.rt:111:9
 said-requires : tie.Need-said-requires

@@ -2,8 +2,6 @@ use mathlib.Core.Path.{refl}
 use Rattle.text.specs.Reading.{start}
 use Rattle.read.proofs.empty.Statement.{statement}
 use Rattle.read.proofs.empty.Tie as tie
-use Rattle.read.proofs.empty.Reads as reads
-use Rattle.read.proofs.empty.Lts as lts
 
 -- src/lib.rt:181:1
 returns : tie.Need-returns

@@ -2,9 +2,6 @@ use Rattle.read.proofs.States.{end-refused, end-accepted}
 use borrow.Author.Needs.{needs}
 use Rattle.read.proofs.ended.Statement.{statement}
 use Rattle.read.proofs.ended.Tie as tie
-use Rattle.read.proofs.ended.Reads as reads
-use Rattle.read.proofs.ended.Lts as lts
-use Rattle.read.proofs.refused.Reads as refused-reads
 
 -- src/lib.rt:267:9
 refused-requires : tie.Need-refused-requires

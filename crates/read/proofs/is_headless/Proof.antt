@@ -2,9 +2,6 @@ use Rattle.read.proofs.LineLaws.{headed-yes, headed-no}
 use borrow.Author.Needs.{needs}
 use Rattle.read.proofs.is_headless.Statement.{statement}
 use Rattle.read.proofs.is_headless.Tie as tie
-use Rattle.read.proofs.is_headless.Reads as reads
-use Rattle.read.proofs.is_headless.Lts as lts
-use Rattle.fields.proofs.is_count.Reads as is-count-reads
 
 -- src/lib.rt:105:9
 is-count-requires : tie.Need-is-count-requires

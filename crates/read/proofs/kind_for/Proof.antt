@@ -9,9 +9,6 @@ use Rattle.text.specs.Lines.{seek, kindFor}
 use Rattle.read.proofs.Letters.{seek-start, seek-here, seek-stop, seek-next, seek-end}
 use Rattle.read.proofs.kind_for.Statement.{statement}
 use Rattle.read.proofs.kind_for.Tie as tie
-use Rattle.read.proofs.kind_for.Reads as reads
-use Rattle.read.proofs.kind_for.Lts as lts
-use Rattle.book.proofs.kind_at.Reads as kind-at-reads
 
 abbrev Inv-loop : tie.InvT-loop
 Inv-loop next b k₀ k = (seek b k (drop k kinds) ≡ kindFor next b)

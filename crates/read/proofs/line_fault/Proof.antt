@@ -2,9 +2,6 @@ use Rattle.read.proofs.LineLaws.{whole-over, whole-headless, whole-miss
 use borrow.Author.Needs.{needs}
 use Rattle.read.proofs.line_fault.Statement.{statement}
 use Rattle.read.proofs.line_fault.Tie as tie
-use Rattle.read.proofs.line_fault.Reads as reads
-use Rattle.read.proofs.line_fault.Lts as lts
-use Rattle.read.proofs.is_headless.Reads as is-headless-reads
 
 -- src/lib.rt:115:9
 returns : tie.Need-returns

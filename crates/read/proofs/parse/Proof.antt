@@ -5,10 +5,6 @@ use Rattle.read.proofs.Whole.{last-is, parsed-long, parsed-empty, parse
 use borrow.Author.Needs.{needs}
 use Rattle.read.proofs.parse.Statement.{statement}
 use Rattle.read.proofs.parse.Tie as tie
-use Rattle.read.proofs.parse.Reads as reads
-use Rattle.read.proofs.parse.Lts as lts
-use Rattle.read.proofs.read_lines.Reads as read-lines-reads
-use Rattle.read.proofs.refused.Reads as refused-reads
 
 -- src/lib.rt:310:9
 refused-requires : tie.Need-refused-requires

@@ -7,9 +7,6 @@ use Rattle.fields.proofs.Columns.{back, back-same}
 use Rattle.read.proofs.Whole.{ToPut, put-start, put-next, put-end}
 use Rattle.read.proofs.put_rows.Statement.{statement}
 use Rattle.read.proofs.put_rows.Tie as tie
-use Rattle.read.proofs.put_rows.Reads as reads
-use Rattle.read.proofs.put_rows.Lts as lts
-use Rattle.fields.proofs.number_at.Reads as number-at-reads
 
 abbrev Inv-loop : tie.InvT-loop
 Inv-loop t₀ at rows m i₀ t i = (i ≤ m) × (length t ≡ length t₀) × ToPut rows t₀ at m t i

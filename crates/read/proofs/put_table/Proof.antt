@@ -4,9 +4,6 @@ use Rattle.read.proofs.Whole.{table-put}
 use borrow.Author.Needs.{needs}
 use Rattle.read.proofs.put_table.Statement.{statement}
 use Rattle.read.proofs.put_table.Tie as tie
-use Rattle.read.proofs.put_table.Reads as reads
-use Rattle.read.proofs.put_table.Lts as lts
-use Rattle.read.proofs.put_rows.Reads as put-rows-reads
 
 -- src/lib.rt:338:16
 cast-table : tie.Need-cast-table

@@ -3,12 +3,6 @@ use Rattle.read.proofs.Whole.{read-refused, book-counts, rows-long, rea
 use borrow.Author.Needs.{needs}
 use Rattle.read.proofs.read.Statement.{statement}
 use Rattle.read.proofs.read.Tie as tie
-use Rattle.read.proofs.read.Reads as reads
-use Rattle.read.proofs.read.Lts as lts
-use Rattle.fields.proofs.row_numbers.Reads as row-numbers-reads
-use Rattle.read.proofs.parse.Reads as parse-reads
-use Rattle.read.proofs.put_table.Reads as put-table-reads
-use Rattle.read.proofs.refused.Reads as refused-reads
 
 -- src/lib.rt:351:9
 parse-requires : tie.Need-parse-requires

@@ -1,19 +1,14 @@
 use Rattle.book.specs.Kinds.{contents, fieldsOf}
 use Rattle.read.specs.Storing.{noneSeen}
-use Prim.Native.Nat.{_≤_, _-_, _+_, _<_}
+use Prim.Native.Nat.{_≤_, _-_}
 use mathlib.Core.Path.{_≡_, refl}
 use native.Mathlib.Omega.{arith}
 use borrow.Author.Needs.{needs}
 use lib.ListN.{length, length-set, getD}
 use Rattle.book.specs.Kinds.{exception}
-use Rattle.read.proofs.FieldLaws.{part, part-is, part-at, part-long, Rest, rest-start, rest-wrong, rest-next, rest-end}
+use Rattle.read.proofs.FieldLaws.{part, part-at, part-long, Rest, rest-start, rest-wrong, rest-next, rest-end}
 use Rattle.read.proofs.read_fields.Statement.{statement}
 use Rattle.read.proofs.read_fields.Tie as tie
-use Rattle.read.proofs.read_fields.Reads as reads
-use Rattle.read.proofs.read_fields.Lts as lts
-use Rattle.book.proofs.content_at.Reads as content-at-reads
-use Rattle.fields.proofs.see.Reads as see-reads
-use Rattle.read.proofs.read_number.Reads as read-number-reads
 
 abbrev Inv-loop : tie.InvT-loop
 Inv-loop text at t₀ to w from n counts rows seen₀ i₀ t seen i = (i ≤ w) × (length t ≡ length t₀) × Rest text at (part from w) n (getD counts exception 0) rows to t₀ t i seen

@@ -1,17 +1,8 @@
 use native.Mathlib.Omega.{arith}
-use mathlib.Core.Path.{_∙_, sym}
-use Rattle.fields.proofs.Columns.{back, back-same}
 use Rattle.read.proofs.LineLaws.{kind-narrow, kind-contents, line-empty, line-elsewhere, line-long, line-fields, line-whole, line-right}
 use borrow.Author.Needs.{needs}
 use Rattle.read.proofs.read_line.Statement.{statement}
 use Rattle.read.proofs.read_line.Tie as tie
-use Rattle.read.proofs.read_line.Reads as reads
-use Rattle.read.proofs.read_line.Lts as lts
-use Rattle.book.proofs.kind_at.Reads as kind-at-reads
-use Rattle.fields.proofs.number_at.Reads as number-at-reads
-use Rattle.read.proofs.kind_for.Reads as kind-for-reads
-use Rattle.read.proofs.line_fault.Reads as line-fault-reads
-use Rattle.read.proofs.read_fields.Reads as read-fields-reads
 
 -- src/lib.rt:141:9
 returns : tie.Need-returns

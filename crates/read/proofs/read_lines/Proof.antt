@@ -1,26 +1,14 @@
 use mathlib.Core.Path.{ap}
 use Rattle.cursor.specs.declared.Cursor.{Cursor}
 use Prim.Native.Nat.{_-_}
-use mathlib.Core.Path.{_≡_, _∙_}
+use mathlib.Core.Path.{_∙_}
 use native.Mathlib.Omega.{arith}
 use borrow.Author.Needs.{needs}
 use lib.ListN.{length}
 use Rattle.book.specs.Kinds.{exception}
-use Rattle.read.proofs.Feeds.{line-in}
 use Rattle.read.proofs.Going.{Going, going-start, going-bad, going-kind, going-next, going-end, refused-is, longest-small, going-line, going-n, going-count, going-rows, going-room, going-to, row-small}
 use Rattle.read.proofs.read_lines.Statement.{statement}
 use Rattle.read.proofs.read_lines.Tie as tie
-use Rattle.read.proofs.read_lines.Reads as reads
-use Rattle.read.proofs.read_lines.Lts as lts
-use Rattle.cursor.proofs.Cursor.first.Reads as first-reads
-use Rattle.cursor.proofs.Cursor.past.Reads as past-reads
-use Rattle.read.proofs.empty.Reads as empty-reads
-use Rattle.read.proofs.ended.Reads as ended-reads
-use Rattle.read.proofs.line_length.Reads as line-length-reads
-use Rattle.read.proofs.read_line.Reads as read-line-reads
-use Rattle.read.proofs.refused.Reads as refused-reads
-use Rattle.read.proofs.row_width.Reads as row-width-reads
-use Rattle.read.proofs.stepped.Reads as stepped-reads
 
 abbrev Inv-loop : tie.InvT-loop
 Inv-loop text t₀ st₀ c₀ to₀ t st c to = Going text t₀ t st c to

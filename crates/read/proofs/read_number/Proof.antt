@@ -2,10 +2,6 @@ use Rattle.read.proofs.FieldLaws.{number-misspelt, number-outside, numb
 use borrow.Author.Needs.{needs}
 use Rattle.read.proofs.read_number.Statement.{statement}
 use Rattle.read.proofs.read_number.Tie as tie
-use Rattle.read.proofs.read_number.Reads as reads
-use Rattle.read.proofs.read_number.Lts as lts
-use Rattle.fields.proofs.check_number.Reads as check-number-reads
-use Rattle.fields.proofs.read_field.Reads as read-field-reads
 
 -- src/lib.rt:47:9
 read-field-requires : tie.Need-read-field-requires

@@ -2,9 +2,6 @@ use Rattle.read.proofs.States.{width-row, width-other}
 use borrow.Author.Needs.{needs}
 use Rattle.read.proofs.row_width.Statement.{statement}
 use Rattle.read.proofs.row_width.Tie as tie
-use Rattle.read.proofs.row_width.Reads as reads
-use Rattle.read.proofs.row_width.Lts as lts
-use Rattle.book.proofs.kind_at.Reads as kind-at-reads
 
 -- src/lib.rt:221:9
 kind-at-requires : tie.Need-kind-at-requires

@@ -2,9 +2,6 @@ use Rattle.read.proofs.States.{step-row, step-other}
 use borrow.Author.Needs.{needs}
 use Rattle.read.proofs.stepped.Statement.{statement}
 use Rattle.read.proofs.stepped.Tie as tie
-use Rattle.read.proofs.stepped.Reads as reads
-use Rattle.read.proofs.stepped.Lts as lts
-use Rattle.book.proofs.kind_at.Reads as kind-at-reads
 
 -- src/lib.rt:197:9
 kind-at-requires : tie.Need-kind-at-requires

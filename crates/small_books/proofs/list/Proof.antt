@@ -1,5 +1,4 @@
 use Prim.Native.Nat.{_-_, _≤_}
-use native.Mathlib.Omega.{arith}
 use borrow.Author.Needs.{needs}
 use Rattle.small_books.proofs.list.Statement.{statement}
 use Rattle.small_books.proofs.list.Tie as tie

@@ -4,10 +4,6 @@ use Rattle.listing.proofs.Reached.{reached}
 use borrow.Author.Needs.{needs}
 use Rattle.ways.proofs.go_on.Statement.{statement}
 use Rattle.ways.proofs.go_on.Tie as tie
-use Rattle.ways.proofs.go_on.Reads as reads
-use Rattle.ways.proofs.go_on.Lts as lts
-use Rattle.io.proofs.write_all.Reads as write-all-reads
-use Rattle.listing.proofs.go_on.Reads as go-on-reads
 
 -- src/main.rt:23:9
 go-on-requires : tie.Need-go-on-requires

@@ -4,11 +4,6 @@ use Rattle.listing.proofs.Reached.{begun-reached}
 use borrow.Author.Needs.{needs}
 use Rattle.ways.proofs.print.Statement.{statement}
 use Rattle.ways.proofs.print.Tie as tie
-use Rattle.ways.proofs.print.Reads as reads
-use Rattle.ways.proofs.print.Lts as lts
-use Rattle.io.proofs.write_all.Reads as write-all-reads
-use Rattle.listing.proofs.begin.Reads as begin-reads
-use Rattle.ways.proofs.rest.Reads as rest-reads
 
 -- src/main.rt:46:9
 begin-requires : tie.Need-begin-requires

@@ -3,9 +3,6 @@ use native.Mathlib.Omega.{arith}
 use Rattle.listing.specs.Parts.{Reaches}
 use Rattle.ways.proofs.rest.Statement.{statement}
 use Rattle.ways.proofs.rest.Tie as tie
-use Rattle.ways.proofs.rest.Reads as reads
-use Rattle.ways.proofs.rest.Lts as lts
-use Rattle.ways.proofs.go_on.Reads as go-on-reads
 
 abbrev Inv-loop : tie.InvT-loop
 Inv-loop words ranks s part₀ left₀ part left = Reaches s words ranks left part

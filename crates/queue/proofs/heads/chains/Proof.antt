@@ -4,14 +4,15 @@ use borrow.Author.Needs.{needs}
 use mathlib.Core.Path.{_≡_}
 use native.Mathlib.Omega.{arith}
 use lib.ListN.{length}
-use Prim.Native.Nat.{_-_, _≤_}
+use Prim.Native.Nat.{_≤_}
+use Rattle.queue.specs.Places.{wholePlace, indexLength}
 use Rattle.queue.specs.Chains.{ChainsFrom}
 use Rattle.queue.proofs.Chains.{chains-none, chains-turn, chains-done}
 use Rattle.queue.proofs.heads.chains.Statement.{statement}
 use Rattle.queue.proofs.heads.chains.Tie as tie
 
 abbrev Inv-loop : tie.InvT-loop
-Inv-loop words n index₀ whole₀ k₀ index whole k = (k ≤ n) × (length index ≡ 1154) × (whole ≡ 1 → ChainsFrom words n index k)
+Inv-loop words n index₀ whole₀ k₀ index whole k = (k ≤ n) × (length index ≡ indexLength) × (whole ≡ 1 → ChainsFrom words n index k)
 
 abbrev μ-loop : tie.MeasureT-loop
 μ-loop words n index₀ whole₀ k₀ index whole k = k
@@ -47,7 +48,7 @@ slice-write-index : tie.Need-slice-write-index Inv-loop μ-loop
 slice-write-index c = search needs
 
 same-length : tie.Need-same-length Inv-loop μ-loop
-same-length c = length-set (c .before .loop .index) 1153 (c .before .loop .whole) ∙ c .before .loop .inv .1 ∙ sym (c .before .before .before .before .before .before .before .before .pre .2)
+same-length c = length-set (c .before .loop .index) wholePlace (c .before .loop .whole) ∙ c .before .loop .inv .1 ∙ sym (c .before .before .before .before .before .before .before .before .pre .2)
 
 returns : tie.Need-returns Inv-loop μ-loop
 returns c = chains-done _ _ _ (c .before .loop .inv .1) _ _ (search needs) (c .before .before .before .before .before .before .before .before .pre .1) (c .before .loop .inv .2)

@@ -2,14 +2,15 @@ use borrow.Author.Needs.{needs}
 use mathlib.Core.Path.{_≡_}
 use lib.ListN.{length}
 use Prim.Native.Nat.{_-_, _≤_}
+use Rattle.queue.specs.Places.{nextPlace, indexLength}
 use Rattle.queue.proofs.heads.clear.Statement.{statement}
 use Rattle.queue.proofs.heads.clear.Tie as tie
 
 abbrev Inv-loop : tie.InvT-loop
-Inv-loop index₀ n k₀ index k = (k ≤ 897) × (length index ≡ 1154)
+Inv-loop index₀ n k₀ index k = (k ≤ nextPlace) × (length index ≡ indexLength)
 
 abbrev μ-loop : tie.MeasureT-loop
-μ-loop index₀ n k₀ index k = 897 - k
+μ-loop index₀ n k₀ index k = nextPlace - k
 
 loop-holds : tie.Need-loop-holds Inv-loop μ-loop
 loop-holds c = search needs

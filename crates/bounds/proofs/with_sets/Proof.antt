@@ -1,7 +1,7 @@
 use mathlib.Core.Path.{refl}
-use Rattle.walk.specs.Plans.{withSets}
-use Rattle.walk.proofs.with_sets.Statement.{statement}
-use Rattle.walk.proofs.with_sets.Tie as tie
+use Rattle.bounds.specs.Sound.{withSets}
+use Rattle.bounds.proofs.with_sets.Statement.{statement}
+use Rattle.bounds.proofs.with_sets.Tie as tie
 
 returns : tie.Need-returns
 unfolding withSets
