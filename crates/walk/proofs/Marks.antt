@@ -3,9 +3,9 @@
 use mathlib.Core.Path.{_≡_, refl, sym, _∙_}
 use mathlib.Core.Bool.{true, false, not}
 use mathlib.Core.List.{List}
-use mathlib.Core.Logic.{_⊎_, inl, inr, ⊎-elim}
-use Prim.Native.Nat.{ℕ, _+_, _<_, _≤_, max}
-use native.Mathlib.Nat.{le-refl}
+use mathlib.Core.Logic.{inl, inr, ⊎-elim}
+use Prim.Native.Nat.{ℕ, _+_, _-_, _<_, _≤_}
+use native.Mathlib.Nat.{le-refl, le-trans}
 use native.Mathlib.Omega.{arith}
 use lib.Bits.{bitAnd, bitOr}
 use lib.Dec.{eqb}
@@ -15,12 +15,12 @@ use Rattle.logic.specs.Tests.{Decides}
 use Rattle.logic.proofs.Decide.{clash, decided, reworded, holds-or-not, decides-eq, decides-not}
 use Rattle.sets.specs.Sets.{bitOf, Within, Apart, without}
 use Rattle.sets.proofs.Digits.{bit-or, bit-lt, bit-zero, lt-or-le}
-use Rattle.sets.proofs.Words.{minus-zero, zero-minus, and-none, none-and, none-off, or-r, sub-le}
+use Rattle.sets.proofs.Words.{minus-zero, zero-minus, minus-off, and-none, none-and, none-off, or-r, and-r, sub-or, sub-le}
 use Rattle.book.specs.Kinds.{sets}
 use Rattle.meaning.specs.Books.{Book}
 use Rattle.walk.specs.declared.Strike.{Strike}
-use Rattle.walk.specs.Marks.{Struck, shares, between, IsMarked, Marked, Stands, Next, NoneAt, RightMarks, ByMember, Outranked, WithRank}
-use Rattle.walk.proofs.Steps.{next-with}
+use Rattle.walk.specs.Marks.{Struck, shares, between, IsMarked, Marked, Stands, Next, NoneAt, RightMarks, Outranked, WithRank}
+use Rattle.walk.proofs.Steps.{outside, outside-lt, outside-parts, none-after, later, next-in}
 
 -- ---- one set
 module _ (s : Strike) (t : ℕ) where
@@ -43,24 +43,56 @@ module _ (s : Strike) (t : ℕ) where
       reworded (decides-not (decides-eq t (s .but))) (λ d. between (minus-zero (s .lo) t a) (minus-zero t (s .hi) b) d) (λ k. only-between z k .2)
 
 -- ---- the sets to look at
--- Where no member is asked for, a struck set has all of lo.
-has-lo : (s : Strike) (t : ℕ) → Struck s t → Stands s t
-has-lo s t (shares d) e = absurd (d (rw e (none-off t)))
-has-lo s t (between a b d) e = a
+-- Where no member is asked for, a struck set lies from lo to hi.
+in-range : (s : Strike) (t : ℕ) → Struck s t → Stands s t
+in-range s t (shares d) e = absurd (d (rw e (none-off t)))
+in-range s t (between a b d) e = (a, b)
 
 module _ (s : Strike) where
   -- Where a member is asked for, every set is looked at.
   pub next-any : (s .any ≡ 0 → ⊥) → (t : ℕ) → Next s t t
-  next-any n t = record { least = λ u h k. h; stands = λ e. absurd (n e) }
+  next-any n t = record { least = λ u h k. h; stands = λ l e. absurd (n e) }
 
-  pub first-lo : s .any ≡ 0 → Next s 0 (s .lo)
-  first-lo e = record { least = λ u h k. sub-le (s .lo) u (has-lo s u k e); stands = λ z k. le-refl _ }
+  module _ (e : s .any ≡ 0) where
+    -- No set lies from lo to hi.
+    pub first-none : (without (s .lo) (s .hi) ≡ 0 → ⊥) → Next s 0 sets
+    first-none n = record {
+      least = λ u h k. let x = in-range s u k e in absurd (n (zero-minus (s .lo) (s .hi) (λ i. le-trans (x .0 i) (x .1 i))));
+      stands = λ l. absurd (omega arith);
+    }
 
-  pub next-lo : s .any ≡ 0 → (t : ℕ) → Stands s t → Next s (t + 1) (bitOr (t + 1) (s .lo))
-  next-lo e t w = record {
-    least = λ u h k. next-with t u (s .lo) (w e) (has-lo s u k e) (omega arith);
-    stands = λ z. or-r (t + 1) (s .lo);
-  }
+    pub first-lo : without (s .lo) (s .hi) ≡ 0 → Next s 0 (s .lo)
+    first-lo z = record {
+      least = λ u h k. sub-le (s .lo) u (in-range s u k e .0);
+      stands = λ l y. (λ i. le-refl _, minus-zero (s .lo) (s .hi) z);
+    }
+
+    -- What is outside of hi.
+    abbrev gap : ℕ
+    gap = outside (s .hi)
+
+    off : Apart gap (s .hi)
+    off = minus-off (sets - 1) (s .hi)
+
+    module _ (t : ℕ) (w : Stands s t) where
+      -- What is within hi of the sum that is carried over the rest.
+      abbrev carried : ℕ
+      carried = bitAnd (bitOr t gap + 1) (s .hi)
+
+      pub next-none : sets ≤ bitOr t gap + 1 → Next s (t + 1) sets
+      next-none g = record {
+        least = λ u h k. none-after (s .hi) gap off t u (outside-lt (s .hi)) (w e .1) (in-range s u k e .1) g (omega arith);
+        stands = λ l. absurd (omega arith);
+      }
+
+      pub next-range : Next s (t + 1) (bitOr carried (s .lo))
+      next-range = record {
+        least = λ u h k. let x = in-range s u k e in next-in (s .hi) gap off t u (s .lo) (w e .0) (w e .1) (x .0) (x .1) (omega arith);
+        stands = λ l y. (or-r carried (s .lo), sub-or carried (s .lo) (s .hi) (and-r (bitOr t gap + 1) (s .hi)) (λ i. le-trans (w e .0 i) (w e .1 i)));
+      }
+
+      pub next-later : bitOr t gap + 1 < sets → t < bitOr carried (s .lo)
+      next-later h = later (s .hi) gap off t (s .lo) (w e .1) (outside-parts (s .hi) (bitOr t gap + 1) h)
 
 -- ---- all sets
 module _ (s : Strike) (m : List ℕ) where

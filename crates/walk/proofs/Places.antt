@@ -1,9 +1,9 @@
 -- The parts of a listing by the place of their set of exceptions: the part of the first j places and that of the next join, since the order of
 -- the sets is the order of pairs; all places together have every resolution.
-use mathlib.Core.Path.{_≡_, refl, sym, ap, _∙_}
+use mathlib.Core.Path.{_≡_}
 use mathlib.Core.List.{List, [], _++_}
 use mathlib.Core.Logic.{_⊎_, inl, inr, ⊎-elim}
-use Prim.Native.Nat.{ℕ, zero, suc, _^_, _<_, _≤_}
+use Prim.Native.Nat.{ℕ, zero, suc, _<_, _≤_}
 use native.Mathlib.Omega.{arith}
 use native.Mathlib.Nat.{lt-of-lt-of-le, le-refl}
 use lib.ListN.{length}
@@ -18,8 +18,7 @@ use Rattle.book.specs.Kinds.{sets}
 use Rattle.order.specs.Order.{setAt, Earlier, fewer, smaller}
 use Rattle.order.proofs.Places.{place-earlier}
 use Rattle.order.proofs.Rule.{order-rule}
-use Rattle.meaning.specs.Books.{Book, Lawful}
-use Rattle.meaning.specs.Resolutions.{Resolution}
+use Rattle.meaning.specs.Books.{Book}
 use Rattle.meaning.specs.Order as order
 use Rattle.meaning.specs.Order.{Before, Point, LawfulPoint, AllLater}
 use Rattle.meaning.proofs.Parts.{Part, part-none, part-join, part-all, part-there}

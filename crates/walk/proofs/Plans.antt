@@ -1,22 +1,21 @@
 -- Which sets of exceptions a resolution can have: one that no view has, that lies above a view's set, or that a view's set outranks, it cannot;
 -- and the views of an admissible set are resolutions.
-use mathlib.Core.Path.{_≡_, refl, sym, ap, _∙_}
+use mathlib.Core.Path.{_≡_, sym, _∙_}
 use mathlib.Core.Bool.{Bool, true, false, not}
 use mathlib.Core.List.{List}
-use mathlib.Core.Logic.{_⊎_, inl, inr, ⊎-elim, _↔_}
-use Prim.Native.Nat.{ℕ, suc, _+_, _^_, _<_, _≤_}
+use mathlib.Core.Logic.{⊎-elim}
+use Prim.Native.Nat.{ℕ, _+_, _^_, _<_, _≤_}
 use native.Mathlib.Nat.{le-refl, le-trans}
 use native.Mathlib.Omega.{arith}
-use lib.Bits.{bitAnd, bitOr}
 use lib.ListN.{length, getD}
 use borrow.Author.Tests.{not-true}
 use Rattle.logic.specs.Tests.{Decides}
 use Rattle.logic.proofs.Decide.{clash, holds-or-not, decides-eq}
 use Rattle.sets.specs.declared.Pair.{Pair}
-use Rattle.sets.specs.Sets.{bitOf, Within, Apart, without}
+use Rattle.sets.specs.Sets.{bitOf, Within, without}
 use Rattle.sets.specs.Pairs.{Sub}
 use Rattle.sets.proofs.Digits.{bit-lt}
-use Rattle.sets.proofs.Words.{within-contained, both-ways, off-sub, or-l, or-r, and-l, and-r, none-off, zero-minus}
+use Rattle.sets.proofs.Words.{within-contained, both-ways, off-sub, none-off, zero-minus}
 use Rattle.sets.proofs.Pairs.{sub-trans}
 use Rattle.book.specs.Kinds.{sets}
 use Rattle.masks.specs.declared.Bounds.{Bounds}
@@ -27,8 +26,7 @@ use Rattle.probe.specs.declared.Answer.{Answer}
 use Rattle.probe.specs.declared.Answer.the-variants.{Found, Nothing}
 use Rattle.probe.specs.Probes.{Probed}
 use Rattle.admissible.specs.Admissible.{Undominated, Admissible}
-use Rattle.meaning.specs.Books.{Book, Lawful}
-use Rattle.meaning.specs.Views.{View}
+use Rattle.meaning.specs.Books.{Book}
 use Rattle.meaning.specs.Resolutions.{Resolution}
 use Rattle.bridge.proofs.Levels.{cleared-of}
 use Rattle.walk.specs.declared.Strike.{Strike}
@@ -84,12 +82,6 @@ module _ (ws : List ℕ) (n : ℕ) (ranks : List ℕ) (root : Bounds) where
 
   pub wider-yes : (s r : Range) → NoView ws n ranks root (r .lo) (r .hi) → Wider ws n ranks root s r
   wider-yes s r f = record { still = λ g. f }
-
-  pub wider-same : (s : Range) → Wider ws n ranks root s s
-  wider-same s = record { still = λ g. g }
-
-  pub wider-more : (s r q : Range) → Wider ws n ranks root s r → Wider ws n ranks root r q → Wider ws n ranks root s q
-  wider-more s r q f g = record { still = λ h. g .still (f .still h) }
 
   pub marks-same : (m : List ℕ) → MarksRight ws n ranks root m m
   marks-same m = record { stay = λ b r w. w; kept = λ t x. x; full = λ f. f }

@@ -1,14 +1,14 @@
 -- The walk's page: the resolutions of each set follow those of the sets before it, and where the page is full the rest does not matter.
-use mathlib.Core.Path.{_≡_, refl, sym, ap, _∙_}
+use mathlib.Core.Path.{_≡_, refl, sym, _∙_}
 use mathlib.Core.Bool.{Bool, true, false, not}
-use mathlib.Core.List.{List, [], _∷_, _++_}
-use mathlib.Core.Logic.{_⊎_, inl, inr, ⊎-elim, _↔_}
-use Prim.Native.Nat.{ℕ, zero, suc, _+_, _^_, _<_, _≤_}
-use native.Mathlib.Nat.{le-refl, le-trans}
+use mathlib.Core.List.{List, [], _++_}
+use mathlib.Core.Logic.{_⊎_, inr, ⊎-elim, _↔_}
+use Prim.Native.Nat.{ℕ, suc, _+_, _^_, _<_, _≤_}
+use native.Mathlib.Nat.{le-refl}
 use native.Mathlib.Numerals.{add-one}
 use native.Mathlib.Omega.{arith}
 use borrow.Author.Tests.{not-true, not-false}
-use lib.ListN.{length, getD, replicate, getD-replicate, List·getD-eq-default, length-replicate}
+use lib.ListN.{length, replicate, getD-replicate, List·getD-eq-default, length-replicate}
 use Rattle.logic.specs.Tests.{Decides}
 use Rattle.logic.proofs.Decide.{clash, reworded, holds-or-not, decides-eq}
 use Rattle.logic.proofs.Members.{every-at}
@@ -30,7 +30,7 @@ use Rattle.few.specs.Few.{AllListed}
 use Rattle.meaning.specs.Books.{Book, Lawful}
 use Rattle.meaning.specs.Views.{View}
 use Rattle.meaning.specs.Order as meaning
-use Rattle.meaning.specs.Order.{Before, Point, LawfulPoint, Later, AllLater}
+use Rattle.meaning.specs.Order.{Point, LawfulPoint, Later, AllLater}
 use Rattle.meaning.specs.Twins.Verdicts.{view}
 use Rattle.meaning.proofs.Twins.{decides-view}
 use Rattle.meaning.proofs.Ordered.{before-irreflexive, before-transitive}

@@ -28,14 +28,14 @@ pub record Marked (before : List ℕ) (s : Strike) (from to : ℕ) (after : List
   pub same : length after ≡ length before
   pub all : (t : ℕ) → from ≤ t → t < to → t < length before → Struck s t → IsMarked after t
 
--- Where no member is asked for, t has all of lo.
+-- Where no member is asked for, t lies from lo to hi.
 abbrev pub Stands : Strike → ℕ → Type 0
-Stands s t = s .any ≡ 0 → Within (s .lo) t
+Stands s t = s .any ≡ 0 → Within (s .lo) t × Within t (s .hi)
 
 -- No struck set stands from `from` on and before r, where marking goes on.
 pub record Next (s : Strike) (from r : ℕ) : Type 0 where
   pub least : (t : ℕ) → from ≤ t → Struck s t → r ≤ t
-  pub stands : Stands s r
+  pub stands : r < sets → Stands s r
 
 -- No resolution has the set t.
 pub record NoneAt (b : Book) (t : ℕ) : Type 0 where

@@ -64,17 +64,21 @@ pub fn mark_one(marks: &mut Marks, s: Strike, t: usize) -> u64
     1
 }
 
-// The first set that may be one to mark: where no member is asked for, lo itself.
+// The first set that may be one to mark: where no member is asked for, lo itself, if there are sets from lo to hi.
 pub fn first_set(s: Strike) -> usize
     ensures { λ r. ⌜ Next s 0 r ⌝ }
 {
     if s.any != 0 {
         return 0;
     }
+    if s.lo ^ (s.lo & s.hi) != 0 {
+        return Book::SETS;
+    }
     s.lo as usize
 }
 
-// The next set after t that may be one to mark: where no member is asked for, the next one that has all of lo.
+// The next set after t that may be one to mark: where no member is asked for, the next one from lo to hi. There 1 is added to t with ones at
+// all places outside of hi, so that it is carried over them.
 pub fn next_set(s: Strike, t: usize) -> usize
     requires { ⌜ (t < sets) × Stands s t ⌝ }
     ensures { λ r. ⌜ (t < r) × Next s (t + 1) r ⌝ }
@@ -82,7 +86,13 @@ pub fn next_set(s: Strike, t: usize) -> usize
     if s.any != 0 {
         return t + 1;
     }
-    (t + 1) | (s.lo as usize)
+    let hi = s.hi as usize;
+    let all = Book::SETS - 1;
+    let u = (t | (all ^ (all & hi))) + 1;
+    if Book::SETS <= u {
+        return Book::SETS;
+    }
+    (u & hi) | (s.lo as usize)
 }
 
 // Marks every set that is one to mark. The result is how many sets are newly marked.
@@ -181,40 +191,140 @@ pub struct Range {
     pub hi: u64,
 }
 
-// The range with and without the exception at place e too, if propagation still shows that it has no view.
-pub fn wider(
+// The range s where the exception at place e is decided as t has it: taken, or not taken.
+pub fn fixed(s: Range, t: u64, e: u64) -> Range
+    requires { ⌜ e < 64 ⌝ }
+{
+    let bit = 1 << e;
+    let taken = t & bit;
+    Range {
+        lo: s.lo | taken,
+        hi: (s.hi ^ (s.hi & bit)) | taken,
+    }
+}
+
+// The bounds b where the exception at place e is decided as t has it.
+pub fn decided(b: Bounds, t: u64, e: u64) -> Bounds
+    requires { ⌜ e < 64 ⌝ }
+{
+    let m = bounds::one(bounds::TAKEN, e);
+    if t & m.taken == 0 {
+        return bounds::out(b, m);
+    }
+    bounds::into(b, m)
+}
+
+// From bounds at rest, bounds at rest after that decision.
+pub fn settled(
+    words: &[u64],
+    n: usize,
+    ranks: &[u64],
+    index: &Index,
+    rest: Rest,
+    t: u64,
+    e: u64,
+) -> Rest
+    requires { ⌜ (n * 8 ≤ length (now words)) × (length (now ranks) ≤ 64) × (e < 64) × Chains (now words) n (now index) ⌝ }
+{
+    let b = decided(rest.bounds, t, e);
+    if bounds::unchanged(rest.bounds, b) {
+        return rest;
+    }
+    let w = index::among(index, rest.live, rest.bounds, b);
+    queue::propagate(words, n, ranks, index, w, b)
+}
+
+// The exceptions that the bounds decide otherwise than t.
+pub fn contrary(b: Bounds, t: u64) -> u64 {
+    (b.lo.taken ^ (b.lo.taken & t)) | (t ^ (t & b.hi.taken))
+}
+
+// A decision that is in conflict with those at the places before `before`. The place is 64 if there is none.
+pub struct Conflict {
+    pub place: u64,
+    pub before: usize,
+}
+
+// The first conflict of t's decisions at the places before `end`, made one after the other from bounds at rest.
+pub fn first_conflict(
+    words: &[u64],
+    n: usize,
+    ranks: &[u64],
+    index: &Index,
+    rest: Rest,
+    t: u64,
+    end: usize,
+) -> Conflict
+    requires { ⌜ (n * 8 ≤ length (now words)) × (length (now ranks) ≤ 64) × (end ≤ 64) × Chains (now words) n (now index) ⌝ }
+    ensures { λ r. ⌜ r .before ≤ end ⌝ }
+{
+    let mut r = rest;
+    let mut e = 0;
+    while e < end {
+        let x = contrary(r.bounds, t);
+        if x != 0 {
+            let place = waiting::low(x);
+            return Conflict { place, before: e };
+        }
+        let place = e as u64;
+        r = settled(words, n, ranks, index, r, t, place);
+        if !sets::within(r.bounds.lo, r.bounds.hi) {
+            return Conflict { place, before: e };
+        }
+        e += 1;
+    }
+    let place = waiting::low(contrary(r.bounds, t));
+    Conflict { place, before: e }
+}
+
+// A range around t from a core: a few of t's decisions that are in conflict already. Each round adds one to the core: one that is in
+// conflict with the core and the decisions at the first places. No contract depends on this: a wrong core costs time, not truth.
+pub fn core_around(
     words: &[u64],
     n: usize,
     ranks: &[u64],
     index: &Index,
     root: Bounds,
-    s: Range,
-    e: u64,
+    t: u64,
 ) -> Range
-    requires { ⌜ (n * 8 ≤ length (now words)) × (length (now ranks) ≤ 64) × (e < 64) × Chains (now words) n (now index) ⌝ }
-    ensures { λ r. ⌜ Wider (now (words .entry)) n (now (ranks .entry)) root s r ⌝ }
+    requires { ⌜ (n * 8 ≤ length (now words)) × (length (now ranks) ≤ 64) × Chains (now words) n (now index) ⌝ }
 {
-    let bit = 1 << e;
-    let lo = s.lo ^ (s.lo & bit);
-    let hi = s.hi | bit;
-    if refuted(words, n, ranks, index, root, lo, hi) {
-        return Range { lo, hi };
+    let mut s = Range {
+        lo: 0,
+        hi: 0xffff_ffff_ffff_ffff,
+    };
+    let mut rest = Rest {
+        bounds: root,
+        live: waiting::everything(),
+    };
+    let mut end = ranks.len();
+    let mut k = 0;
+    while k < ranks.len() {
+        let c = first_conflict(words, n, ranks, index, rest, t, end);
+        if 64 <= c.place {
+            return Range { lo: t, hi: t };
+        }
+        s = fixed(s, t, c.place);
+        rest = settled(words, n, ranks, index, rest, t, c.place);
+        if !sets::within(rest.bounds.lo, rest.bounds.hi) {
+            return s;
+        }
+        end = c.before;
+        k += 1;
     }
     s
 }
 
-// A range of sets without a view around one that has none.
+// A range of sets without a view around one that has none: that from a core, if propagation shows that it has no view.
 pub fn widened(words: &[u64], n: usize, ranks: &[u64], index: &Index, root: Bounds, t: u64) -> Range
     requires { ⌜ (n * 8 ≤ length (now words)) × (length (now ranks) ≤ 64) × Chains (now words) n (now index) ⌝ }
     ensures { λ r. ⌜ Wider (now (words .entry)) n (now (ranks .entry)) root (record { lo = t; hi = t }) r ⌝ }
 {
-    let mut s = Range { lo: t, hi: t };
-    let mut e = 0;
-    while e < ranks.len() {
-        s = wider(words, n, ranks, index, root, s, e as u64);
-        e += 1;
+    let s = core_around(words, n, ranks, index, root, t);
+    if refuted(words, n, ranks, index, root, s.lo, s.hi) {
+        return s;
     }
-    s
+    Range { lo: t, hi: t }
 }
 
 // Whether a set was admitted, how much may still be spent on marking sets without a view, and where it was admitted bounds at rest for the
@@ -239,10 +349,13 @@ pub fn refused(root: Bounds, credit: u64) -> Admission
     }
 }
 
-// How many looks it costs to widen a range.
-const WIDENING: u64 = 12;
+// How many looks may be spent on widening ranges of sets that have no view: at first, and at most at any time.
+const CREDIT: u64 = 64;
 
-// Marks a range of sets around t, which has no view, if there is credit for it: widening costs twelve looks, and each set newly marked
+// How many looks a widening takes of the credit. It costs fewer, three to thirteen: ranges have to be well worth it to keep the credit up.
+const WIDENING: u64 = 16;
+
+// Marks a range of sets around t, which has no view, if there is credit for it: widening takes sixteen looks of it, and each set newly marked
 // earns one. The result is the credit that is left.
 pub fn mark_around(
     words: &[u64],
@@ -270,7 +383,11 @@ pub fn mark_around(
             any: 0,
         },
     );
-    std::num::wrapping_add_u64(credit - WIDENING, earned)
+    let left = std::num::wrapping_add_u64(credit - WIDENING, earned);
+    if CREDIT < left {
+        return CREDIT;
+    }
+    left
 }
 
 // Whether a resolution can have the set t, of which a view may be found within the bounds at rest. A view that is found marks the sets that it
@@ -444,9 +561,6 @@ pub fn place_of(table: &Table, t: u64) -> usize
     }
     j
 }
-
-// How many looks may be spent at first on widening ranges of sets that have no view.
-const CREDIT: u64 = 64;
 
 // The page of the first resolutions of a book, whose views are within root.
 pub fn first_page(

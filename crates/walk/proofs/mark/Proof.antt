@@ -1,4 +1,4 @@
-use Prim.Native.Nat.{_-_}
+use Prim.Native.Nat.{_-_, _<_}
 use native.Mathlib.Omega.{arith}
 use borrow.Author.Needs.{needs}
 use Rattle.book.specs.Kinds.{sets}
@@ -8,7 +8,7 @@ use Rattle.walk.proofs.mark.Statement.{statement}
 use Rattle.walk.proofs.mark.Tie as tie
 
 abbrev Inv-loop : tie.InvT-loop
-Inv-loop marks₀ s count₀ t₀ marks count t = Marked marks₀ s 0 t marks × Stands s t
+Inv-loop marks₀ s count₀ t₀ marks count t = Marked marks₀ s 0 t marks × (t < sets → Stands s t)
 
 abbrev μ-loop : tie.MeasureT-loop
 μ-loop marks₀ s count₀ t₀ marks count t = sets - t
@@ -26,7 +26,7 @@ wrapping-add-u64-requires : tie.Need-wrapping-add-u64-requires Inv-loop μ-loop
 wrapping-add-u64-requires c κs = search needs
 
 next-set-requires : tie.Need-next-set-requires Inv-loop μ-loop
-next-set-requires c κs = (search needs, c .before .before .before .before .loop .inv .1)
+next-set-requires c κs = (search needs, c .before .before .before .before .loop .inv .1 (search needs))
 
 loop-less : tie.Need-loop-less Inv-loop μ-loop
 loop-less c = omega (arith, c .next-set .ensures .0)

@@ -16,8 +16,12 @@ wrapping-add-u64-requires : tie.Need-wrapping-add-u64-requires
 wrapping-add-u64-requires c κs = search needs
 
 returns-2 : tie.Need-returns-2
-returns-2 c = range-marked _ _ _ _ _ _ _ _ _ (c .before .before .before .widened .ensures) (c .before .mark .ensures)
+returns-2 c = range-marked _ _ _ _ _ _ _ _ _ (c .before .before .before .before .widened .ensures) (c .before .before .mark .ensures)
+
+returns-3 : tie.Need-returns-3
+returns-3 c = range-marked _ _ _ _ _ _ _ _ _ (c .before .before .before .before .widened .ensures) (c .before .before .mark .ensures)
 
 pub mark-around-spec : {M : Type 1} → statement M
 mark-around-spec =
-    tie.close (tie.spec returns widened-requires mark-requires wrapping-add-u64-requires returns-2)
+    tie.close
+    (tie.spec returns widened-requires mark-requires wrapping-add-u64-requires returns-2 returns-3)

@@ -1,5 +1,6 @@
-use Rattle.walk.proofs.Marks.{next-any, next-lo}
-use Rattle.walk.proofs.Steps.{set-after}
+use native.Mathlib.Omega.{arith}
+use Rattle.walk.proofs.Marks.{next-any, next-none, next-range, next-later}
+use Rattle.walk.proofs.Steps.{fill-word}
 use borrow.Author.Needs.{needs}
 use Rattle.walk.proofs.next_set.Statement.{statement}
 use Rattle.walk.proofs.next_set.Tie as tie
@@ -10,11 +11,17 @@ add-result c = search needs
 returns : tie.Need-returns
 returns c = (search needs, next-any _ (search needs) _)
 
-add-result-2 : tie.Need-add-result-2
-add-result-2 c = search needs
+sub-all : tie.Need-sub-all
+sub-all c = search needs
+
+add-u : tie.Need-add-u
+add-u c = record { fits = fill-word (c .before .before .args .t) (c .before .before .args .s .hi) (c .before .before .pre .0) }
 
 returns-2 : tie.Need-returns-2
-returns-2 c = (set-after _ _, next-lo _ (search needs) _ (search needs))
+returns-2 c = (search needs, next-none _ (search needs) _ (c .before .before .before .pre .1) (search needs))
+
+returns-3 : tie.Need-returns-3
+returns-3 c = (next-later (c .before .before .before .args .s) (search needs) _ (c .before .before .before .pre .1) (omega arith), next-range (c .before .before .before .args .s) (search needs) _ (c .before .before .before .pre .1))
 
 pub next-set-spec : {M : Type 1} → statement M
-next-set-spec = tie.close (tie.spec add-result returns add-result-2 returns-2)
+next-set-spec = tie.close (tie.spec add-result returns sub-all add-u returns-2 returns-3)
