@@ -8,9 +8,11 @@ use lib.Seq.{sets}
 use Rattle.logic.proofs.Members.{among-left, among-right, among-either}
 use Rattle.sets.specs.declared.Pair.{Pair}
 use Rattle.sets.specs.Pairs.{flat}
+use Rattle.sets.proofs.Digits.{lt-or-le}
 use Rattle.sets.proofs.Pairs.{off-sym}
 use Rattle.masks.specs.declared.Bounds.{Bounds}
-use Rattle.bounds.specs.Sound.{intoOf, outOf}
+use Rattle.masks.specs.Views.{MaskView}
+use Rattle.bounds.specs.Sound.{In, intoOf, outOf}
 use Rattle.bounds.proofs.Steps.{in-into, in-out}
 use Rattle.queue.specs.declared.waiting.Waiting.{Waiting}
 use Rattle.probe.specs.declared.Node.{Node}
@@ -22,17 +24,21 @@ use Rattle.page.proofs.Pages.{page-none, page-one, page-append}
 use Rattle.few.specs.Few.{most, Stock, Gathered}
 
 -- The store keeps its length.
-pub store-again : (l l′ : ℕ) → most * 3 ≤ l → l′ ≡ l → most * 3 ≤ l′
-store-again l l′ h e = rw e h
+pub store-again : (cap l l′ : ℕ) → cap * 3 ≤ l → l′ ≡ l → cap * 3 ≤ l′
+store-again cap l l′ h e = rw e h
 
-module _ (ws : List ℕ) (n : ℕ) (ranks : List ℕ) (b : Bounds) (k : ℕ) (o : List ℕ) where
+-- A store for the most views has room for fewer.
+pub store-for : (cap l l′ : ℕ) → cap ≤ most → most * 3 ≤ l → l′ ≡ l → cap * 3 ≤ l′
+store-for cap l l′ g h e = omega arith
+
+module _ (ws : List ℕ) (n : ℕ) (ranks : List ℕ) (b : Bounds) (cap k : ℕ) (o : List ℕ) where
   -- A full store promises nothing.
-  pub gathered-full : most ≤ k → k ≤ most → Gathered ws n ranks b k o o k
-  gathered-full h l = record { few = l; whole = λ e. absurd (omega arith) }
+  pub gathered-full : cap ≤ k → k ≤ cap → Gathered ws n ranks b cap k o o k
+  gathered-full h l = record { few = l; some = λ e. absurd (omega arith); whole = λ e. absurd (omega arith) }
 
   module _ (x : Node) (w : Opened ws n ranks b x) where
-    pub gathered-view : k < most → (v : Pair) → x ≡ View v → (o′ : List ℕ) → o′ ≡ sets o (k * 3) (flat (v ∷ [])) → Gathered ws n ranks b k o o′ (k + 1)
-    gathered-view h v e o′ f = record { few = omega arith; whole = λ l. (v ∷ [], page-one most k o o′ v h f, stock) }
+    pub gathered-view : k < cap → (v : Pair) → x ≡ View v → (o′ : List ℕ) → o′ ≡ sets o (k * 3) (flat (v ∷ [])) → Gathered ws n ranks b cap k o o′ (k + 1)
+    gathered-view h v e o′ f = record { few = omega arith; some = λ l. (v, w .view v e .0, w .view v e .1); whole = λ l. (v ∷ [], page-one cap k o o′ v h f, stock) }
       where
         stock : Stock ws n ranks b (v ∷ [])
         stock = record {
@@ -40,12 +46,12 @@ module _ (ws : List ℕ) (n : ℕ) (ranks : List ℕ) (b : Bounds) (k : ℕ) (o 
           all = λ u y i. inl (w .alone v e u y i);
         }
 
-    pub gathered-empty : k ≤ most → x ≡ Empty → Gathered ws n ranks b k o o k
-    gathered-empty h e = record { few = h; whole = λ l. ([], page-none most k o, record { only = λ v m. absurd m; all = λ v y i. w .empty e v y i }) }
+    pub gathered-empty : k ≤ cap → x ≡ Empty → Gathered ws n ranks b cap k o o k
+    gathered-empty h e = record { few = h; some = λ l. absurd (omega arith); whole = λ l. ([], page-none cap k o, record { only = λ v m. absurd m; all = λ v y i. w .empty e v y i }) }
 
     pub gathered-both : (c : Bounds) (m : Pair) (live : Waiting) → x ≡ Open c m live → (p p′ : Bounds) → p ≡ outOf c m → p′ ≡ intoOf c m
-        → (j r : ℕ) (o′ o″ : List ℕ) → Gathered ws n ranks p k o o′ j → Gathered ws n ranks p′ j o′ o″ r → Gathered ws n ranks b k o o″ r
-    gathered-both c m live e p p′ ep ep′ j r o′ o″ g g′ = record { few = g′ .few; whole = whole }
+        → (j r : ℕ) (o′ o″ : List ℕ) → Gathered ws n ranks p cap k o o′ j → Gathered ws n ranks p′ cap j o′ o″ r → Gathered ws n ranks b cap k o o″ r
+    gathered-both c m live e p p′ ep ep′ j r o′ o″ g g′ = record { few = g′ .few; some = some; whole = whole }
       where
         both : (ys zs : List Pair) → Stock ws n ranks p ys → Stock ws n ranks p′ zs → Stock ws n ranks b (ys ++ zs)
         both ys zs s t = record {
@@ -56,8 +62,13 @@ module _ (ws : List ℕ) (n : ℕ) (ranks : List ℕ) (b : Bounds) (k : ℕ) (o 
               ⊎-elim (λ a. among-right v ys zs (t .all v y (rw ep′ (in-into a z)))) (λ a. among-left v ys zs (s .all v y (rw ep (in-out (off-sym a) z)))) (h .atom v);
         }
 
-        whole : r < most → (ys : List Pair) × Page most k o o″ ys r × Stock ws n ranks b ys
+        some : k < r → (v : Pair) × MaskView ws n ranks v × In b v
+        some h =
+            ⊎-elim (λ l. let f = g .some l in (f .0, f .1, from-out w c m live e (rw ep at (f .2))))
+            (λ l. let f = g′ .some (omega arith) in (f .0, f .1, from-into w c m live e (rw ep′ at (f .2)))) (lt-or-le k j)
+
+        whole : r < cap → (ys : List Pair) × Page cap k o o″ ys r × Stock ws n ranks b ys
         whole h =
             let z = g′ .whole h in
             let y = g .whole (omega (arith, z .1 .count)) in
-            (y .0 ++ z .0, page-append most k j r o o′ o″ (y .0) (z .0) (y .1) (z .1), both (y .0) (z .0) (y .2) (z .2))
+            (y .0 ++ z .0, page-append cap k j r o o′ o″ (y .0) (z .0) (y .1) (z .1), both (y .0) (z .0) (y .2) (z .2))

@@ -1,9 +1,8 @@
 -- The page of few views: the store, which is not full, has all views within the bounds, and its pairs are put on the page in order.
 use mathlib.Core.Path.{_≡_, refl, sym, ap, _∙_}
-use mathlib.Core.Bool.{Bool, false}
 use mathlib.Core.List.{List, [], _∷_}
-use mathlib.Core.Logic.{_⊎_, inl, inr, ⊎-elim}
-use Prim.Native.Nat.{ℕ, zero, suc, _+_, _*_, _<_, _≤_}
+use mathlib.Core.Logic.{inl, inr, ⊎-elim}
+use Prim.Native.Nat.{ℕ, zero, suc, _+_, _-_, _*_, _<_, _≤_}
 use native.Mathlib.Nat.{zero-add}
 use native.Mathlib.Omega.{arith}
 use lib.ListN.{length, take}
@@ -12,12 +11,12 @@ use Rattle.logic.specs.Lists.{Among}
 use Rattle.sets.specs.declared.Pair.{Pair}
 use Rattle.sets.specs.Pairs.{flat}
 use Rattle.masks.specs.declared.Bounds.{Bounds}
+use Rattle.masks.specs.Views.{MaskView}
+use Rattle.bounds.specs.Sound.{In}
 use Rattle.page.specs.declared.Task.{Task}
-use Rattle.page.specs.Pages.{pairAt, pairsIn, Page, Listed}
+use Rattle.page.specs.Pages.{pairAt, pairsIn, Page}
 use Rattle.page.proofs.Pages.{flat-length, pairs-front}
-use Rattle.few.specs.declared.Few.{Few}
-use Rattle.few.specs.declared.Few.the-variants.{All, Many}
-use Rattle.few.specs.Few.{most, Stock, Gathered, PutSorted, AllListed, FewListed}
+use Rattle.few.specs.Few.{Stock, Gathered, Collected, PutSorted, AllListed}
 
 -- ---- the pairs of a store
 pairs-among : (l : List ℕ) (k i j : ℕ) → i < k → Among (pairAt l (j + i)) (pairsIn l j k)
@@ -43,61 +42,38 @@ take-whole [] = refl
 take-whole (x ∷ xs) = ap (λ (l : List _). x ∷ l) (take-whole xs)
 
 -- A store that is not full has the pairs that were put into it.
-stored : (o o′ : List ℕ) (ys : List Pair) (k : ℕ) → most * 3 ≤ length o → k < most → Page most 0 o o′ ys k → pairsIn o′ 0 k ≡ ys
-stored o o′ ys k h l p =
-    let n : length (take most ys) ≡ k = omega (arith, p .count) in
-    let t : take most ys ≡ ys = take-short most ys (omega arith) in
+stored : (cap : ℕ) (o o′ : List ℕ) (ys : List Pair) (k : ℕ) → cap * 3 ≤ length o → k < cap → Page cap 0 o o′ ys k → pairsIn o′ 0 k ≡ ys
+stored cap o o′ ys k h l p =
+    let z : cap - 0 ≡ cap = omega arith in
+    let n : length (take cap ys) ≡ k = let c = rw z at (p .count) in omega arith in
+    let t : take cap ys ≡ ys = take-short cap ys (omega arith) in
     let m : length ys ≡ k = ap length (sym t) ∙ n in
-    let f : o′ ≡ sets o 0 (flat ys) = p .filled ∙ ap (λ (zs : List Pair). sets o 0 (flat zs)) t in
+    let f : o′ ≡ sets o 0 (flat ys) = rw z at (p .filled) ∙ ap (λ (zs : List Pair). sets o 0 (flat zs)) t in
     let g = sets-eq (flat ys) o 0 (omega (arith, flat-length ys)) in
     rw (f, g) (pairs-front k ys _ (omega arith) ∙ ap (λ (j : ℕ). take j ys) (sym m) ∙ take-whole ys)
 
+pub collected-is : (ws : List ℕ) (n : ℕ) (ranks : List ℕ) (b : Bounds) (cap : ℕ) (s s′ : List ℕ) (r : ℕ) → cap * 3 ≤ length s → Gathered ws n ranks b cap 0 s s′ r → Collected ws n ranks b cap s′ r
+collected-is ws n ranks b cap s s′ r h g = record {
+  few = g .few;
+  some = g .some;
+  whole = λ l. let w = g .whole l in rw (stored cap s s′ (w .0) r h l (w .1)) (w .2);
+}
+
 -- ---- the page
-module _ (ws ranks : List ℕ) (q : Task) (b : Bounds) (at : ℕ) (o : List ℕ) where
-  pub few-many : FewListed ws ranks q b at o o Many
-  few-many = record { all = λ x e. absurd (let z : _≡_ {A = ℕ} 0 1 = cc in omega arith); many = λ e. refl }
-
-  pub few-all : (o′ s s′ : List ℕ) (k : ℕ) → most * 3 ≤ length s → k < most → Gathered ws (q .rules) ranks b 0 s s′ k → (r : ℕ) → PutSorted s′ k (q .room) at o o′ r → FewListed ws ranks q b at o o′ (All r)
-  few-all o′ s s′ k h l g r p = record {
-    all = λ x e. let f : r ≡ x = cc in rw (← f) listed;
-    many = λ e. absurd (let z : _≡_ {A = ℕ} 0 1 = cc in omega arith);
-  }
-    where
-      ys : List Pair
-      ys = g .whole l .0
-
-      stock : Stock ws (q .rules) ranks b ys
-      stock = g .whole l .2
-
-      is : pairsIn s′ 0 k ≡ ys
-      is = stored s s′ ys k h l (g .whole l .1)
-
-      in-stock : (i : ℕ) → i < k → Among (pairAt s′ i) ys
-      in-stock i m = rw (zero-add i, is) at (pairs-among s′ k i 0 m)
-
-      of-stock : (v : Pair) → Among v ys → (i : ℕ) × (i < k) × (v ≡ pairAt s′ i)
-      of-stock v m = let d = pairs-at s′ k 0 v (rw is m) in (d .0, d .1, rw (zero-add (d .0)) at (d .2))
-
-      listed : AllListed ws ranks q b at o o′ r
-      listed = record {
-        fits = p .fits;
-        page = λ u zs a t. p .page
-            (record {
-              taken = λ i j m n. u .same (pairAt s′ i) (pairAt s′ j) (stock .only _ (in-stock i m) .1) (stock .only _ (in-stock j n) .1);
-              coherent = λ i m. stock .only _ (in-stock i m) .0 .coherent;
-            }) zs
-            (record {
-              ascending = a;
-              all = λ i m. let d = stock .only _ (in-stock i m) in t .all _ (d .0) (d .1);
-              only = λ z m. let d = t .only z m in of-stock z (stock .all z (d .0) (d .1));
-            });
-      }
-
--- ---- either page
-pub either-few : (ws ranks : List ℕ) (q : Task) (t : ℕ) (b : Bounds) (after : Bool) (at : ℕ) (o o′ : List ℕ) (r : ℕ) (x : Few)
-    → after ≡ false → FewListed ws ranks q b at o o′ x → x ≡ All r → Listed ws ranks q t b after at o o′ r ⊎ ((after ≡ false) × AllListed ws ranks q b at o o′ r)
-either-few ws ranks q t b after at o o′ r x f w e = inr (f, w .all r e)
-
-pub either-many : (ws ranks : List ℕ) (q : Task) (t : ℕ) (b : Bounds) (after : Bool) (at : ℕ) (o o₁ o′ : List ℕ) (r : ℕ) (x : Few)
-    → FewListed ws ranks q b at o o₁ x → x ≡ Many → Listed ws ranks q t b after at o₁ o′ r → Listed ws ranks q t b after at o o′ r ⊎ ((after ≡ false) × AllListed ws ranks q b at o o′ r)
-either-many ws ranks q t b after at o o₁ o′ r x w e l = inl (rw (w .many e) at l)
+pub store-listed : (ws ranks : List ℕ) (q : Task) (b : Bounds) (store : List ℕ) (k at : ℕ) (o o′ : List ℕ) (r : ℕ) → PutSorted store k (q .room) at o o′ r → AllListed ws ranks q b store k at o o′ r
+store-listed ws ranks q b store k at o o′ r p = record {
+  fits = p .fits;
+  page = λ s u zs a t. p .page
+      (record {
+        taken = λ i j m n. u .same (pairAt store i) (pairAt store j) (here s i m .1) (here s j n .1);
+        coherent = λ i m. here s i m .0 .coherent;
+      }) zs
+      (record {
+        ascending = a;
+        all = λ i m. let d = here s i m in t .all _ (d .0) (d .1);
+        only = λ z m. let d = t .only z m in let e = pairs-at store k 0 z (s .all z (d .0) (d .1)) in (e .0, e .1, rw (zero-add (e .0)) at (e .2));
+      });
+}
+  where
+    here : Stock ws (q .rules) ranks b (pairsIn store 0 k) → (i : ℕ) → i < k → MaskView ws (q .rules) ranks (pairAt store i) × In b (pairAt store i)
+    here s i m = s .only (pairAt store i) (rw (zero-add i) at (pairs-among store k i 0 m))

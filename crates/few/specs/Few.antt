@@ -12,9 +12,7 @@ use Rattle.masks.specs.Views.{MaskView}
 use Rattle.bounds.specs.Sound.{In}
 use Rattle.meaning.specs.Order.{Before, Ascending}
 use Rattle.page.specs.declared.Task.{Task}
-use Rattle.page.specs.Pages.{pairAt, Page}
-use Rattle.few.specs.declared.Few.{Few}
-use Rattle.few.specs.declared.Few.the-variants.{All, Many}
+use Rattle.page.specs.Pages.{pairAt, pairsIn, Page}
 
 -- How many views the store has room for.
 abbrev pub most : ℕ
@@ -26,10 +24,17 @@ pub record Stock (ws : List ℕ) (n : ℕ) (ranks : List ℕ) (b : Bounds) (ys :
   pub only : (v : Pair) → Among v ys → MaskView ws n ranks v × In b v
   pub all : (v : Pair) → MaskView ws n ranks v → In b v → Among v ys
 
--- Where the store is not full, it has all views within the bounds from place k on.
-pub record Gathered (ws : List ℕ) (n : ℕ) (ranks : List ℕ) (b : Bounds) (k : ℕ) (o o′ : List ℕ) (r : ℕ) : Type 0 where
-  pub few : r ≤ most
-  pub whole : r < most → (ys : List Pair) × Page most k o o′ ys r × Stock ws n ranks b ys
+-- A view is found where the place moves. Where the store is not full up to `cap`, it has all views within the bounds from place k on.
+pub record Gathered (ws : List ℕ) (n : ℕ) (ranks : List ℕ) (b : Bounds) (cap k : ℕ) (o o′ : List ℕ) (r : ℕ) : Type 0 where
+  pub few : r ≤ cap
+  pub some : k < r → (v : Pair) × MaskView ws n ranks v × In b v
+  pub whole : r < cap → (ys : List Pair) × Page cap k o o′ ys r × Stock ws n ranks b ys
+
+-- The same of a store that is filled from its start: the first r pairs are the views, if there are fewer than `cap`.
+pub record Collected (ws : List ℕ) (n : ℕ) (ranks : List ℕ) (b : Bounds) (cap : ℕ) (store : List ℕ) (r : ℕ) : Type 0 where
+  pub few : r ≤ cap
+  pub some : 0 < r → (v : Pair) × MaskView ws n ranks v × In b v
+  pub whole : r < cap → Stock ws n ranks b (pairsIn store 0 r)
 
 -- ---- in order
 -- Whether a comes before b. If both take the same exceptions and are coherent and it is not so, they are the same or b comes before a.
@@ -82,12 +87,7 @@ pub record PutSorted (store : List ℕ) (k room at : ℕ) (o o′ : List ℕ) (r
 pub record OneSet (b : Bounds) : Type 0 where
   pub same : (v w : Pair) → In b v → In b w → v .taken ≡ w .taken
 
--- The page of all views within the bounds in order, if they take the same exceptions.
-pub record AllListed (ws ranks : List ℕ) (q : Task) (b : Bounds) (at : ℕ) (o o′ : List ℕ) (r : ℕ) : Type 0 where
+-- The page of the first k pairs of the store in order, if these are the views within the bounds and take the same exceptions.
+pub record AllListed (ws ranks : List ℕ) (q : Task) (b : Bounds) (store : List ℕ) (k at : ℕ) (o o′ : List ℕ) (r : ℕ) : Type 0 where
   pub fits : r ≤ q .room
-  pub page : OneSet b → (zs : List Pair) → Ascending zs → Stock ws (q .rules) ranks b zs → Page (q .room) at o o′ zs r
-
--- Where the views are few, that page; else nothing is changed.
-pub record FewListed (ws ranks : List ℕ) (q : Task) (b : Bounds) (at : ℕ) (o o′ : List ℕ) (r : Few) : Type 0 where
-  pub all : (x : ℕ) → r ≡ All x → AllListed ws ranks q b at o o′ x
-  pub many : r ≡ Many → o′ ≡ o
+  pub page : Stock ws (q .rules) ranks b (pairsIn store 0 k) → OneSet b → (zs : List Pair) → Ascending zs → Stock ws (q .rules) ranks b zs → Page (q .room) at o o′ zs r

@@ -6,7 +6,7 @@ ghost use Prim.Native.Nat.{_+_, _*_, _<_, _≤_};
 ghost use lib.ListN.{length};
 ghost use Rattle.queue.specs.Chains.{Chains};
 ghost use Rattle.page.specs.Pages.{pairAt, Fits, Listed};
-ghost use Rattle.few.specs.Few.{most, Gathered, Sooner, Follows, Leads, FirstOf, PutSorted, FewListed, AllListed};
+ghost use Rattle.few.specs.Few.{most, Gathered, Collected, Sooner, Follows, Leads, FirstOf, PutSorted, AllListed};
 use masks::Bounds;
 use page::Task;
 use probe::Node;
@@ -20,13 +20,24 @@ use sets::Pair;
 // How many views the store has room for. Where it is full there may be more.
 pub const MOST: usize = 32;
 
-// The page of all views within the bounds, or that they are many.
-pub enum Few {
-    All(usize),
-    Many,
+// Room for fewer pairs than that is not worth gathering.
+const SHORT: usize = 16;
+
+// How many views to gather at most for a page with room for so many pairs. One is enough to know that there is any: where few are asked for, or
+// those after a point, the search in order does less.
+pub fn limit(room: usize, after: bool) -> usize
+    ensures { λ r. ⌜ (0 < r) × (r ≤ most) ⌝ }
+{
+    if after {
+        return 1;
+    }
+    if room < SHORT {
+        return 1;
+    }
+    MOST
 }
 
-// Puts the views within the bounds b into the store from place k on, as the search finds them, until it is full. Answers the place after them;
+// Puts the views within the bounds b into the store from place k on, as the search finds them, up to place `cap`. Answers the place after them;
 // w is what is to be done before the bounds are at rest.
 pub fn gather(
     words: &[u64],
@@ -36,12 +47,13 @@ pub fn gather(
     w: Work,
     b: Bounds,
     store: &mut [u64],
+    cap: usize,
     k: usize,
 ) -> usize
-    requires { ⌜ (n * 8 ≤ length (now words)) × (length (now ranks) ≤ 64) × Chains (now words) n (now index) × (most * 3 ≤ length (now store)) × (k ≤ most) ⌝ }
-    ensures { λ r. ⌜ Gathered (now (words .entry)) n (now (ranks .entry)) b k (now (store .entry)) (now (store .exit)) r ⌝ }
+    requires { ⌜ (n * 8 ≤ length (now words)) × (length (now ranks) ≤ 64) × Chains (now words) n (now index) × (cap * 3 ≤ length (now store)) × (k ≤ cap) ⌝ }
+    ensures { λ r. ⌜ Gathered (now (words .entry)) n (now (ranks .entry)) b cap k (now (store .entry)) (now (store .exit)) r ⌝ }
 {
-    if MOST <= k {
+    if cap <= k {
         return k;
     }
     let x = probe::visit(words, n, ranks, index, w, b);
@@ -54,12 +66,29 @@ pub fn gather(
         Node::Open(c, m, live) => {
             let o = bounds::out(c, m);
             let t = index::among(index, live, c, o);
-            let j = gather(words, n, ranks, index, t, o, store, k);
+            let j = gather(words, n, ranks, index, t, o, store, cap, k);
             let p = bounds::into(c, m);
             let t = index::among(index, live, c, p);
-            gather(words, n, ranks, index, t, p, store, j)
+            gather(words, n, ranks, index, t, p, store, cap, j)
         }
     }
+}
+
+// Puts the views within bounds at rest into the store, up to `cap` of them. Answers how many.
+pub fn collect(
+    words: &[u64],
+    n: usize,
+    ranks: &[u64],
+    index: &Index,
+    rest: Rest,
+    store: &mut [u64],
+    cap: usize,
+) -> usize
+    requires { ⌜ (n * 8 ≤ length (now words)) × (length (now ranks) ≤ 64) × Chains (now words) n (now index) × (cap * 3 ≤ length (now store)) ⌝ }
+    ensures { λ r. ⌜ Collected (now (words .entry)) n (now (ranks .entry)) (rest .bounds) cap (now (store .exit)) r ⌝ }
+{
+    let w = waiting::none(rest.live);
+    gather(words, n, ranks, index, w, rest.bounds, store, cap, 0)
 }
 
 // The pair a comes before b, if both take the same exceptions: the lowest statement that differs decides.
@@ -151,39 +180,9 @@ pub fn put_sorted(store: &[u64], k: usize, room: usize, out: &mut [u64], at: usi
     place
 }
 
-// Puts all views within the bounds at rest on the page from place `at` on, in the order of pairs until it is full, if they are few.
-pub fn list_few(
-    words: &[u64],
-    ranks: &[u64],
-    index: &Index,
-    task: Task,
-    rest: Rest,
-    out: &mut [u64],
-    at: usize,
-) -> Few
-    requires { ⌜ (Fits (now words) (now ranks) (now out) task at) × Chains (now words) (task .rules) (now index) ⌝ }
-    ensures { λ r. ⌜ FewListed (now (words .entry)) (now (ranks .entry)) task (rest .bounds) at (now (out .entry)) (now (out .exit)) r ⌝ }
-{
-    let mut store = [0u64; MOST * 3];
-    let w = waiting::none(rest.live);
-    let k = gather(
-        words,
-        task.rules,
-        ranks,
-        index,
-        w,
-        rest.bounds,
-        &mut store,
-        0,
-    );
-    if MOST <= k {
-        return Few::Many;
-    }
-    Few::All(put_sorted(&store, k, task.room, out, at))
-}
-
 // Puts all views with these exceptions on the page from place `at` on, in the order of pairs until it is full; where `after` is true only those
-// later than the task's point. None of those views may be beyond the bounds at rest. Answers the place after them.
+// later than the task's point. None of those views may be beyond the bounds at rest. Where k is less than `cap`, they are the first k pairs of
+// the store. Answers the place after them.
 pub fn list(
     words: &[u64],
     ranks: &[u64],
@@ -191,19 +190,21 @@ pub fn list(
     task: Task,
     taken: u64,
     rest: Rest,
+    store: &[u64],
+    cap: usize,
+    k: usize,
     after: bool,
     out: &mut [u64],
     at: usize,
 ) -> usize
-    requires { ⌜ (Fits (now words) (now ranks) (now out) task at) × Chains (now words) (task .rules) (now index) ⌝ }
-    ensures { λ r. ⌜ Listed (now (words .entry)) (now (ranks .entry)) task taken (rest .bounds) after at (now (out .entry)) (now (out .exit)) r ⊎ ((after ≡ false) × AllListed (now (words .entry)) (now (ranks .entry)) task (rest .bounds) at (now (out .entry)) (now (out .exit)) r) ⌝ }
+    requires { ⌜ (Fits (now words) (now ranks) (now out) task at) × Chains (now words) (task .rules) (now index) × (cap * 3 ≤ length (now store)) ⌝ }
+    ensures { λ r. ⌜ Listed (now (words .entry)) (now (ranks .entry)) task taken (rest .bounds) after at (now (out .entry)) (now (out .exit)) r ⊎ ((after ≡ false) × (k < cap) × AllListed (now (words .entry)) (now (ranks .entry)) task (rest .bounds) (now (store .entry)) k at (now (out .entry)) (now (out .exit)) r) ⌝ }
 {
     if after {
         return page::list_views(words, ranks, index, task, taken, rest, after, out, at);
     }
-    let f = list_few(words, ranks, index, task, rest, out, at);
-    match f {
-        Few::All(r) => r,
-        Few::Many => page::list_views(words, ranks, index, task, taken, rest, after, out, at),
+    if k < cap {
+        return put_sorted(store, k, task.room, out, at);
     }
+    page::list_views(words, ranks, index, task, taken, rest, after, out, at)
 }

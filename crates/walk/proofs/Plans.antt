@@ -22,9 +22,8 @@ use Rattle.masks.specs.declared.Bounds.{Bounds}
 use Rattle.masks.specs.Views.{MaskView}
 use Rattle.bounds.specs.Sound.{In, Propagated, withSets}
 use Rattle.bounds.proofs.Ranges.{in-sets, in-root, set-above, set-below, one-set}
-use Rattle.probe.specs.declared.Answer.{Answer}
-use Rattle.probe.specs.declared.Answer.the-variants.{Found, Nothing}
-use Rattle.probe.specs.Probes.{Probed}
+use Rattle.page.specs.Pages.{pairsIn}
+use Rattle.few.specs.Few.{Collected}
 use Rattle.admissible.specs.Admissible.{Undominated, Admissible}
 use Rattle.meaning.specs.Books.{Book}
 use Rattle.meaning.specs.Resolutions.{Resolution}
@@ -34,7 +33,7 @@ use Rattle.walk.specs.Marks.{Struck, shares, between, IsMarked, Marked, 
 use Rattle.walk.specs.declared.Range.{Range}
 use Rattle.resolution.specs.Rooted.{Rooted}
 use Rattle.resolution.proofs.Resolutions.{resolution-same}
-use Rattle.walk.specs.Plans.{NoView, Wider, Told, Full, MarksRight, Admits, Bounded}
+use Rattle.walk.specs.Plans.{NoView, HasView, Wider, Told, Full, MarksRight, Admits, Bounded}
 use Rattle.walk.proofs.Steps.{all-within}
 use Rattle.walk.proofs.Marks.{right-more}
 
@@ -135,12 +134,21 @@ module _ (ws : List ℕ) (n : ℕ) (ranks : List ℕ) (root : Bounds) (v : Pair)
   pub surpassed-told : (t : ℕ) → v .taken ≡ t → Full ws n ranks root m → Told ws n ranks root m′ t
   surpassed-told t e f = record { above = λ x k i y u h w d. p .marked .all u (omega arith) h (omega (arith, f .long)) (between (rw e w) (all-within u h) (λ z. d (z ∙ e))) }
 
--- What a search within propagated bounds tells is true of the bounds before.
-pub probed-before : (ws : List ℕ) (n : ℕ) (ranks : List ℕ) (b o : Bounds) (a : Answer) → Propagated ws n ranks b o → Probed ws n ranks o a → Probed ws n ranks b a
-probed-before ws n ranks b o a p q = record {
-  found = λ v e. let f = q .found v e in (f .0, record { lo = sub-trans (p .lo) (f .1 .lo); hi = sub-trans (f .1 .hi) (p .hi) });
-  none = λ e v m i. q .none e v m (p .keeps .kept v m i);
-}
+-- What is within bounds that propagation has narrowed is within those before.
+pub propagated-in : (ws : List ℕ) (n : ℕ) (ranks : List ℕ) (b o : Bounds) → Propagated ws n ranks b o → (v : Pair) → In o v → In b v
+propagated-in ws n ranks b o p v i = record { lo = sub-trans (p .lo) (i .lo); hi = sub-trans (i .hi) (p .hi) }
+
+-- ---- what the gathered views tell
+module _ (ws : List ℕ) (n : ℕ) (ranks : List ℕ) (root : Bounds) (t : ℕ) (o : Bounds) (p : Propagated ws n ranks (withSets root t t) o) (cap : ℕ) (store : List ℕ) (r : ℕ) (c : Collected ws n ranks o cap store r) where
+  pub collected-none : 0 < cap → r ≡ 0 → NoView ws n ranks root t t
+  unfolding pairsIn
+  collected-none h e = record { none = λ v m i. rw e at (c .whole (omega arith)) .all v m (p .keeps .kept v m i) }
+
+  pub collected-some : (r ≡ 0 → ⊥) → HasView ws n ranks root t
+  collected-some h =
+      let f = c .some (omega arith) in
+      let i = propagated-in ws n ranks (withSets root t t) o p (f .0) (f .2) in
+      record { some = (f .0, f .1, in-root root t t (f .0) i, one-set root t (f .0) i) }
 
 -- ---- what admits answers
 module _ (ws : List ℕ) (n : ℕ) (ranks : List ℕ) (root : Bounds) (t : ℕ) (known : Bool) (m : List ℕ) where
@@ -170,60 +178,62 @@ module _ (ws : List ℕ) (n : ℕ) (ranks : List ℕ) (root : Bounds) (t : ℕ) 
   pub admits-short : (without (root .lo .taken) t ≡ 0 → ⊥) → Admits ws n ranks root t known m m false
   admits-short x = admits-none m (record { none = λ v k i. x (zero-minus (root .lo .taken) t (λ j. le-trans (in-root root t t v i .lo .taken j) (set-below root t t v i j))) }) (marks-same ws n ranks root m)
 
-  module _ (box : Bounds) (eb : box ≡ withSets root t t) (a : Answer) (pr : Probed ws n ranks box a) where
-    pub admits-nothing : a ≡ Nothing → Admits ws n ranks root t known m m false
-    admits-nothing e = admits-none m (record { none = λ v k i. pr .none e v k (rw eb i) }) (marks-same ws n ranks root m)
+  -- A view within root has the set.
+  module _ (h : HasView ws n ranks root t) (m′ : List ℕ) (p : Surpassed ranks t m m′) where
+    abbrev v : Pair
+    v = h .some .0
 
-    module _ (v : Pair) (ea : a ≡ Found v) (m′ : List ℕ) (p : Surpassed ranks (v .taken) m m′) where
-      -- The view that was found is within root and has the set.
-      found-in : In root v
-      found-in = in-root root t t v (rw eb at (pr .found v ea .1))
+    found : MaskView ws n ranks v
+    found = h .some .1
 
-      found-set : v .taken ≡ t
-      found-set = one-set root t v (rw eb at (pr .found v ea .1))
+    found-in : In root v
+    found-in = h .some .2
 
-      has-set : (b : Book) → Rooted b ws n ranks root → t < 2 ^ length (b .exceptions)
-      has-set b r = rw found-set at (r .only v (pr .found v ea .0) found-in .lawful .exceptions)
+    found-set : v .taken ≡ t
+    found-set = h .some .3
 
-      seen : MarksRight ws n ranks root m m′
-      seen = surpassed-marks ws n ranks root v (pr .found v ea .0) found-in m m′ p
+    has-set : (b : Book) → Rooted b ws n ranks root → t < 2 ^ length (b .exceptions)
+    has-set b r = rw found-set at (r .only v found found-in .lawful .exceptions)
 
-      seen-told : Full ws n ranks root m → Told ws n ranks root m′ t
-      seen-told = surpassed-told ws n ranks root v (pr .found v ea .0) found-in m m′ p t found-set
+    seen : MarksRight ws n ranks root m m′
+    seen = surpassed-marks ws n ranks root v found found-in m m′ (rw found-set p)
 
-      pub admits-surpassed : IsMarked m′ t → Admits ws n ranks root t known m m′ false
-      admits-surpassed x = record {
-        marks = seen;
-        told = seen-told;
-        refuses = λ e b r w. seen .stay b r w .right t x;
-        accepts = λ e. absurd (clash e);
-        lawful = λ e. absurd (clash e);
-      }
+    seen-told : Full ws n ranks root m → Told ws n ranks root m′ t
+    seen-told = surpassed-told ws n ranks root v found found-in m m′ (rw found-set p) t found-set
 
-      pub admits-tested : (z : Bool) → Decides z (Admissible ws n ranks root t) → Admits ws n ranks root t known m m′ z
-      admits-tested z d = record {
-        marks = seen;
-        told = seen-told;
-        refuses = λ e b r w. not-admissible b ws n ranks root r t (d .no e);
-        accepts = λ e f. d .yes e;
-        lawful = λ e b r. has-set b r;
-      }
+    pub admits-surpassed : IsMarked m′ t → Admits ws n ranks root t known m m′ false
+    admits-surpassed x = record {
+      marks = seen;
+      told = seen-told;
+      refuses = λ e b r w. seen .stay b r w .right t x;
+      accepts = λ e. absurd (clash e);
+      lawful = λ e. absurd (clash e);
+    }
 
-      -- Where every set before t has been walked, a set that is not marked is minimal.
-      pub admits-known : known ≡ true → getD m′ t 0 ≡ 0 → (z : Bool) → Decides z (Undominated ws n ranks root t) → Admits ws n ranks root t known m m′ z
-      admits-known k o z d = record {
-        marks = seen;
-        told = seen-told;
-        refuses = λ e b r w. not-admissible b ws n ranks root r t (λ a. d .no e (a .undominated));
-        accepts = λ e f. record { minimal = f k (λ x. seen .kept t x o); undominated = d .yes e };
-        lawful = λ e b r. has-set b r;
-      }
+    pub admits-tested : (z : Bool) → Decides z (Admissible ws n ranks root t) → Admits ws n ranks root t known m m′ z
+    admits-tested z d = record {
+      marks = seen;
+      told = seen-told;
+      refuses = λ e b r w. not-admissible b ws n ranks root r t (d .no e);
+      accepts = λ e f. d .yes e;
+      lawful = λ e b r. has-set b r;
+    }
+
+    -- Where every set before t has been walked, a set that is not marked is minimal.
+    pub admits-known : known ≡ true → getD m′ t 0 ≡ 0 → (z : Bool) → Decides z (Undominated ws n ranks root t) → Admits ws n ranks root t known m m′ z
+    admits-known k o z d = record {
+      marks = seen;
+      told = seen-told;
+      refuses = λ e b r w. not-admissible b ws n ranks root r t (λ a. d .no e (a .undominated));
+      accepts = λ e f. record { minimal = f k (λ x. seen .kept t x o); undominated = d .yes e };
+      lawful = λ e b r. has-set b r;
+    }
 
 -- ---- the bounds of an admitted set
 -- Of a set that is refused the bounds tell nothing.
-pub admits-refused : (ws : List ℕ) (n : ℕ) (ranks : List ℕ) (root : Bounds) (t : ℕ) (known : Bool) (m m′ : List ℕ) (z : Bool) (o : Bounds) → z ≡ false
-    → Admits ws n ranks root t known m m′ false → Admits ws n ranks root t known m m′ z × Bounded ws n ranks root t z o
-admits-refused ws n ranks root t known m m′ z o e a = (rw e a, record { propagated = λ f. absurd (clash (sym e ∙ f)) })
+pub admits-refused : (ws : List ℕ) (n : ℕ) (ranks : List ℕ) (root : Bounds) (t : ℕ) (known : Bool) (m m′ : List ℕ) (z : Bool) (o : Bounds) (X : Type 0) → z ≡ false
+    → Admits ws n ranks root t known m m′ false → Admits ws n ranks root t known m m′ z × Bounded ws n ranks root t z o × (z ≡ true → X)
+admits-refused ws n ranks root t known m m′ z o X e a = (rw e a, record { propagated = λ f. absurd (clash (sym e ∙ f)) }, λ f. absurd (clash (sym e ∙ f)))
 
 -- Every view within root that has the set is within the bounds.
 pub in-bounds : (ws : List ℕ) (n : ℕ) (ranks : List ℕ) (root : Bounds) (t : ℕ) (z : Bool) (o : Bounds) → Bounded ws n ranks root t z o → z ≡ true
@@ -233,4 +243,4 @@ in-bounds ws n ranks root t z o f e v m i d = f .propagated e .keeps .kept v m (
 -- And nothing else is: the bounds are no wider than those of the set.
 pub bounds-in : (ws : List ℕ) (n : ℕ) (ranks : List ℕ) (root : Bounds) (t : ℕ) (z : Bool) (o : Bounds) → Bounded ws n ranks root t z o → z ≡ true
     → (v : Pair) → In o v → In (withSets root t t) v
-bounds-in ws n ranks root t z o f e v i = let p = f .propagated e in record { lo = sub-trans (p .lo) (i .lo); hi = sub-trans (i .hi) (p .hi) }
+bounds-in ws n ranks root t z o f e v i = propagated-in ws n ranks (withSets root t t) o (f .propagated e) v i

@@ -26,7 +26,7 @@ use Rattle.page.specs.Orders.{bare, listFrom, PartOf, Begins}
 use Rattle.page.specs.Pages.{Page, Fits, Listed}
 use Rattle.page.proofs.Pages.{page-none, page-full, page-append}
 use Rattle.page.proofs.Listed.{list-is-part, views-listed, part-of-listing}
-use Rattle.few.specs.Few.{AllListed}
+use Rattle.few.specs.Few.{Collected, AllListed}
 use Rattle.meaning.specs.Books.{Book, Lawful}
 use Rattle.meaning.specs.Views.{View}
 use Rattle.meaning.specs.Order as meaning
@@ -59,7 +59,7 @@ module _ (ws ranks : List ℕ) (root : Bounds) (q : Task) (t : ℕ) (after known
   }
 
   -- The views of an admissible set, all of which are within the bounds c, by either search.
-  module _ (yes : z ≡ true) (c : Bounds) (h : Bounded ws (q .rules) ranks root t z c) (o′ : List ℕ) (r : ℕ) (b : Book) (from : Point) (s : Serves b ws ranks root q) (g : Begins b from t after (q .point)) where
+  module _ (yes : z ≡ true) (c : Bounds) (h : Bounded ws (q .rules) ranks root t z c) (cap : ℕ) (store : List ℕ) (k : ℕ) (n : Collected ws (q .rules) ranks c cap store k) (o′ : List ℕ) (r : ℕ) (b : Book) (from : Point) (s : Serves b ws ranks root q) (g : Begins b from t after (q .point)) where
     same : (p : Pair) → Lawful b p → MaskView ws (q .rules) ranks p ↔ View b p
     same p k = view-same b ws (q .rules) (s .rooted .packs) p ranks (s .rooted .ranked) k
 
@@ -75,14 +75,14 @@ module _ (ws ranks : List ℕ) (root : Bounds) (q : Task) (t : ℕ) (after known
     by-order : Listed ws ranks q t c after at o o′ r → (xs : List Pair) × Page (q .room) at o o′ xs r × PartOf b from t (MaskView ws (q .rules) ranks) xs
     by-order x = views-listed b from t bound ws ranks q (s .statements) after g (view b) test c within at r o o′ x
 
-    by-store : after ≡ false → AllListed ws ranks q c at o o′ r → (xs : List Pair) × Page (q .room) at o o′ xs r × PartOf b from t (MaskView ws (q .rules) ranks) xs
-    by-store f x =
+    by-store : after ≡ false → k < cap → AllListed ws ranks q c store k at o o′ r → (xs : List Pair) × Page (q .room) at o o′ xs r × PartOf b from t (MaskView ws (q .rules) ranks) xs
+    by-store f l x =
         let xs : List Pair = listFrom (view b) (b .statements) (q .point) (b .statements) after (bare t) in
         let p = list-is-part b from t bound after (q .point) g (MaskView ws (q .rules) ranks) (view b) test in
         let inside : (v : Pair) → In c v → In (withSets root t t) v = λ v i. bounds-in ws (q .rules) ranks root t z c h yes v i in
         let set : (v : Pair) → In c v → v .taken ≡ t = λ v i. one-set root t v (inside v i) in (
           xs,
-          x .page (record { same = λ v w i j. set v i ∙ sym (set w j) }) xs (p .ascending)
+          x .page (n .whole l) (record { same = λ v w i j. set v i ∙ sym (set w j) }) xs (p .ascending)
               (record {
                 only = λ v i. let d = every-at (λ p. Lawful b p × (p .taken ≡ t) × Later from p × MaskView ws (q .rules) ranks p) v xs (p .only) i in (d .3, within v (d .0) (d .1) (d .3));
                 all = λ v y i. p .all v (s .rooted .only v y (in-root root t t v (inside v i)) .lawful) (set v i) (g .before f v (set v i)) y;
@@ -90,9 +90,9 @@ module _ (ws ranks : List ℕ) (root : Bounds) (q : Task) (t : ℕ) (after known
           p,
         )
 
-  pub set-listed : not z ≡ false → (c : Bounds) → Bounded ws (q .rules) ranks root t z c → (o′ : List ℕ) (r : ℕ)
-      → Listed ws ranks q t c after at o o′ r ⊎ ((after ≡ false) × AllListed ws ranks q c at o o′ r) → SetListed ws ranks root q t after known at m m′ o o′ r
-  set-listed e c h o′ r l = record { most = ⊎-elim (λ x. x .most) (λ x. x .1 .fits) l; marks = a .marks; told = a .told; part = part }
+  pub set-listed : not z ≡ false → (c : Bounds) → Bounded ws (q .rules) ranks root t z c → (cap : ℕ) (store : List ℕ) (k : ℕ) → (z ≡ true → Collected ws (q .rules) ranks c cap store k) → (o′ : List ℕ) (r : ℕ)
+      → Listed ws ranks q t c after at o o′ r ⊎ ((after ≡ false) × (k < cap) × AllListed ws ranks q c store k at o o′ r) → SetListed ws ranks root q t after known at m m′ o o′ r
+  set-listed e c h cap store k n o′ r l = record { most = ⊎-elim (λ x. x .most) (λ x. x .2 .fits) l; marks = a .marks; told = a .told; part = part }
     where
       yes : z ≡ true
       yes = not-false z e
@@ -100,11 +100,11 @@ module _ (ws ranks : List ℕ) (root : Bounds) (q : Task) (t : ℕ) (after known
       part : (b : Book) (from : Point) → Serves b ws ranks root q → RightMarks b m → Rests ws (q .rules) ranks root t known m → Begins b from t after (q .point)
           → (ys : List Pair) × Page (q .room) at o o′ ys r × Part b from (λ p. p .taken ≡ t) ys
       part b from s w f g =
-          let v = ⊎-elim (λ x. by-order yes c h o′ r b from s g x) (λ x. by-store yes c h o′ r b from s g (x .0) (x .1)) l in (
+          let v = ⊎-elim (λ x. by-order yes c h cap store k (n yes) o′ r b from s g x) (λ x. by-store yes c h cap store k (n yes) o′ r b from s g (x .0) (x .1) (x .2)) l in (
             v .0,
             v .1,
             part-of-listing b from t (MaskView ws (q .rules) ranks) (v .0)
-                (λ p k d x. resolution-same b ws (q .rules) ranks root (s .rooted) p .0 (same yes c h o′ r b from s g p k .0 x, rw d (a .accepts yes f)))
+                (λ p i d x. resolution-same b ws (q .rules) ranks root (s .rooted) p .0 (same yes c h cap store k (n yes) o′ r b from s g p i .0 x, rw d (a .accepts yes f)))
                 (λ p x d. s .rooted .holds p (x .view) .0) (v .2),
           )
 
@@ -146,7 +146,7 @@ pub record Going (ws ranks : List ℕ) (root : Bounds) (q : Task) (first : ℕ) 
       → (start : List ℕ) (xs : List Pair) → Part b from (Passed first) xs → Page (q .room) 0 start o xs at
       → (ys : List Pair) × Part b from (Passed j) ys × Page (q .room) 0 start p ys k
 
-fits-again : (ws ranks o o′ : List ℕ) (q : Task) (at r : ℕ) → Fits ws ranks o q at → length o′ ≡ length o → r ≤ q .room → Fits ws ranks o′ q r
+pub fits-again : (ws ranks o o′ : List ℕ) (q : Task) (at r : ℕ) → Fits ws ranks o q at → length o′ ≡ length o → r ≤ q .room → Fits ws ranks o′ q r
 fits-again ws ranks o o′ q at r f e h = record { suits = f .suits; place = h; long = rw e (f .long) }
 
 module _ (ws ranks : List ℕ) (root : Bounds) (q : Task) (first : ℕ) (known : Bool) (at : ℕ) (m o : List ℕ) where

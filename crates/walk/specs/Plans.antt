@@ -20,6 +20,10 @@ use Rattle.walk.specs.Marks.{IsMarked, NoneAt, RightMarks}
 pub record NoView (ws : List ℕ) (n : ℕ) (ranks : List ℕ) (root : Bounds) (lo hi : ℕ) : Type 0 where
   pub none : (v : Pair) → MaskView ws n ranks v → In (withSets root lo hi) v → ⊥
 
+-- A view within root has the set t.
+pub record HasView (ws : List ℕ) (n : ℕ) (ranks : List ℕ) (root : Bounds) (t : ℕ) : Type 0 where
+  pub some : (v : Pair) × MaskView ws n ranks v × In root v × (v .taken ≡ t)
+
 -- If the range s has no view, the range r has none.
 pub record Wider (ws : List ℕ) (n : ℕ) (ranks : List ℕ) (root : Bounds) (s r : Range) : Type 0 where
   pub still : NoView ws n ranks root (s .lo) (s .hi) → NoView ws n ranks root (r .lo) (r .hi)

@@ -10,13 +10,13 @@ ghost use Rattle.order.specs.Order.{order, setAt};
 ghost use Rattle.bounds.specs.Sound.{Propagated, withSets};
 ghost use Rattle.queue.specs.Chains.{Chains};
 ghost use Rattle.page.specs.Pages.{Fits};
+ghost use Rattle.few.specs.Few.{most, Collected};
 ghost use Rattle.walk.specs.Walks.{SetListed, Walked, FirstPage, PageAfter};
-ghost use Rattle.walk.specs.Plans.{NoView, Wider, MarksRight, Admits, Bounded};
+ghost use Rattle.walk.specs.Plans.{NoView, HasView, Wider, MarksRight, Admits, Bounded};
 use book::Book;
 use masks::Bounds;
 use order::Table;
 use page::Task;
-use probe::Answer;
 use queue::Rest;
 use queue::index;
 use queue::index::Index;
@@ -328,11 +328,12 @@ pub fn widened(words: &[u64], n: usize, ranks: &[u64], index: &Index, root: Boun
 }
 
 // Whether a set was admitted, how much may still be spent on marking sets without a view, and where it was admitted bounds at rest for the
-// views that have it.
+// views that have it, and how many of these the store has.
 pub struct Admission {
     pub ok: bool,
     pub credit: u64,
     pub rest: Rest,
+    pub count: usize,
 }
 
 // The set was not admitted: the bounds tell nothing.
@@ -346,6 +347,7 @@ pub fn refused(root: Bounds, credit: u64) -> Admission
             bounds: root,
             live: waiting::everything(),
         },
+        count: 0,
     }
 }
 
@@ -390,9 +392,8 @@ pub fn mark_around(
     left
 }
 
-// Whether a resolution can have the set t, of which a view may be found within the bounds at rest. A view that is found marks the sets that it
-// surpasses. Where `known` is true, every set before t in the order has been walked with these marks: if a view had a proper subset of t, then
-// t would be marked.
+// Whether a resolution can have the set t, where there is a view that has it. That marks the sets that the view surpasses. Where `known` is true,
+// every set before t in the order has been walked with these marks: if a view had a proper subset of t, then t would be marked.
 pub fn tested(
     words: &[u64],
     n: usize,
@@ -400,33 +401,25 @@ pub fn tested(
     index: &Index,
     root: Bounds,
     t: u64,
-    rest: Rest,
     known: bool,
     marks: &mut Marks,
 ) -> bool
-    requires { ⌜ (n * 8 ≤ length (now words)) × (length (now ranks) ≤ 64) × (t < sets) × Chains (now words) n (now index) × Propagated (now words) n (now ranks) (withSets root t t) (rest .bounds) ⌝ }
-    ensures { λ r. ⌜ Admits (now (words .entry)) n (now (ranks .entry)) root t known (now (marks .entry)) (now (marks .exit)) r ⌝ }
+    requires { ⌜ (n * 8 ≤ length (now words)) × (length (now ranks) ≤ 64) × (t < sets) × Chains (now words) n (now index) ⌝ }
+    ensures { λ r. ⌜ (HasView (now (words .entry)) n (now (ranks .entry)) root t → Admits (now (words .entry)) n (now (ranks .entry)) root t known (now (marks .entry)) (now (marks .exit)) r) ⌝ }
 {
-    let w = waiting::none(rest.live);
-    let a = probe::probe(words, n, ranks, index, w, rest.bounds);
-    match a {
-        Answer::Nothing => false,
-        Answer::Found(v) => {
-            mark_surpassed(ranks, v.taken, marks);
-            let place = t as usize;
-            if marks[place] != 0 {
-                return false;
-            }
-            if known {
-                return admissible::undominated(words, n, ranks, index, root, t);
-            }
-            admissible::admissible(words, n, ranks, index, root, t)
-        }
+    mark_surpassed(ranks, t, marks);
+    let place = t as usize;
+    if marks[place] != 0 {
+        return false;
     }
+    if known {
+        return admissible::undominated(words, n, ranks, index, root, t);
+    }
+    admissible::admissible(words, n, ranks, index, root, t)
 }
 
-// Whether a resolution can have the set t: not where it is marked, nor where propagation shows that it has no view. Where `known` is true,
-// every set before t has been walked with these marks.
+// Whether a resolution can have the set t: not where it is marked, nor where it has no view. Its views are gathered in the store, up to `cap` of
+// them. Where `known` is true, every set before t has been walked with these marks.
 pub fn admits(
     words: &[u64],
     n: usize,
@@ -437,9 +430,11 @@ pub fn admits(
     known: bool,
     credit: u64,
     marks: &mut Marks,
+    store: &mut [u64],
+    cap: usize,
 ) -> Admission
-    requires { ⌜ (n * 8 ≤ length (now words)) × (length (now ranks) ≤ 64) × (t < sets) × Chains (now words) n (now index) ⌝ }
-    ensures { λ r. ⌜ Admits (now (words .entry)) n (now (ranks .entry)) root t known (now (marks .entry)) (now (marks .exit)) (r .ok) × Bounded (now (words .entry)) n (now (ranks .entry)) root t (r .ok) (r .rest .bounds) ⌝ }
+    requires { ⌜ (n * 8 ≤ length (now words)) × (length (now ranks) ≤ 64) × (t < sets) × Chains (now words) n (now index) × (cap * 3 ≤ length (now store)) × (0 < cap) ⌝ }
+    ensures { λ r. ⌜ Admits (now (words .entry)) n (now (ranks .entry)) root t known (now (marks .entry)) (now (marks .exit)) (r .ok) × Bounded (now (words .entry)) n (now (ranks .entry)) root t (r .ok) (r .rest .bounds) × (r .ok ≡ true → Collected (now (words .entry)) n (now (ranks .entry)) (r .rest .bounds) cap (now (store .exit)) (r .count)) ⌝ }
 {
     let place = t as usize;
     if marks[place] != 0 {
@@ -457,8 +452,17 @@ pub fn admits(
         let left = mark_around(words, n, ranks, index, root, t, credit, marks);
         return refused(root, left);
     }
-    let ok = tested(words, n, ranks, index, root, t, rest, known, marks);
-    Admission { ok, credit, rest }
+    let count = few::collect(words, n, ranks, index, rest, store, cap);
+    if count == 0 {
+        return refused(root, credit);
+    }
+    let ok = tested(words, n, ranks, index, root, t, known, marks);
+    Admission {
+        ok,
+        credit,
+        rest,
+        count,
+    }
 }
 
 // How far a page is filled, and what may still be spent on marking.
@@ -480,11 +484,14 @@ pub fn list_set(
     known: bool,
     filled: Filled,
     marks: &mut Marks,
+    store: &mut [u64],
     out: &mut [u64],
 ) -> Filled
-    requires { ⌜ Fits (now words) (now ranks) (now out) task (filled .at) × (t < sets) × Chains (now words) (task .rules) (now index) ⌝ }
+    requires { ⌜ Fits (now words) (now ranks) (now out) task (filled .at) × (t < sets) × Chains (now words) (task .rules) (now index) × (most * 3 ≤ length (now store)) ⌝ }
     ensures { λ r. ⌜ SetListed (now (words .entry)) (now (ranks .entry)) root task t after known (filled .at) (now (marks .entry)) (now (marks .exit)) (now (out .entry)) (now (out .exit)) (r .at) ⌝ }
 {
+    let at = filled.at;
+    let cap = few::limit(task.room - at, after);
     let a = admits(
         words,
         task.rules,
@@ -495,13 +502,27 @@ pub fn list_set(
         known,
         filled.credit,
         marks,
+        store,
+        cap,
     );
     let credit = a.credit;
-    let at = filled.at;
     if !a.ok {
         return Filled { at, credit };
     }
-    let r = few::list(words, ranks, index, task, t, a.rest, after, out, at);
+    let r = few::list(
+        words,
+        ranks,
+        index,
+        task,
+        t,
+        a.rest,
+        store,
+        cap,
+        a.count,
+        after,
+        out,
+        at,
+    );
     Filled { at: r, credit }
 }
 
@@ -518,9 +539,10 @@ pub fn walk(
     known: bool,
     filled: Filled,
     marks: &mut Marks,
+    store: &mut [u64],
     out: &mut [u64],
 ) -> usize
-    requires { ⌜ Fits (now words) (now ranks) (now out) task (filled .at) × (from ≤ sets) × (now table ≡ order) × Chains (now words) (task .rules) (now index) ⌝ }
+    requires { ⌜ Fits (now words) (now ranks) (now out) task (filled .at) × (from ≤ sets) × (now table ≡ order) × Chains (now words) (task .rules) (now index) × (most * 3 ≤ length (now store)) ⌝ }
     ensures { λ r. ⌜ Walked (now (words .entry)) (now (ranks .entry)) root task from known (filled .at) (now (marks .entry)) (now (out .entry)) (now (out .exit)) r ⌝ }
 {
     let mut f = filled;
@@ -540,6 +562,7 @@ pub fn walk(
             known,
             f,
             marks,
+            store,
             out,
         );
         j += 1;
@@ -575,6 +598,7 @@ pub fn first_page(
     ensures { λ r. ⌜ FirstPage (now (words .entry)) (now (ranks .entry)) root task (now (out .entry)) (now (out .exit)) r ⌝ }
 {
     let mut marks = [0u8; Book::SETS];
+    let mut store = [0u64; few::MOST * 3];
     let filled = Filled {
         at: 0,
         credit: CREDIT,
@@ -591,6 +615,7 @@ pub fn first_page(
         true,
         filled,
         &mut marks,
+        &mut store,
         out,
     )
 }
@@ -608,6 +633,7 @@ pub fn page_after(
     ensures { λ r. ⌜ PageAfter (now (words .entry)) (now (ranks .entry)) root task (now (out .entry)) (now (out .exit)) r ⌝ }
 {
     let mut marks = [0u8; Book::SETS];
+    let mut store = [0u64; few::MOST * 3];
     let t = task.point.taken;
     let filled = Filled {
         at: 0,
@@ -626,6 +652,7 @@ pub fn page_after(
         false,
         filled,
         &mut marks,
+        &mut store,
         out,
     );
     walk(
@@ -639,6 +666,7 @@ pub fn page_after(
         false,
         f,
         &mut marks,
+        &mut store,
         out,
     )
 }

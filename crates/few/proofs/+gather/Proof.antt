@@ -42,7 +42,7 @@ callees t = (
 )
 
 gather-returns : (t : ℕ) → gather-lts.Need-returns (callees t) (gather-at t) gather.Post
-gather-returns t c = gathered-full _ _ _ _ _ _ (search needs) (search needs)
+gather-returns t c = gathered-full _ _ _ _ _ _ _ (search needs) (search needs)
 
 gather-visit-requires : (t : ℕ) → gather-lts.Need-visit-requires (callees t) (gather-at t) gather.Post
 gather-visit-requires t c κs = search needs
@@ -78,22 +78,22 @@ gather-among-requires-2 : (t : ℕ) → gather-lts.Need-among-requires-2 (callee
 gather-among-requires-2 t c κs = search needs
 
 gather-gather-requires-2 : (t : ℕ) → gather-lts.Need-gather-requires-2 (callees t) (gather-at t) gather.Post
-gather-gather-requires-2 t c κs = let h = into-less (c .before .before .before .before .before .before .before .before .before .before .before .before .visit .ensures) _ _ _ (c .before .before .before .before .before .before .before .before .before .before .x2 .given .1) _ (c .before .before .into .ensures) in (omega (arith, c .before .before .before .before .before .before .before .before .before .before .before .before .before .before .before .before .before .pre .0), (c .before .before .before .before .before .before .before .before .before .before .before .before .before .before .before .before .before .pre .1 .0, c .before .before .before .before .before .before .before .before .before .before .before .before .before .before .before .before .before .pre .1 .1, c .before .before .before .before .before .before .before .before .before .before .before .before .before .before .before .before .before .pre .1 .2, store-again _ _ (c .before .before .before .before .before .before .before .before .before .before .before .before .before .before .before .before .before .pre .1 .3) (c .before .before .before .before .before .gather .kept .1 .1 .1 .1 .1 .1 .0), c .before .before .before .before .before .gather .ensures .few))
+gather-gather-requires-2 t c κs = let h = into-less (c .before .before .before .before .before .before .before .before .before .before .before .before .visit .ensures) _ _ _ (c .before .before .before .before .before .before .before .before .before .before .x2 .given .1) _ (c .before .before .into .ensures) in (omega (arith, c .before .before .before .before .before .before .before .before .before .before .before .before .before .before .before .before .before .pre .0), (c .before .before .before .before .before .before .before .before .before .before .before .before .before .before .before .before .before .pre .1 .0, c .before .before .before .before .before .before .before .before .before .before .before .before .before .before .before .before .before .pre .1 .1, c .before .before .before .before .before .before .before .before .before .before .before .before .before .before .before .before .before .pre .1 .2, store-again _ _ _ (c .before .before .before .before .before .before .before .before .before .before .before .before .before .before .before .before .before .pre .1 .3) (c .before .before .before .before .before .gather .kept .1 .1 .1 .1 .1 .1 .0), c .before .before .before .before .before .gather .ensures .few))
 
 gather-same-length : (t : ℕ) → gather-lts.Need-same-length (callees t) (gather-at t) gather.Post
 gather-same-length t c = search needs
 
 gather-returns-2 : (t : ℕ) → gather-lts.Need-returns-2 (callees t) (gather-at t) gather.Post
-gather-returns-2 t c = gathered-view _ _ _ _ _ _ _ (c .before .before .before .before .before .before .before .visit .ensures) (search needs) _ (search needs) _ (c .before .before .put .ensures)
+gather-returns-2 t c = gathered-view _ _ _ _ _ _ _ _ (c .before .before .before .before .before .before .before .visit .ensures) (search needs) _ (search needs) _ (c .before .before .put .ensures)
 
 gather-returns-3 : (t : ℕ) → gather-lts.Need-returns-3 (callees t) (gather-at t) gather.Post
-gather-returns-3 t c = gathered-empty _ _ _ _ _ _ _ (c .before .before .visit .ensures) (search needs) (search needs)
+gather-returns-3 t c = gathered-empty _ _ _ _ _ _ _ _ (c .before .before .visit .ensures) (search needs) (search needs)
 
 gather-same-length-2 : (t : ℕ) → gather-lts.Need-same-length-2 (callees t) (gather-at t) gather.Post
 gather-same-length-2 t c = search needs
 
 gather-returns-4 : (t : ℕ) → gather-lts.Need-returns-4 (callees t) (gather-at t) gather.Post
-gather-returns-4 t c = gathered-both _ _ _ _ _ _ _ (c .before .before .before .before .before .before .before .before .before .before .before .before .before .before .before .visit .ensures) _ _ _ (c .before .before .before .before .before .before .before .before .before .before .before .before .before .x2 .given .1) _ _ (c .before .before .before .before .before .before .before .before .before .before .before .out .ensures) (c .before .before .before .before .before .into .ensures) _ _ _ _ (c .before .before .before .before .before .before .before .before .gather .ensures) (c .before .before .gather2 .ensures)
+gather-returns-4 t c = gathered-both _ _ _ _ _ _ _ _ (c .before .before .before .before .before .before .before .before .before .before .before .before .before .before .before .visit .ensures) _ _ _ (c .before .before .before .before .before .before .before .before .before .before .before .before .before .x2 .given .1) _ _ (c .before .before .before .before .before .before .before .before .before .before .before .out .ensures) (c .before .before .before .before .before .into .ensures) _ _ _ _ (c .before .before .before .before .before .before .before .before .gather .ensures) (c .before .before .gather2 .ensures)
 
 pub +gather-spec : {M : Type 1} → statement M
 +gather-spec = close μ-gather λ t. gather-lts.spec (callees t)

@@ -8,6 +8,9 @@ use Rattle.walk.proofs.first_page.Tie as tie
 table-requires : tie.Need-table-requires
 table-requires c κs = search needs
 
+slice-aggregate-walk : tie.Need-slice-aggregate-walk
+slice-aggregate-walk c = search needs
+
 walk-requires : tie.Need-walk-requires
 walk-requires c κs = search needs
 
@@ -15,7 +18,8 @@ same-length : tie.Need-same-length
 same-length c = search needs
 
 returns : tie.Need-returns
-returns c = first-walked _ _ _ _ sets _ (le-refl sets) _ _ (c .before .before .walk .ensures)
+returns c = first-walked _ _ _ _ sets _ (le-refl sets) _ _ (c .before .before .before .walk .ensures)
 
 pub first-page-spec : {M : Type 1} → statement M
-first-page-spec = tie.close (tie.spec table-requires walk-requires same-length returns)
+first-page-spec =
+    tie.close (tie.spec table-requires slice-aggregate-walk walk-requires same-length returns)

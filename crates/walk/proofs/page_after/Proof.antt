@@ -1,5 +1,7 @@
+use Rattle.few.specs.Few.{most}
+use Rattle.few.proofs.Gathering.{store-again}
 use Rattle.book.specs.Kinds.{sets}
-use Rattle.walk.proofs.Walks.{after-walked}
+use Rattle.walk.proofs.Walks.{fits-again, after-walked}
 use borrow.Author.Needs.{needs}
 use Rattle.walk.proofs.page_after.Statement.{statement}
 use Rattle.walk.proofs.page_after.Tie as tie
@@ -10,22 +12,37 @@ table-requires c κs = search needs
 place-of-requires : tie.Need-place-of-requires
 place-of-requires c κs = search needs
 
+slice-aggregate-list-set : tie.Need-slice-aggregate-list-set
+slice-aggregate-list-set c = search needs
+
 list-set-requires : tie.Need-list-set-requires
 list-set-requires c κs = search needs
 
 add-walk : tie.Need-add-walk
 add-walk c = search needs
 
+slice-aggregate-walk : tie.Need-slice-aggregate-walk
+slice-aggregate-walk c = search needs
+
 walk-requires : tie.Need-walk-requires
-walk-requires c κs = search needs
+walk-requires c κs = (fits-again _ _ _ _ _ _ _ (c .before .before .before .before .before .before .before .before .before .before .before .before .before .before .before .before .before .pre .0) (c .before .before .before .before .before .before .before .list-set .kept .1 .1 .1 .1 .1 .1 .1 .1 .1 .1 .1 .0) (c .before .before .before .before .before .before .before .list-set .ensures .most), search needs, c .before .before .before .before .before .before .before .before .before .before .before .before .before .table .ensures, c .before .before .before .before .before .before .before .before .before .before .before .before .before .before .before .before .before .pre .2, store-again most _ _ (search needs) (c .before .before .before .before .before .before .before .list-set .kept .1 .1 .1 .1 .1 .1 .1 .1 .1 .1 .0))
 
 same-length : tie.Need-same-length
 same-length c = search needs
 
 returns : tie.Need-returns
-returns c = after-walked _ _ _ _ sets _ _ (c .before .before .before .before .before .before .before .before .before .before .before .place-of .ensures .0) (c .before .before .before .before .before .before .before .before .before .before .before .place-of .ensures .1) _ _ _ _ _ (c .before .before .before .before .before .before .before .before .list-set .ensures) (c .before .before .walk .ensures)
+returns c = after-walked _ _ _ _ sets _ _ (c .before .before .before .before .before .before .before .before .before .before .before .before .before .before .before .place-of .ensures .0) (c .before .before .before .before .before .before .before .before .before .before .before .before .before .before .before .place-of .ensures .1) _ _ _ _ _ (c .before .before .before .before .before .before .before .before .before .before .before .list-set .ensures) (c .before .before .before .walk .ensures)
 
 pub page-after-spec : {M : Type 1} → statement M
 page-after-spec =
     tie.close
-    (tie.spec table-requires place-of-requires list-set-requires add-walk walk-requires same-length returns)
+    (tie.spec
+    table-requires
+    place-of-requires
+    slice-aggregate-list-set
+    list-set-requires
+    add-walk
+    slice-aggregate-walk
+    walk-requires
+    same-length
+    returns)
