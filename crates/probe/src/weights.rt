@@ -13,6 +13,9 @@ pub type Weights = [u64; 192];
 pub fn add(t: &mut Weights, from: u64, m: u64, w: u64)
     requires { ⌜ from ≤ 128 ⌝ }
 {
+    if m == 0 {
+        return;
+    }
     let mut rest = m;
     let mut j: u64 = 0;
     while j < 64 {
@@ -157,22 +160,36 @@ pub fn better(s: Best, at: u64, weight: u64) -> Best {
     s
 }
 
+// Adds the weights of the rules whose places are the members of m, counted from place `from`.
+pub fn add_rules(t: &mut Weights, words: &[u64], n: usize, from: u64, m: u64, free: Pair)
+    requires { ⌜ (n * 8 ≤ length (now words)) × (from ≤ 192) ⌝ }
+{
+    let mut rest = m;
+    let mut j: u64 = 0;
+    while j < 64 {
+        let i = waiting::low(rest);
+        if 64 <= i {
+            return;
+        }
+        let k = (from + i) as usize;
+        if n <= k {
+            return;
+        }
+        add_rule(t, masks::masks_at(words, k), free);
+        rest = waiting::cleared(rest, i);
+        j += 1;
+    }
+}
+
 // The place of the heaviest of the members `free`, over the live rules.
 pub fn heaviest(words: &[u64], n: usize, live: Waiting, free: Pair) -> u64
     requires { ⌜ n * 8 ≤ length (now words) ⌝ }
 {
     let mut t: Weights = [0; 192];
-    let mut rest = live;
-    let mut k: u64 = 0;
-    while k < 256 {
-        let j = waiting::next(rest);
-        if n <= j as usize {
-            break;
-        }
-        add_rule(&mut t, masks::masks_at(words, j as usize), free);
-        rest = waiting::without(rest, j);
-        k += 1;
-    }
+    add_rules(&mut t, words, n, 0, live.a, free);
+    add_rules(&mut t, words, n, 64, live.b, free);
+    add_rules(&mut t, words, n, 128, live.c, free);
+    add_rules(&mut t, words, n, 192, live.d, free);
     let s = heavier(&t, 0, free.held, Best { at: 192, weight: 0 });
     let s = heavier(&t, 64, free.denied, s);
     let s = heavier(&t, 128, free.taken, s);

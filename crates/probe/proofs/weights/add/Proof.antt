@@ -1,5 +1,5 @@
-use Prim.Native.Nat.{_-_, _≤_}
 use borrow.Author.Needs.{needs}
+use Prim.Native.Nat.{_-_, _≤_}
 use Rattle.probe.proofs.weights.add.Statement.{statement}
 use Rattle.probe.proofs.weights.add.Tie as tie
 
@@ -9,14 +9,17 @@ Inv-loop t₀ from m w rest₀ j₀ t rest j = j ≤ 64
 abbrev μ-loop : tie.MeasureT-loop
 μ-loop t₀ from m w rest₀ j₀ t rest j = 64 - j
 
+returns : tie.Need-returns Inv-loop μ-loop
+returns c = search needs
+
 loop-holds : tie.Need-loop-holds Inv-loop μ-loop
 loop-holds c = search needs
 
 low-requires : tie.Need-low-requires Inv-loop μ-loop
 low-requires c κs = search needs
 
-returns : tie.Need-returns Inv-loop μ-loop
-returns c = search needs
+returns-2 : tie.Need-returns-2 Inv-loop μ-loop
+returns-2 c = search needs
 
 add-at : tie.Need-add-at Inv-loop μ-loop
 add-at c = search needs
@@ -48,8 +51,8 @@ loop-less c = search needs
 loop-again : tie.Need-loop-again Inv-loop μ-loop
 loop-again c = search needs
 
-returns-2 : tie.Need-returns-2 Inv-loop μ-loop
-returns-2 c = search needs
+returns-3 : tie.Need-returns-3 Inv-loop μ-loop
+returns-3 c = search needs
 
 pub add-spec : {M : Type 1} → statement M
 add-spec =
@@ -57,9 +60,10 @@ add-spec =
     (tie.spec
     Inv-loop
     μ-loop
+    returns
     loop-holds
     low-requires
-    returns
+    returns-2
     add-at
     mul-wrapping-add-u64
     element-copy-out-wrapping-add-u64
@@ -70,4 +74,4 @@ add-spec =
     add-j
     loop-less
     loop-again
-    returns-2)
+    returns-3)
