@@ -18,7 +18,7 @@ use Rattle.sets.proofs.Digits.{bit-or, bit-lt, bit-zero, lt-or-le}
 use Rattle.sets.proofs.Words.{minus-zero, zero-minus, minus-off, and-none, none-and, none-off, or-r, and-r, sub-or, sub-le}
 use Rattle.book.specs.Kinds.{sets}
 use Rattle.meaning.specs.Books.{Book}
-use Rattle.walk.specs.declared.Strike.{Strike}
+use Rattle.walk.specs.declared.marking.Strike.{Strike}
 use Rattle.walk.specs.Marks.{Struck, shares, between, IsMarked, Marked, Stands, Next, NoneAt, RightMarks, Outranked, WithRank}
 use Rattle.walk.proofs.Steps.{outside, outside-lt, outside-parts, none-after, later, next-in}
 

@@ -28,9 +28,9 @@ use Rattle.admissible.specs.Admissible.{Undominated, Admissible}
 use Rattle.meaning.specs.Books.{Book}
 use Rattle.meaning.specs.Resolutions.{Resolution}
 use Rattle.bridge.proofs.Levels.{cleared-of}
-use Rattle.walk.specs.declared.Strike.{Strike}
+use Rattle.walk.specs.declared.marking.Strike.{Strike}
 use Rattle.walk.specs.Marks.{Struck, shares, between, IsMarked, Marked, NoneAt, Outranked, allOnes, Surpassed}
-use Rattle.walk.specs.declared.Range.{Range}
+use Rattle.walk.specs.declared.ranges.Range.{Range}
 use Rattle.resolution.specs.Rooted.{Rooted}
 use Rattle.resolution.proofs.Resolutions.{resolution-same}
 use Rattle.walk.specs.Plans.{NoView, HasView, Wider, Told, Full, MarksRight, Admits, Bounded}

@@ -9,7 +9,7 @@ use Rattle.sets.specs.Sets.{bitOf, Within, Apart}
 use Rattle.book.specs.Kinds.{sets}
 use Rattle.meaning.specs.Books.{Book}
 use Rattle.meaning.specs.Resolutions.{Resolution}
-use Rattle.walk.specs.declared.Strike.{Strike}
+use Rattle.walk.specs.declared.marking.Strike.{Strike}
 
 -- The set t has a member of `any`, or lies from lo to hi and is not the one left out.
 pub data Struck (s : Strike) (t : ℕ) : Type 0 where

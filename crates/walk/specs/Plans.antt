@@ -13,7 +13,7 @@ use Rattle.bounds.specs.Sound.{In, Propagated, withSets}
 use Rattle.admissible.specs.Admissible.{Minimal, Admissible}
 use Rattle.meaning.specs.Books.{Book}
 use Rattle.resolution.specs.Rooted.{Rooted}
-use Rattle.walk.specs.declared.Range.{Range}
+use Rattle.walk.specs.declared.ranges.Range.{Range}
 use Rattle.walk.specs.Marks.{IsMarked, NoneAt, RightMarks}
 
 -- No view has a set of exceptions from lo to hi.

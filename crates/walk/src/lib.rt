@@ -1,331 +1,27 @@
 // The walk over all sets of exceptions in their order: which of them a resolution can have.
 ghost use mathlib.Core.Path.{_≡_};
 ghost use mathlib.Core.Bool.{true, false};
-ghost use Prim.Native.Nat.{_+_, _*_, _<_, _≤_};
+ghost use Prim.Native.Nat.{_*_, _<_, _≤_};
 ghost use lib.ListN.{length};
-ghost use Rattle.logic.specs.Tests.{Decides};
 ghost use Rattle.book.specs.Kinds.{sets};
-ghost use Rattle.walk.specs.Marks.{Struck, Marked, Stands, Next, Outranked, WithRank, Surpassed};
 ghost use Rattle.order.specs.Order.{order, setAt};
-ghost use Rattle.bounds.specs.Sound.{Propagated, withSets};
 ghost use Rattle.queue.specs.Chains.{Chains};
 ghost use Rattle.page.specs.Pages.{Fits};
 ghost use Rattle.few.specs.Few.{most, Collected};
 ghost use Rattle.walk.specs.Walks.{SetListed, Walked, FirstPage, PageAfter};
-ghost use Rattle.walk.specs.Plans.{NoView, HasView, Wider, MarksRight, Admits, Bounded};
+ghost use Rattle.walk.specs.Plans.{NoView, HasView, MarksRight, Admits, Bounded};
 use book::Book;
+use marking::Marks;
+use marking::Strike;
 use masks::Bounds;
 use order::Table;
 use page::Task;
 use queue::Rest;
-use queue::index;
 use queue::index::Index;
 use queue::waiting;
 
-// A byte for each set of exceptions, not 0 where the set is known to be that of no resolution.
-pub type Marks = [u8; Book::SETS];
-
-// Which sets to mark: those that have a member of `any`, and those from lo to hi but one.
-pub struct Strike {
-    pub lo: u64,
-    pub hi: u64,
-    pub but: u64,
-    pub any: u64,
-}
-
-// The set t is one to mark.
-pub fn struck(s: Strike, t: u64) -> bool
-    ensures { λ r. ⌜ Decides r (Struck s t) ⌝ }
-{
-    if t & s.any != 0 {
-        return true;
-    }
-    if s.lo ^ (s.lo & t) != 0 {
-        return false;
-    }
-    if t ^ (t & s.hi) != 0 {
-        return false;
-    }
-    t != s.but
-}
-
-// Marks the set t if it is one to mark. The result is how many sets are newly marked.
-pub fn mark_one(marks: &mut Marks, s: Strike, t: usize) -> u64
-    requires { ⌜ t < sets ⌝ }
-    ensures { λ _. ⌜ Marked (now (marks .entry)) s t (t + 1) (now (marks .exit)) ⌝ }
-{
-    if marks[t] != 0 {
-        return 0;
-    }
-    if !struck(s, t as u64) {
-        return 0;
-    }
-    marks[t] = 1;
-    1
-}
-
-// The first set that may be one to mark: where no member is asked for, lo itself, if there are sets from lo to hi.
-pub fn first_set(s: Strike) -> usize
-    ensures { λ r. ⌜ Next s 0 r ⌝ }
-{
-    if s.any != 0 {
-        return 0;
-    }
-    if s.lo ^ (s.lo & s.hi) != 0 {
-        return Book::SETS;
-    }
-    s.lo as usize
-}
-
-// The next set after t that may be one to mark: where no member is asked for, the next one from lo to hi. There 1 is added to t with ones at
-// all places outside of hi, so that it is carried over them.
-pub fn next_set(s: Strike, t: usize) -> usize
-    requires { ⌜ (t < sets) × Stands s t ⌝ }
-    ensures { λ r. ⌜ (t < r) × Next s (t + 1) r ⌝ }
-{
-    if s.any != 0 {
-        return t + 1;
-    }
-    let hi = s.hi as usize;
-    let all = Book::SETS - 1;
-    let u = (t | (all ^ (all & hi))) + 1;
-    if Book::SETS <= u {
-        return Book::SETS;
-    }
-    (u & hi) | (s.lo as usize)
-}
-
-// Marks every set that is one to mark. The result is how many sets are newly marked.
-pub fn mark(marks: &mut Marks, s: Strike) -> u64
-    ensures { λ _. ⌜ Marked (now (marks .entry)) s 0 sets (now (marks .exit)) ⌝ }
-{
-    let mut count = 0;
-    let mut t = first_set(s);
-    while t < Book::SETS {
-        count = std::num::wrapping_add_u64(count, mark_one(marks, s, t));
-        t = next_set(s, t);
-    }
-    count
-}
-
-// The set b with those of `rank`, if the exception at place a is taken.
-pub fn with_rank(rank: u64, a: u64, taken: u64, b: u64) -> u64
-    requires { ⌜ a < 64 ⌝ }
-    ensures { λ r. ⌜ WithRank rank a taken b r ⌝ }
-{
-    if (taken >> a) % 2 == 1 {
-        return b | rank;
-    }
-    b
-}
-
-// The exceptions that a member of `taken` outranks.
-pub fn outranked(ranks: &[u64], taken: u64) -> u64
-    requires { ⌜ length (now ranks) ≤ 64 ⌝ }
-    ensures { λ r. ⌜ Outranked (now (ranks .entry)) taken r ⌝ }
-{
-    let mut b = 0;
-    let mut a = 0;
-    while a < ranks.len() {
-        b = with_rank(ranks[a], a as u64, taken, b);
-        a += 1;
-    }
-    b
-}
-
-// Marks the sets that a view with the exceptions `taken` surpasses: those above its set, and those with a member that it outranks.
-pub fn mark_surpassed(ranks: &[u64], taken: u64, marks: &mut Marks)
-    requires { ⌜ length (now ranks) ≤ 64 ⌝ }
-    ensures { λ _. ⌜ Surpassed (now (ranks .entry)) taken (now (marks .entry)) (now (marks .exit)) ⌝ }
-{
-    let any = outranked(ranks, taken);
-    mark(
-        marks,
-        Strike {
-            lo: taken,
-            hi: 0xffff_ffff_ffff_ffff,
-            but: taken,
-            any,
-        },
-    );
-}
-
-// Bounds for the views with a set of exceptions from lo to hi, at rest.
-pub fn narrowed(
-    words: &[u64],
-    n: usize,
-    ranks: &[u64],
-    index: &Index,
-    root: Bounds,
-    lo: u64,
-    hi: u64,
-) -> Rest
-    requires { ⌜ (n * 8 ≤ length (now words)) × (length (now ranks) ≤ 64) × Chains (now words) n (now index) ⌝ }
-    ensures { λ r. ⌜ Propagated (now (words .entry)) n (now (ranks .entry)) (withSets root lo hi) (r .bounds) ⌝ }
-{
-    let b = bounds::with_sets(root, lo, hi);
-    queue::propagate(words, n, ranks, index, index::changed(index, root, b), b)
-}
-
-// Whether propagation alone shows that no view has a set of exceptions from lo to hi.
-pub fn refuted(
-    words: &[u64],
-    n: usize,
-    ranks: &[u64],
-    index: &Index,
-    root: Bounds,
-    lo: u64,
-    hi: u64,
-) -> bool
-    requires { ⌜ (n * 8 ≤ length (now words)) × (length (now ranks) ≤ 64) × Chains (now words) n (now index) ⌝ }
-    ensures { λ r. ⌜ (r ≡ true → NoView (now (words .entry)) n (now (ranks .entry)) root lo hi) ⌝ }
-{
-    let rest = narrowed(words, n, ranks, index, root, lo, hi);
-    let b = rest.bounds;
-    !sets::within(b.lo, b.hi)
-}
-
-// Sets of exceptions from lo to hi.
-pub struct Range {
-    pub lo: u64,
-    pub hi: u64,
-}
-
-// The range s where the exception at place e is decided as t has it: taken, or not taken.
-pub fn fixed(s: Range, t: u64, e: u64) -> Range
-    requires { ⌜ e < 64 ⌝ }
-{
-    let bit = 1 << e;
-    let taken = t & bit;
-    Range {
-        lo: s.lo | taken,
-        hi: (s.hi ^ (s.hi & bit)) | taken,
-    }
-}
-
-// The bounds b where the exception at place e is decided as t has it.
-pub fn decided(b: Bounds, t: u64, e: u64) -> Bounds
-    requires { ⌜ e < 64 ⌝ }
-{
-    let m = bounds::one(bounds::TAKEN, e);
-    if t & m.taken == 0 {
-        return bounds::out(b, m);
-    }
-    bounds::into(b, m)
-}
-
-// From bounds at rest, bounds at rest after that decision.
-pub fn settled(
-    words: &[u64],
-    n: usize,
-    ranks: &[u64],
-    index: &Index,
-    rest: Rest,
-    t: u64,
-    e: u64,
-) -> Rest
-    requires { ⌜ (n * 8 ≤ length (now words)) × (length (now ranks) ≤ 64) × (e < 64) × Chains (now words) n (now index) ⌝ }
-{
-    let b = decided(rest.bounds, t, e);
-    if bounds::unchanged(rest.bounds, b) {
-        return rest;
-    }
-    let w = index::among(index, rest.live, rest.bounds, b);
-    queue::propagate(words, n, ranks, index, w, b)
-}
-
-// The exceptions that the bounds decide otherwise than t.
-pub fn contrary(b: Bounds, t: u64) -> u64 {
-    (b.lo.taken ^ (b.lo.taken & t)) | (t ^ (t & b.hi.taken))
-}
-
-// A decision that is in conflict with those at the places before `before`. The place is 64 if there is none.
-pub struct Conflict {
-    pub place: u64,
-    pub before: usize,
-}
-
-// The first conflict of t's decisions at the places before `end`, made one after the other from bounds at rest.
-pub fn first_conflict(
-    words: &[u64],
-    n: usize,
-    ranks: &[u64],
-    index: &Index,
-    rest: Rest,
-    t: u64,
-    end: usize,
-) -> Conflict
-    requires { ⌜ (n * 8 ≤ length (now words)) × (length (now ranks) ≤ 64) × (end ≤ 64) × Chains (now words) n (now index) ⌝ }
-    ensures { λ r. ⌜ r .before ≤ end ⌝ }
-{
-    let mut r = rest;
-    let mut e = 0;
-    while e < end {
-        let x = contrary(r.bounds, t);
-        if x != 0 {
-            let place = waiting::low(x);
-            return Conflict { place, before: e };
-        }
-        let place = e as u64;
-        r = settled(words, n, ranks, index, r, t, place);
-        if !sets::within(r.bounds.lo, r.bounds.hi) {
-            return Conflict { place, before: e };
-        }
-        e += 1;
-    }
-    let place = waiting::low(contrary(r.bounds, t));
-    Conflict { place, before: e }
-}
-
-// A range around t from a core: a few of t's decisions that are in conflict already. Each round adds one to the core: one that is in
-// conflict with the core and the decisions at the first places. No contract depends on this: a wrong core costs time, not truth.
-pub fn core_around(
-    words: &[u64],
-    n: usize,
-    ranks: &[u64],
-    index: &Index,
-    root: Bounds,
-    t: u64,
-) -> Range
-    requires { ⌜ (n * 8 ≤ length (now words)) × (length (now ranks) ≤ 64) × Chains (now words) n (now index) ⌝ }
-{
-    let mut s = Range {
-        lo: 0,
-        hi: 0xffff_ffff_ffff_ffff,
-    };
-    let mut rest = Rest {
-        bounds: root,
-        live: waiting::everything(),
-    };
-    let mut end = ranks.len();
-    let mut k = 0;
-    while k < ranks.len() {
-        let c = first_conflict(words, n, ranks, index, rest, t, end);
-        if 64 <= c.place {
-            return Range { lo: t, hi: t };
-        }
-        s = fixed(s, t, c.place);
-        rest = settled(words, n, ranks, index, rest, t, c.place);
-        if !sets::within(rest.bounds.lo, rest.bounds.hi) {
-            return s;
-        }
-        end = c.before;
-        k += 1;
-    }
-    s
-}
-
-// A range of sets without a view around one that has none: that from a core, if propagation shows that it has no view.
-pub fn widened(words: &[u64], n: usize, ranks: &[u64], index: &Index, root: Bounds, t: u64) -> Range
-    requires { ⌜ (n * 8 ≤ length (now words)) × (length (now ranks) ≤ 64) × Chains (now words) n (now index) ⌝ }
-    ensures { λ r. ⌜ Wider (now (words .entry)) n (now (ranks .entry)) root (record { lo = t; hi = t }) r ⌝ }
-{
-    let s = core_around(words, n, ranks, index, root, t);
-    if refuted(words, n, ranks, index, root, s.lo, s.hi) {
-        return s;
-    }
-    Range { lo: t, hi: t }
-}
+pub mod marking;
+pub mod ranges;
 
 // Whether a set was admitted, how much may still be spent on marking sets without a view, and where it was admitted bounds at rest for the
 // views that have it, and how many of these the store has.
@@ -375,8 +71,8 @@ pub fn mark_around(
     if credit < WIDENING {
         return credit;
     }
-    let s = widened(words, n, ranks, index, root, t);
-    let earned = mark(
+    let s = ranges::widened(words, n, ranks, index, root, t);
+    let earned = marking::mark(
         marks,
         Strike {
             lo: s.lo,
@@ -407,7 +103,7 @@ pub fn tested(
     requires { ⌜ (n * 8 ≤ length (now words)) × (length (now ranks) ≤ 64) × (t < sets) × Chains (now words) n (now index) ⌝ }
     ensures { λ r. ⌜ (HasView (now (words .entry)) n (now (ranks .entry)) root t → Admits (now (words .entry)) n (now (ranks .entry)) root t known (now (marks .entry)) (now (marks .exit)) r) ⌝ }
 {
-    mark_surpassed(ranks, t, marks);
+    marking::mark_surpassed(ranks, t, marks);
     let place = t as usize;
     if marks[place] != 0 {
         return false;
@@ -446,7 +142,7 @@ pub fn admits(
     if root.lo.taken ^ (root.lo.taken & t) != 0 {
         return refused(root, credit);
     }
-    let rest = narrowed(words, n, ranks, index, root, t, t);
+    let rest = ranges::narrowed(words, n, ranks, index, root, t, t);
     let b = rest.bounds;
     if !sets::within(b.lo, b.hi) {
         let left = mark_around(words, n, ranks, index, root, t, credit, marks);

@@ -4,8 +4,8 @@ use borrow.Author.Needs.{needs}
 use Rattle.book.specs.Kinds.{sets}
 use Rattle.walk.specs.Marks.{Marked, Stands}
 use Rattle.walk.proofs.Marks.{marked-none, marked-more, marked-all}
-use Rattle.walk.proofs.mark.Statement.{statement}
-use Rattle.walk.proofs.mark.Tie as tie
+use Rattle.walk.proofs.marking.mark.Statement.{statement}
+use Rattle.walk.proofs.marking.mark.Tie as tie
 
 abbrev Inv-loop : tie.InvT-loop
 Inv-loop marks₀ s count₀ t₀ marks count t = Marked marks₀ s 0 t marks × (t < sets → Stands s t)

@@ -1,7 +1,7 @@
 use Rattle.walk.proofs.Marks.{next-any, first-none, first-lo}
 use borrow.Author.Needs.{needs}
-use Rattle.walk.proofs.first_set.Statement.{statement}
-use Rattle.walk.proofs.first_set.Tie as tie
+use Rattle.walk.proofs.marking.first_set.Statement.{statement}
+use Rattle.walk.proofs.marking.first_set.Tie as tie
 
 returns : tie.Need-returns
 returns c = next-any _ (search needs) _

@@ -1,7 +1,7 @@
 use Rattle.walk.proofs.Plans.{wider-yes}
 use borrow.Author.Needs.{needs}
-use Rattle.walk.proofs.widened.Statement.{statement}
-use Rattle.walk.proofs.widened.Tie as tie
+use Rattle.walk.proofs.ranges.widened.Statement.{statement}
+use Rattle.walk.proofs.ranges.widened.Tie as tie
 
 core-around-requires : tie.Need-core-around-requires
 core-around-requires c κs = search needs

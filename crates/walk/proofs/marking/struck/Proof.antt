@@ -1,7 +1,7 @@
 use borrow.Author.Needs.{needs}
 use Rattle.walk.proofs.Marks.{struck-shares, struck-below, struck-above, struck-between}
-use Rattle.walk.proofs.struck.Statement.{statement}
-use Rattle.walk.proofs.struck.Tie as tie
+use Rattle.walk.proofs.marking.struck.Statement.{statement}
+use Rattle.walk.proofs.marking.struck.Tie as tie
 
 returns : tie.Need-returns
 returns c = struck-shares _ _ (search needs)

@@ -1,6 +1,6 @@
 use borrow.Author.Needs.{needs}
-use Rattle.walk.proofs.narrowed.Statement.{statement}
-use Rattle.walk.proofs.narrowed.Tie as tie
+use Rattle.walk.proofs.ranges.narrowed.Statement.{statement}
+use Rattle.walk.proofs.ranges.narrowed.Tie as tie
 
 with-sets-requires : tie.Need-with-sets-requires
 with-sets-requires c κs = search needs

@@ -3,8 +3,8 @@ use native.Mathlib.Omega.{arith}
 use borrow.Author.Needs.{needs}
 use lib.ListN.{length}
 use Rattle.walk.proofs.Marks.{Upto, none-upto, upto-more, upto-all}
-use Rattle.walk.proofs.outranked.Statement.{statement}
-use Rattle.walk.proofs.outranked.Tie as tie
+use Rattle.walk.proofs.marking.outranked.Statement.{statement}
+use Rattle.walk.proofs.marking.outranked.Tie as tie
 
 abbrev Inv-loop : tie.InvT-loop
 Inv-loop ranks taken b₀ a₀ b a = (a ≤ length ranks) × Upto ranks taken a b

@@ -1,8 +1,8 @@
 use mathlib.Core.Path.{refl}
 use Rattle.walk.proofs.Plans.{refuted-none}
 use borrow.Author.Needs.{needs}
-use Rattle.walk.proofs.refuted.Statement.{statement}
-use Rattle.walk.proofs.refuted.Tie as tie
+use Rattle.walk.proofs.ranges.refuted.Statement.{statement}
+use Rattle.walk.proofs.ranges.refuted.Tie as tie
 
 narrowed-requires : tie.Need-narrowed-requires
 narrowed-requires c κs = search needs

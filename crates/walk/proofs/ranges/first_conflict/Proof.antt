@@ -1,7 +1,7 @@
 use Prim.Native.Nat.{_-_, _≤_}
 use borrow.Author.Needs.{needs}
-use Rattle.walk.proofs.first_conflict.Statement.{statement}
-use Rattle.walk.proofs.first_conflict.Tie as tie
+use Rattle.walk.proofs.ranges.first_conflict.Statement.{statement}
+use Rattle.walk.proofs.ranges.first_conflict.Tie as tie
 
 abbrev Inv-loop : tie.InvT-loop
 Inv-loop words n ranks index t end r₀ e₀ r e = e ≤ end

@@ -2,8 +2,8 @@ use native.Mathlib.Omega.{arith}
 use Rattle.walk.proofs.Marks.{next-any, next-none, next-range, next-later}
 use Rattle.walk.proofs.Steps.{fill-word}
 use borrow.Author.Needs.{needs}
-use Rattle.walk.proofs.next_set.Statement.{statement}
-use Rattle.walk.proofs.next_set.Tie as tie
+use Rattle.walk.proofs.marking.next_set.Statement.{statement}
+use Rattle.walk.proofs.marking.next_set.Tie as tie
 
 add-result : tie.Need-add-result
 add-result c = search needs

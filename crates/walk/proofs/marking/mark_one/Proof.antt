@@ -1,8 +1,8 @@
 use Rattle.walk.proofs.Marks.{marked-there, marked-not, marked-one}
 use borrow.Author.Tests.{not-true, not-false}
 use borrow.Author.Needs.{needs}
-use Rattle.walk.proofs.mark_one.Statement.{statement}
-use Rattle.walk.proofs.mark_one.Tie as tie
+use Rattle.walk.proofs.marking.mark_one.Statement.{statement}
+use Rattle.walk.proofs.marking.mark_one.Tie as tie
 
 element-copy-out-if1 : tie.Need-element-copy-out-if1
 element-copy-out-if1 c = search needs

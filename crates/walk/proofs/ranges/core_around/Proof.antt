@@ -2,8 +2,8 @@ use Prim.Native.Nat.{_-_, _≤_}
 use lib.ListN.{length}
 use native.Mathlib.Omega.{arith}
 use borrow.Author.Needs.{needs}
-use Rattle.walk.proofs.core_around.Statement.{statement}
-use Rattle.walk.proofs.core_around.Tie as tie
+use Rattle.walk.proofs.ranges.core_around.Statement.{statement}
+use Rattle.walk.proofs.ranges.core_around.Tie as tie
 
 abbrev Inv-loop : tie.InvT-loop
 Inv-loop words n ranks index t s₀ rest₀ end₀ k₀ s rest end k = (k ≤ length ranks) × (end ≤ 64)

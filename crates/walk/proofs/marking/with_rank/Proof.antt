@@ -1,7 +1,7 @@
 use Rattle.walk.proofs.Marks.{rank-added, rank-left}
 use borrow.Author.Needs.{needs}
-use Rattle.walk.proofs.with_rank.Statement.{statement}
-use Rattle.walk.proofs.with_rank.Tie as tie
+use Rattle.walk.proofs.marking.with_rank.Statement.{statement}
+use Rattle.walk.proofs.marking.with_rank.Tie as tie
 
 shr-if1 : tie.Need-shr-if1
 shr-if1 c = search needs
