@@ -35,6 +35,16 @@ differ-same (suc (suc x)) h = absurd (omega arith)
 digit-same : (x y : ℕ) → x < 2 → y < 2 → eqb x 1 ≡ eqb y 1 → x ≡ y
 digit-same = by-digits (λ x y. eqb x 1 ≡ eqb y 1 → x ≡ y) (λ e. refl) (λ e. absurd (clash e)) (λ e. absurd (clash (sym e))) (λ e. refl)
 
+-- A digit of two words: they agree where their difference has none there, and where they have the same member.
+xor-same : (x y j : ℕ) → bitOf (bitXor x y) j ≡ 0 → bitOf x j ≡ bitOf y j
+xor-same x y j e = differ-zero _ _ (bit-lt x j) (bit-lt y j) (sym (bit-xor x y j) ∙ e)
+
+same-xor : (x y j : ℕ) → bitOf x j ≡ bitOf y j → bitOf (bitXor x y) j ≡ 0
+same-xor x y j e = bit-xor x y j ∙ ap (λ (u : ℕ). differ u (bitOf y j)) e ∙ differ-same (bitOf y j) (bit-lt y j)
+
+member-same : (x y j : ℕ) → member (suc j) x ≡ member (suc j) y → bitOf x j ≡ bitOf y j
+member-same x y j e = digit-same _ _ (bit-lt x j) (bit-lt y j) (sym (member-suc j x) ∙ e ∙ member-suc j y)
+
 module _ (a b : Pair) where
   -- Where the words of the two pairs differ.
   abbrev pub apartAt : ℕ
@@ -42,16 +52,12 @@ module _ (a b : Pair) where
 
   agree : (j : ℕ) → bitOf apartAt j ≡ 0 → (bitOf (a .held) j ≡ bitOf (b .held) j) × (bitOf (a .denied) j ≡ bitOf (b .denied) j)
   agree j e =
-      let m = max-zero (bitOf (bitXor (a .held) (b .held)) j) (bitOf (bitXor (a .denied) (b .denied)) j) (bit-lt _ j) (bit-lt _ j) (sym (bit-or _ _ j) ∙ e) in (
-        differ-zero _ _ (bit-lt (a .held) j) (bit-lt (b .held) j) (sym (bit-xor (a .held) (b .held) j) ∙ m .0),
-        differ-zero _ _ (bit-lt (a .denied) j) (bit-lt (b .denied) j) (sym (bit-xor (a .denied) (b .denied) j) ∙ m .1),
-      )
+      let m = max-zero (bitOf (bitXor (a .held) (b .held)) j) (bitOf (bitXor (a .denied) (b .denied)) j) (bit-lt _ j) (bit-lt _ j) (sym (bit-or _ _ j) ∙ e) in
+      (xor-same (a .held) (b .held) j (m .0), xor-same (a .denied) (b .denied) j (m .1))
 
   disagree : (j : ℕ) → bitOf apartAt j ≡ 1 → bitOf (a .held) j ≡ bitOf (b .held) j → bitOf (a .denied) j ≡ bitOf (b .denied) j → ⊥
   disagree j e h d =
-      let x : bitOf (bitXor (a .held) (b .held)) j ≡ 0 = bit-xor (a .held) (b .held) j ∙ ap (λ (y : ℕ). differ y (bitOf (b .held) j)) h ∙ differ-same (bitOf (b .held) j) (bit-lt (b .held) j) in
-      let y : bitOf (bitXor (a .denied) (b .denied)) j ≡ 0 = bit-xor (a .denied) (b .denied) j ∙ ap (λ (y : ℕ). differ y (bitOf (b .denied) j)) d ∙ differ-same (bitOf (b .denied) j) (bit-lt (b .denied) j) in
-      let z : bitOf apartAt j ≡ 0 = bit-or (bitXor (a .held) (b .held)) (bitXor (a .denied) (b .denied)) j ∙ ap (λ (u : ℕ). max u (bitOf (bitXor (a .denied) (b .denied)) j)) x ∙ ap (λ (u : ℕ). max 0 u) y in
+      let z : bitOf apartAt j ≡ 0 = bit-or (bitXor (a .held) (b .held)) (bitXor (a .denied) (b .denied)) j ∙ rw (same-xor (a .held) (b .held) j h, same-xor (a .denied) (b .denied) j d) refl in
       omega (arith, e, z)
 
   -- ---- values
@@ -61,10 +67,8 @@ module _ (a b : Pair) where
 
   value-disagree : (j : ℕ) → bitOf apartAt j ≡ 1 → Apart (a .held) (a .denied) → Apart (b .held) (b .denied) → value a (suc j) ≡ value b (suc j) → ⊥
   value-disagree j e x y v =
-      disagree j e
-      (digit-same _ _ (bit-lt (a .held) j) (bit-lt (b .held) j) (sym (member-suc j (a .held)) ∙ held-digit a b (suc j) v ∙ member-suc j (b .held)))
-      (digit-same _ _ (bit-lt (a .denied) j) (bit-lt (b .denied) j)
-      (sym (member-suc j (a .denied)) ∙ denied-digit a b (suc j) (apart-disjoint (a .held) (a .denied) x (suc j)) (apart-disjoint (b .held) (b .denied) y (suc j)) v ∙ member-suc j (b .denied)))
+      disagree j e (member-same (a .held) (b .held) j (held-digit a b (suc j) v))
+      (member-same (a .denied) (b .denied) j (denied-digit a b (suc j) (apart-disjoint (a .held) (a .denied) x (suc j)) (apart-disjoint (b .held) (b .denied) y (suc j)) v))
 
   module _ (i : ℕ) (l : Lowest apartAt i) where
     below : (j : ℕ) → 0 < j → j < i + 1 → value a j ≡ value b j

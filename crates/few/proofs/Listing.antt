@@ -1,15 +1,16 @@
 -- The page of few views: the store, which is not full, has all views within the bounds, and its pairs are put on the page in order.
-use mathlib.Core.Path.{_≡_, refl, sym, ap, _∙_}
-use mathlib.Core.List.{List, [], _∷_}
+use mathlib.Core.Path.{_≡_, sym, ap, _∙_}
+use mathlib.Core.List.{List}
 use mathlib.Core.Logic.{inl, inr, ⊎-elim}
 use Prim.Native.Nat.{ℕ, zero, suc, _+_, _-_, _*_, _<_, _≤_}
 use native.Mathlib.Nat.{zero-add}
 use native.Mathlib.Omega.{arith}
 use lib.ListN.{length, take}
-use lib.Seq.{sets, sets-eq}
+use lib.Seq.{sets, sets-eq, take-all, take-length, length-take-le}
 use Rattle.logic.specs.Lists.{Among}
 use Rattle.sets.specs.declared.Pair.{Pair}
 use Rattle.sets.specs.Pairs.{flat}
+use Rattle.sets.proofs.Digits.{lt-or-le}
 use Rattle.masks.specs.declared.Bounds.{Bounds}
 use Rattle.masks.specs.Views.{MaskView}
 use Rattle.bounds.specs.Sound.{In}
@@ -32,25 +33,16 @@ pairs-at l (suc k) j v m =
     ⊎-elim (λ q. let e : j ≡ j + 0 = omega arith in (0, omega arith, sym q ∙ ap (pairAt l) e))
     (λ n. let h = pairs-at l k (suc j) v n in let e : suc j + h .0 ≡ j + suc (h .0) = omega arith in (suc (h .0), omega (arith, h .1), h .2 ∙ ap (pairAt l) e)) m
 
-take-short : {A : Type 0} (m : ℕ) (xs : List A) → length (take m xs) < m → take m xs ≡ xs
-take-short zero xs h = absurd (omega arith)
-take-short (suc m) [] h = refl
-take-short (suc m) (x ∷ xs) h = ap (λ (l : List _). x ∷ l) (take-short m xs (omega arith))
-
-take-whole : {A : Type 0} (xs : List A) → take (length xs) xs ≡ xs
-take-whole [] = refl
-take-whole (x ∷ xs) = ap (λ (l : List _). x ∷ l) (take-whole xs)
-
 -- A store that is not full has the pairs that were put into it.
 stored : (cap : ℕ) (o o′ : List ℕ) (ys : List Pair) (k : ℕ) → cap * 3 ≤ length o → k < cap → Page cap 0 o o′ ys k → pairsIn o′ 0 k ≡ ys
 stored cap o o′ ys k h l p =
     let z : cap - 0 ≡ cap = omega arith in
     let n : length (take cap ys) ≡ k = let c = rw z at (p .count) in omega arith in
-    let t : take cap ys ≡ ys = take-short cap ys (omega arith) in
+    let t : take cap ys ≡ ys = take-all cap ys (⊎-elim (λ l. omega arith) (λ g. absurd (omega (arith, length-take-le cap ys g))) (lt-or-le (length ys) cap)) in
     let m : length ys ≡ k = ap length (sym t) ∙ n in
     let f : o′ ≡ sets o 0 (flat ys) = rw z at (p .filled) ∙ ap (λ (zs : List Pair). sets o 0 (flat zs)) t in
     let g = sets-eq (flat ys) o 0 (omega (arith, flat-length ys)) in
-    rw (f, g) (pairs-front k ys _ (omega arith) ∙ ap (λ (j : ℕ). take j ys) (sym m) ∙ take-whole ys)
+    rw (f, g) (pairs-front k ys _ (omega arith) ∙ ap (λ (j : ℕ). take j ys) (sym m) ∙ take-length ys)
 
 pub collected-is : (ws : List ℕ) (n : ℕ) (ranks : List ℕ) (b : Bounds) (cap : ℕ) (s s′ : List ℕ) (r : ℕ) → cap * 3 ≤ length s → Gathered ws n ranks b cap 0 s s′ r → Collected ws n ranks b cap s′ r
 collected-is ws n ranks b cap s s′ r h g = record {
