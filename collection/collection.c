@@ -1,5 +1,5 @@
 /*
- * collection: shows a book's resolutions a page at a time, as a museum's collection program would.
+ * collection: shows a book's resolutions one or a page at a time, as a museum's collection program would.
  * It uses the functions of bantameasel.h and nothing else of the engine.
  *
  * The point of a listing is kept between runs in a small text file: one line with the three numbers
@@ -240,12 +240,20 @@ static pair pair_at(const uint64_t *pairs, uint64_t k)
     return p;
 }
 
+/* Makes p pair k of a page. */
+static void put_pair(uint64_t *pairs, uint64_t k, pair p)
+{
+    pairs[3 * k] = p.taken;
+    pairs[3 * k + 1] = p.held;
+    pairs[3 * k + 2] = p.denied;
+}
+
 static bool same(pair p, pair q)
 {
     return p.taken == q.taken && p.held == q.held && p.denied == q.denied;
 }
 
-/* Fetches at most room resolutions later than the point. */
+/* Fetches at most room resolutions later than the point, in one search. */
 static bool fetch(const book *b, point from, uint64_t *pairs, size_t room, uint64_t *count)
 {
     bantameasel_page answer = from.begun
@@ -255,6 +263,40 @@ static bool fetch(const book *b, point from, uint64_t *pairs, size_t room, uint6
         return refused(b->name, answer.refusal, answer.line);
     }
     *count = answer.count;
+    return true;
+}
+
+/* Takes one step of a listing: by First before the first pair, else by After from the point. A resolution found becomes
+   the point; at the End the point stays. */
+static bool step(const book *b, point *at, bool *found)
+{
+    bantameasel_answer answer = at->begun
+        ? bantameasel_after(b->text, b->length, at->at.taken, at->at.held, at->at.denied)
+        : bantameasel_first(b->text, b->length);
+    if (answer.refusal != 0) {
+        return refused(b->name, answer.refusal, answer.line);
+    }
+    *found = answer.found != 0;
+    if (*found) {
+        point next = { true, { answer.taken, answer.held, answer.denied } };
+        *at = next;
+    }
+    return true;
+}
+
+/* Fetches what fetch does, by a step for each resolution. */
+static bool fetch_by_steps(const book *b, point from, uint64_t *pairs, size_t room, uint64_t *count)
+{
+    bool found;
+    for (*count = 0; *count < room; ++*count) {
+        if (!step(b, &from, &found)) {
+            return false;
+        }
+        if (!found) {
+            return true;
+        }
+        put_pair(pairs, *count, from.at);
+    }
     return true;
 }
 
@@ -439,7 +481,7 @@ static bool show_page(const book *b, const char *point_name, point from, const u
     return printed() && write_point(point_name, last);
 }
 
-/* collection BOOK next [COUNT] */
+/* collection BOOK next [COUNT]: a single resolution is found by steps, more by a page. */
 static bool next_page(const book *b, const char *point_name, uint64_t asked)
 {
     point from;
@@ -452,7 +494,7 @@ static bool next_page(const book *b, const char *point_name, uint64_t asked)
     if (pairs == NULL) {
         return fail(b->name, "there is no memory for a page");
     }
-    bool good = fetch(b, from, pairs, room, &found);
+    bool good = asked == 1 ? fetch_by_steps(b, from, pairs, room, &found) : fetch(b, from, pairs, room, &found);
     if (good) {
         good = show_page(b, point_name, from, pairs, found, asked);
     } else if (from.begun) {

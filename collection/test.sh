@@ -18,6 +18,7 @@ trap 'rm -rf "$work"' EXIT
 trap 'exit 1' HUP INT TERM
 program=$work/collection
 checks=0
+steps=30 # how often `next 1` is run on one listing, at most
 
 fail() {
     printf 'FAILED: %s\n' "$1" >&2
@@ -31,19 +32,31 @@ passed() {
     checks=$((checks + 1))
 }
 
-# run STATUS WORD..: the program's exit status is STATUS; what it writes is in out and err.
-run() {
+# ends STATUS COMMAND..: the command's exit status is STATUS; what it writes is in out and err.
+ends() {
     want=$1
     shift
     status=0
-    "$program" "$@" >"$work/out" 2>"$work/err" || status=$?
-    [ "$status" -eq "$want" ] || fail "exit status $status, not $want: collection $*"
+    "$@" >"$work/out" 2>"$work/err" || status=$?
+    [ "$status" -eq "$want" ] || fail "exit status $status, not $want: $*"
     if [ "$want" -eq 0 ]; then
-        [ ! -s "$work/err" ] || fail "a message where all went well: collection $*"
+        [ ! -s "$work/err" ] || fail "a message where all went well: $*"
     else
-        [ -s "$work/err" ] || fail "no message where something went wrong: collection $*"
+        [ -s "$work/err" ] || fail "no message where something went wrong: $*"
     fi
     passed
+}
+
+# run STATUS WORD..: the program ends so; watched STATUS WORD..: it does so under valgrind, which finds nothing.
+run() {
+    wanted=$1
+    shift
+    ends "$wanted" "$program" "$@"
+}
+watched() {
+    wanted=$1
+    shift
+    ends "$wanted" "$VALGRIND" -q --leak-check=full --error-exitcode=99 "$program" "$@"
 }
 
 # said WORDS: the message of the last run has these words.
@@ -106,6 +119,49 @@ check_pages() {
     same "$work/right" "$work/listed" "$1: the listing after from-start"
 }
 
+# step_on NAME: runs `next 1` while more remain, at most as often as steps says; what it prints is in stepped.
+step_on() {
+    : >"$work/stepped"
+    k=0
+    while [ "$k" -lt "$steps" ]; do
+        k=$((k + 1))
+        run 0 -p "$work/point" "$work/$1.book" next 1
+        cat "$work/out" >>"$work/stepped"
+        [ "$(tail -n 1 "$work/out")" = 'More remain.' ] || break
+    done
+}
+
+# after NAME COUNT: begins the listing anew and shows COUNT resolutions; the point reached is in point.
+after() {
+    run 0 -p "$work/point" "$work/$1.book" from-start
+    [ "$2" -eq 0 ] || run 0 -p "$work/point" "$work/$1.book" next "$2"
+}
+
+# check_steps NAME COUNT: past COUNT resolutions, `next 1` again and again prints what one `next 9999` does, with the
+# words that more remain between two resolutions, and reaches the point that one page of as many does.
+check_steps() {
+    after "$1" "$2"
+    step_on "$1"
+    cp "$work/point" "$work/reached"
+    after "$1" "$2"
+    run 0 -p "$work/point" "$work/$1.book" next "$steps"
+    same "$work/point" "$work/reached" "$1: the point reached by next 1 past $2"
+    after "$1" "$2"
+    run 0 -p "$work/point" "$work/$1.book" next 9999
+    awk 'NR > 1 && /  A/ { print "More remain." } { print }' "$work/out" >"$work/whole"
+    sed -n "1,$((2 * steps))p" "$work/whole" >"$work/begun"
+    same "$work/begun" "$work/stepped" "$1: next 1 again and again past $2 differs from next 9999"
+}
+
+# check_all_steps NAME: the listing is stepped through from its start, from each of its resolutions, and at its end.
+check_all_steps() {
+    count=0
+    while [ "$count" -le "$(a_lines "$EXAMPLES/$1.out" | wc -l)" ]; do
+        check_steps "$1" "$count"
+        count=$((count + 1))
+    done
+}
+
 # Every resolution can be picked by its place, one past the last cannot, and each has verdict 0.
 check_picks() {
     book=$work/$1.book
@@ -141,14 +197,28 @@ judged() {
     printed "Verdict $3: "
 }
 
+# misplaced POINT NUMBER: each page of k7 refuses the point of another book by this number, in the same words, and
+# leaves it as it was.
+misplaced() {
+    printf '%s\n' "$1" >"$work/before"
+    cp "$work/before" "$work/point"
+    for what in 'next 2' 'next 1' next; do
+        # shellcheck disable=SC2086
+        run 1 -p "$work/point" "$work/k7.book" $what
+        [ ! -s "$work/out" ] || fail "a page was shown from a point of another book: $what"
+        said "refusal $2: "
+        said 'the point was written down for another book'
+        same "$work/before" "$work/point" "a point that does not fit the book was changed: $what"
+        [ "$what" != 'next 2' ] || cp "$work/err" "$work/words"
+        same "$work/words" "$work/err" "another message than that of next 2: $what"
+    done
+}
+
 # damaged NAME WORDS: under valgrind the program refuses the damaged book with these words, and valgrind finds nothing.
 damaged() {
     for what in next 'pick 1' 'judge A'; do
-        status=0
         # shellcheck disable=SC2086
-        "$VALGRIND" -q --leak-check=full --error-exitcode=99 "$program" "$work/$1" $what \
-            >"$work/out" 2>"$work/err" || status=$?
-        [ "$status" -eq 1 ] || fail "$1: status $status, not 1, under valgrind: $what"
+        watched 1 "$work/$1" $what
         said "$2"
     done
 }
@@ -168,11 +238,22 @@ for stored in "$EXAMPLES"/*.out; do
     *)
         check_pages "$name"
         check_picks "$name"
-        echo "$name: listed by pages in separate runs, picked and judged; resolutions: $(wc -l <"$work/right")" ;;
+        check_all_steps "$name"
+        echo "$name: listed by pages and by next 1, picked and judged; resolutions: $(wc -l <"$work/right")" ;;
     esac
     books=$((books + 1))
 done
 [ "$books" -ge 6 ] || fail "only $books examples were found"
+
+# The one resolution of bare is the pair 0, 0, 0, which After never answers.
+printf 'B   1   1\nZ   0\n' >"$work/bare.book"
+check_steps bare 0
+check_steps bare 1
+cp "$EXAMPLES/many.book" "$work/many.book"
+for count in 0 1 255 256 5000; do
+    check_steps many "$count"
+done
+echo "bare, many: next 1 again and again, $steps times at most, prints what one next 9999 does"
 
 z8='   0   0   0   0   0   0   0   0'
 judged gown "A   0   0   0   0   0$z8+++++" 1
@@ -224,11 +305,7 @@ for point in '' 'start' '1 2
     done
 done
 for point in '4 0 0|12' '0 8 0|13' '0 0 8|13' '0 2 2|14'; do
-    printf '%s\n' "${point%|*}" >"$work/point"
-    cp "$work/point" "$work/before"
-    run 1 -p "$work/point" "$work/k7.book" next
-    said "refusal ${point#*|}: "
-    same "$work/before" "$work/point" "a point that does not fit the book was changed"
+    misplaced "${point%|*}" "${point#*|}"
 done
 printf '1 0 0\n' >"$work/point"
 run 0 -p "$work/point" "$work/k7.book" next 1
@@ -270,15 +347,14 @@ damaged zeros 'refusal 1: '
 damaged bytes 'refusal 3 at line 2: '
 echo "refused 15 damaged books under valgrind, at least one for each refusal 1 to 11"
 
-for words in 'next 2' 'next' 'pick 2' 'from-start'; do
+for words in 'next 1' 'next 1' 'next 2' 'next' 'next 1' 'pick 2' 'from-start' 'next 1'; do
     # shellcheck disable=SC2086
-    "$VALGRIND" -q --leak-check=full --error-exitcode=99 "$program" -p "$work/vpoint" "$work/gown.book" $words \
-        >"$work/out" 2>"$work/err" || fail "valgrind: $words"
-    [ ! -s "$work/err" ] || fail "valgrind: a message of $words"
-    passed
+    watched 0 -p "$work/vpoint" "$work/gown.book" $words
 done
-"$VALGRIND" -q --leak-check=full --error-exitcode=99 "$program" "$work/k7.book" judge "A   2   1   2   0   0$z8+++" \
-    >"$work/out" 2>"$work/err" || fail "valgrind: judge"
+watched 0 "$work/gloves.book" next 1
+watched 1 -p "$work/vpoint" "$work/k7.book" next 1
+said 'the point was written down for another book'
+watched 0 "$work/k7.book" judge "A   2   1   2   0   0$z8+++"
 printed 'Verdict 5: '
 echo "ran next, pick, from-start and judge under valgrind"
 

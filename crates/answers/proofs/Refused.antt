@@ -20,6 +20,10 @@ use Rattle.text.specs.Fields.{firstField}
 use Rattle.text.specs.Lines.{Numbers, numbers, fault, andThen, inside, testField, readFields, headless, missing, miscounted, wholeOf, Line, line, wrong, unless, judged, readRest, readKind, kindFor, readLine, lines, toFirst}
 use Rattle.text.specs.Reading.{Outcome, prepend, onLine, readEnd, readLines, step, rowOf, start, lastByte, readText, shapeOf}
 use Rattle.text.specs.Reading.Outcome.{accepted, refused}
+use Rattle.meaning.specs.Books.{Book, past-exceptions, past-statements, shared}
+use Rattle.meaning.specs.Meant.{bookOf}
+use Rattle.meaning.specs.Order.{Point}
+use Rattle.answers.specs.Means.{Means, text-refused, pair-refused, not-refused}
 
 -- The number of a refusal.
 pub record Fault (q : ℕ) : Type 0 where
@@ -132,3 +136,13 @@ text-known bs = go (ltb longest (length bs)) refl
     go : (b : Bool) → ltb longest (length bs) ≡ b → Known (suc longest) (pick b (refused 1 0) (pick (eqb (lastByte bs) 10) (readLines (lines bs) start 1) (refused 2 0)))
     go true e = (record { low = omega arith; high = omega arith }, omega arith)
     go false e = let h = lines-length bs in either-way (Known (suc longest)) (eqb (lastByte bs) 10) (readLines (lines bs) start 1) (refused 2 0) (lines-known (suc longest) (lines bs) start 1 (let g = ltb-false longest (length bs) e in omega arith)) (record { low = omega arith; high = omega arith }, omega arith)
+
+-- ---- an answer by its meaning
+-- What holds of every refusal whose number is not 0, and of all that is right, holds of what an operation answers.
+pub means-numbered : {A : Type 0} (down : ℕ → ℕ → A) (right : Book → Point → A → Type 0) (P : A → Type 0) → ((q l : ℕ) → 0 < q → P (down q l))
+    → ((b : Book) (from : Point) (x : A) → right b from x → P x) → (bs : List ℕ) (from : Point) (x : A) → Means down right bs from x → P x
+means-numbered down right P turned fine bs from x (text-refused f q l e) = turned q l ((rw e at (text-known bs)) .0 .low)
+means-numbered down right P turned fine bs from x (pair-refused s ws p k e (past-exceptions n)) = turned 12 0 (omega arith)
+means-numbered down right P turned fine bs from x (pair-refused s ws p k e (past-statements t n)) = turned 13 0 (omega arith)
+means-numbered down right P turned fine bs from x (pair-refused s ws p k e (shared t h d n)) = turned 14 0 (omega arith)
+means-numbered down right P turned fine bs from x (not-refused s ws f y e l r) = fine (bookOf s ws) from x r

@@ -26,7 +26,7 @@ linesOf n ps = concatMap (λ p. aLine n p) ps
 unfoldable pub closing : ℕ → List Pair → List ℕ
 closing m ps = pick (ltb m (length ps)) 77 69 ∷ 10 ∷ []
 
--- Resolutions by Line, no more than m, then the closing line. The pairs given are one more than may be printed, if so many are there.
+-- Resolutions by Line, no more than m, then the closing line. The pairs given are all there are, or the first m + 1 of them.
 unfoldable pub printed : ℕ → ℕ → List Pair → List ℕ
 printed m n ps = linesOf n (take m ps) ++ closing m ps
 

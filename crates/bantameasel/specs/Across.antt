@@ -1,10 +1,12 @@
 -- The answers of the operations as a program in C has them: the refusal and its line first, 0 and 0 where there is none; then the answer, or
 -- zeros where it was refused.
 use Prim.Native.Nat.{ℕ}
+use lib.Dec.{eqb}
+use Rattle.logic.specs.Tests.{pick}
 use Rattle.sets.specs.declared.Pair.{Pair}
 use Rattle.text.specs.declared.Reading.{Reading}
 use Rattle.text.specs.declared.Reading.the-variants.{Accepted, Refused}
-use Rattle.meaning.specs.Listings.{Answer, found, end, refused}
+use Rattle.meaning.specs.Listings.{Answer, found, end, refused, Operation, first, after}
 use Rattle.answers.specs.Operations.{Told, told, turned}
 use Rattle.bantameasel.specs.declared.BookAnswer.{BookAnswer}
 use Rattle.bantameasel.specs.declared.Amount.{Amount}
@@ -35,3 +37,15 @@ unfoldable pub answerIn : Answer → PairAnswer
 answerIn (found p) = record { refusal = 0; line = 0; found = 1; taken = p .taken; held = p .held; denied = p .denied }
 answerIn end = record { refusal = 0; line = 0; found = 0; taken = 0; held = 0; denied = 0 }
 answerIn (refused q l) = record { refusal = q; line = l; found = 0; taken = 0; held = 0; denied = 0 }
+
+-- ---- the way back: what a program in C reads off a struct
+unfoldable pub verdictFrom : VerdictAnswer → Told ℕ
+verdictFrom r = pick (eqb (r .refusal) 0) (told (r .verdict)) (turned (r .refusal) (r .line))
+
+unfoldable pub answerFrom : PairAnswer → Answer
+answerFrom r = pick (eqb (r .refusal) 0) (pick (eqb (r .found) 0) end (found (pairOf (r .taken) (r .held) (r .denied)))) (refused (r .refusal) (r .line))
+
+-- What a listing in C is answered, where First handed back the struct f and After with a pair p the struct g p.
+unfoldable pub asksAcross : PairAnswer → (Pair → PairAnswer) → Operation → ℕ → Answer
+asksAcross f g first room = answerFrom f
+asksAcross f g (after p) room = answerFrom (g p)

@@ -7,8 +7,11 @@ ghost use lib.ListN.{length};
 ghost use Rattle.text.specs.Reading.{readAnswer, readWith, readInto};
 ghost use Rattle.text.specs.Writing.{writeAnswer, writeWith, writeInto};
 ghost use Rattle.sets.specs.Pairs.{flat};
-ghost use Rattle.answers.specs.Operations.{answerOf, verdictOf, countOf, lengthOf, counted, left, firstAnswer, afterAnswer, judgeAnswer, lineAnswer, firstPage, pageAfter};
-ghost use Rattle.bantameasel.specs.Across.{bookIn, amountIn, verdictIn, answerIn, pairOf};
+ghost use Rattle.meaning.specs.Order.{start, at};
+ghost use Rattle.meaning.specs.Listings.{refused, FirstLater};
+ghost use Rattle.answers.specs.Means.{Means, Judges};
+ghost use Rattle.answers.specs.Operations.{turned, answerOf, verdictOf, countOf, lengthOf, counted, left, firstAnswer, afterAnswer, judgeAnswer, lineAnswer, firstPage, pageAfter};
+ghost use Rattle.bantameasel.specs.Across.{bookIn, amountIn, verdictIn, answerIn, verdictFrom, answerFrom, pairOf};
 use answers::Found;
 use answers::Judged;
 use answers::Paged;
@@ -190,6 +193,7 @@ pub extern "C" fn bantameasel_judge(
     denied: u64,
 ) -> VerdictAnswer
     ensures { λ r. ⌜ r ≡ verdictIn (judgeAnswer (now (text .entry)) (pairOf taken held denied)) ⌝ }
+    ensures { λ r. ⌜ Means turned Judges (now (text .entry)) (at (pairOf taken held denied)) (verdictFrom r) ⌝ }
 {
     let p = Pair {
         taken,
@@ -203,6 +207,7 @@ pub extern "C" fn bantameasel_judge(
 #[no_mangle]
 pub extern "C" fn bantameasel_first(text: &[u8]) -> PairAnswer
     ensures { λ r. ⌜ r ≡ answerIn (firstAnswer (now (text .entry))) ⌝ }
+    ensures { λ r. ⌜ Means refused FirstLater (now (text .entry)) start (answerFrom r) ⌝ }
 {
     pair_in(operations::first(text))
 }
@@ -211,6 +216,7 @@ pub extern "C" fn bantameasel_first(text: &[u8]) -> PairAnswer
 #[no_mangle]
 pub extern "C" fn bantameasel_after(text: &[u8], taken: u64, held: u64, denied: u64) -> PairAnswer
     ensures { λ r. ⌜ r ≡ answerIn (afterAnswer (now (text .entry)) (pairOf taken held denied)) ⌝ }
+    ensures { λ r. ⌜ Means refused FirstLater (now (text .entry)) (at (pairOf taken held denied)) (answerFrom r) ⌝ }
 {
     let p = Pair {
         taken,

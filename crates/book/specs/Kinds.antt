@@ -36,10 +36,7 @@ kinds =
 unfoldable pub contents : List Content
 contents = Edition ∷ Statements ∷ (replicate ruleFields Literal ++ (Exception ∷ Exception ∷ Total ∷ []))
 
--- What field i of a line of the kind holds; what all its fields hold, left to right.
-unfoldable pub contentOf : Kind → ℕ → Content
-contentOf x i = getD contents (x .from + i) Edition
-
+-- What the fields of a line of the kind hold, left to right.
 unfoldable pub fieldsOf : Kind → List Content
 fieldsOf x = take (x .fields) (drop (x .from) contents)
 
@@ -96,9 +93,9 @@ mostRows = most (λ x. pick (x .row) 1 0) kinds
 unfoldable pub longestTable : ℕ
 longestTable = 4 + most width kinds
 
--- The sets of exceptions.
-abbrev pub sets : ℕ
-sets = 2 ^ limit.exceptions
+-- How many sets of exceptions there are.
+abbrev pub setCount : ℕ
+setCount = 2 ^ limit.exceptions
 
 -- The most rules, plain ones and exceptions.
 abbrev pub rules : ℕ

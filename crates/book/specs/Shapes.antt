@@ -2,7 +2,7 @@
 use Rattle.book.specs.declared.Limits.{Limits}
 use Rattle.book.specs.declared.Shape.{Shape}
 use Rattle.book.specs.Limits as limit
-use Rattle.book.specs.Kinds.{longest, mostRows, longestTable, sets, rules}
+use Rattle.book.specs.Kinds.{longest, mostRows, longestTable, setCount, rules}
 
 -- The limits and all that follows from them.
 unfoldable pub limits : Limits
@@ -15,7 +15,7 @@ limits = record {
   rules = rules;
   rows = mostRows;
   numbers = longestTable;
-  sets = sets;
+  sets = setCount;
 }
 
 -- The shape of the empty book: one statement, no line but B and Z.

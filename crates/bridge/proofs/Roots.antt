@@ -10,7 +10,7 @@ use lib.ListN.{length}
 use lib.Pow.{pow-pos}
 use Rattle.sets.specs.declared.Pair.{Pair}
 use Rattle.sets.specs.Sets.{Within, Apart}
-use Rattle.sets.proofs.Words.{none-sub, and-r, sub-le, apart-disjoint}
+use Rattle.sets.proofs.Words.{none-sub, and-r, sub-le, apart-separate}
 use Rattle.meaning.specs.Literals.{isIn}
 use Rattle.meaning.specs.Books.{Book, Lawful}
 use Rattle.bounds.specs.Sound.{In}
@@ -39,5 +39,5 @@ in-lawful b p i o = record {
   exceptions = below-full (p .taken) (length (b .exceptions)) .1 (i .hi .taken);
   held = below-full (p .held) (b .statements) .1 (i .hi .held);
   denied = below-full (p .denied) (b .statements) .1 (i .hi .denied);
-  apart = apart-disjoint (p .held) (p .denied) o;
+  apart = apart-separate (p .held) (p .denied) o;
 }

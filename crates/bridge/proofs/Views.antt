@@ -11,7 +11,7 @@ use Rattle.logic.specs.Lists.{Every}
 use Rattle.sets.specs.declared.Pair.{Pair}
 use Rattle.sets.specs.Sets.{bitOf, Within, Apart}
 use Rattle.sets.specs.Pairs.{Sub}
-use Rattle.sets.proofs.Words.{contained-within, disjoint-apart, apart-disjoint}
+use Rattle.sets.proofs.Words.{contained-within, separate-apart, apart-separate}
 use Rattle.sets.proofs.Pairs.{sub-trans}
 use Rattle.meaning.specs.Literals.{pos, neg, Conclusions, isIn, _⊆_, Consistent}
 use Rattle.meaning.specs.Rules.{Head, none, gives, Body, Satisfied}
@@ -114,7 +114,7 @@ module _ (b : Book) (ws : List ℕ) (n : ℕ) (pk : Packs b ws n) (p : Pair) whe
 
   coherent-same : Apart (p .held) (p .denied) ↔ Consistent s
   unfolding isIn
-  coherent-same = (apart-disjoint (p .held) (p .denied), disjoint-apart (p .held) (p .denied))
+  coherent-same = (apart-separate (p .held) (p .denied), separate-apart (p .held) (p .denied))
 
   -- Verdict 1: S is an answer set of the plain rules with those of T added.
   pub answers-same : MaskAnswers ws n p ↔ Answers b p

@@ -1,6 +1,6 @@
 // A prepared book: the verdict on a pair, and the pages of its resolutions.
 ghost use Prim.Native.Nat.{_+_, _<_};
-ghost use Rattle.book.specs.Kinds.{sets as setsOf};
+ghost use Rattle.book.specs.Kinds.{setCount};
 ghost use Rattle.meaning.specs.Order.{start, at as atPair};
 ghost use Rattle.queue.specs.Chains.{Chains};
 ghost use Rattle.engine.specs.Loaded.{Small, RootIs, VerdictIs, PageIs};
@@ -65,7 +65,7 @@ pub fn first_in(words: &Words, ranks: &Ranks, s: Shape, out: &mut [u64]) -> usiz
 
 // The first resolutions later than a pair that is lawful in the prepared book.
 pub fn after_in(words: &Words, ranks: &Ranks, s: Shape, p: Pair, out: &mut [u64]) -> usize
-    requires { ⌜ Small s × (p .taken < setsOf) ⌝ }
+    requires { ⌜ Small s × (p .taken < setCount) ⌝ }
     ensures { λ r. ⌜ PageIs s (now (words .entry)) (now (ranks .entry)) (atPair p) (now (out .entry)) (now (out .exit)) r ⌝ }
 {
     let rules = s.plain + s.exceptions;

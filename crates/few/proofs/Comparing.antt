@@ -13,7 +13,7 @@ use Rattle.logic.proofs.Decide.{clash}
 use Rattle.sets.specs.declared.Pair.{Pair}
 use Rattle.sets.specs.Sets.{bitOf, member, Apart}
 use Rattle.sets.proofs.Digits.{by-digits, bit-lt, bit-or, bit-xor, ext}
-use Rattle.sets.proofs.Words.{member-suc, apart-disjoint}
+use Rattle.sets.proofs.Words.{member-suc, apart-separate}
 use Rattle.sets.proofs.Pairs.{pair}
 use Rattle.bounds.specs.Singles.{Lowest}
 use Rattle.meaning.specs.Order.{value, differs}
@@ -68,7 +68,7 @@ module _ (a b : Pair) where
   value-disagree : (j : ℕ) → bitOf apartAt j ≡ 1 → Apart (a .held) (a .denied) → Apart (b .held) (b .denied) → value a (suc j) ≡ value b (suc j) → ⊥
   value-disagree j e x y v =
       disagree j e (member-same (a .held) (b .held) j (held-digit a b (suc j) v))
-      (member-same (a .denied) (b .denied) j (denied-digit a b (suc j) (apart-disjoint (a .held) (a .denied) x (suc j)) (apart-disjoint (b .held) (b .denied) y (suc j)) v))
+      (member-same (a .denied) (b .denied) j (denied-digit a b (suc j) (apart-separate (a .held) (a .denied) x (suc j)) (apart-separate (b .held) (b .denied) y (suc j)) v))
 
   module _ (i : ℕ) (l : Lowest apartAt i) where
     below : (j : ℕ) → 0 < j → j < i + 1 → value a j ≡ value b j

@@ -6,7 +6,7 @@ use native.Mathlib.Omega.{arith}
 use lib.Bits.{bitAnd}
 use lib.Pow.{split, pow-pos}
 use Rattle.sets.specs.declared.Pair.{Pair}
-use Rattle.sets.proofs.Words.{and-none, none-and, apart-disjoint, disjoint-apart}
+use Rattle.sets.proofs.Words.{and-none, none-and, apart-separate, separate-apart}
 use Rattle.meaning.specs.Literals.{isIn}
 use Rattle.meaning.specs.Books.{past-exceptions, past-statements, shared}
 use Rattle.meaning.proofs.Refusals.{refusal-one, lawful-none}
@@ -36,7 +36,7 @@ module _ (s x : ℕ) (p : Pair) where
       both-signs n = record {
         refusal = λ b es ex.
             sym (refusal-one b p 14 (shared (rw ex (small (p .taken) x t)) (rw es (small (p .held) s h)) (rw es (small (p .denied) s d))
-            (λ c. n (none-and (p .held) (p .denied) (disjoint-apart (p .held) (p .denied) c)))));
+            (λ c. n (none-and (p .held) (p .denied) (separate-apart (p .held) (p .denied) c)))));
       }
 
       pub none-applies : bitAnd (p .held) (p .denied) ≡ 0 → Refuses s x p 0
@@ -47,6 +47,6 @@ module _ (s x : ℕ) (p : Pair) where
               exceptions = rw ex (small (p .taken) x t);
               held = rw es (small (p .held) s h);
               denied = rw es (small (p .denied) s d);
-              apart = apart-disjoint (p .held) (p .denied) (and-none (p .held) (p .denied) e);
+              apart = apart-separate (p .held) (p .denied) (and-none (p .held) (p .denied) e);
             }));
       }

@@ -15,7 +15,7 @@ use Rattle.sets.specs.declared.Pair.{Pair}
 use Rattle.sets.proofs.Digits.{lt-or-le}
 use Rattle.book.specs.declared.Shape.{Shape}
 use Rattle.book.specs.Limits as limit
-use Rattle.book.specs.Kinds.{sets as setsOf, longest, most, bytes, kinds}
+use Rattle.book.specs.Kinds.{setCount, longest, most, bytes, kinds}
 use Rattle.text.specs.declared.Refusal.{Refusal}
 use Rattle.text.specs.Fields.{written, writtenAll, columns}
 use Rattle.text.specs.Reading.{readText}
@@ -124,7 +124,7 @@ module _ (s : Shape) (ws ranks : List ℕ) (from : Point) (m : ℕ) (o o′ : Li
     pub lists : Lists s ws ranks from m out r
     lists = ⊎-elim (λ a. ended (a .0) (a .1)) (λ a. ⊎-elim (λ c. cut (c .0) (c .1)) (λ c. filled (c .0) (c .1)) a) (three-ways (s .statements) o′ k m out r few)
 
-pub few-taken : (s : Shape) (ws ranks : List ℕ) (p : Pair) → Ready s ws ranks p → p .taken < setsOf
+pub few-taken : (s : Shape) (ws ranks : List ℕ) (p : Pair) → Ready s ws ranks p → p .taken < setCount
 few-taken s ws ranks p d =
     let h : length (bookOf s (d .rows) .exceptions) ≤ limit.exceptions = rw (exceptions-count s (d .rows)) (d .loaded .exceptions) in
     lt-of-lt-of-le (d .lawful .exceptions) (pow-mono h)

@@ -1,14 +1,14 @@
--- Demand 3 follows from what First and After answer call by call. Idea: a call that goes on hands out the head of the list of all later
--- resolutions and leaves its tail; a refused call leaves the list as it is.
+-- Demand 3 of every list of calls follows from what First and After answer call by call. Idea: a call that goes on hands out the head of the
+-- list of all later resolutions and leaves its tail; a refused call leaves the list as it is.
 use mathlib.Core.Path.{_≡_, refl, sym, ap, _∙_}
 use mathlib.Core.Bool.{Bool, true, false}
-use mathlib.Core.List.{List, [], _∷_}
+use mathlib.Core.List.{List, [], _∷_, _++_}
 use mathlib.Core.Logic.{_⊎_, inl, inr, ⊎-elim, _↔_}
-use Prim.Native.Nat.{ℕ, zero, suc, _+_}
+use Prim.Native.Nat.{ℕ, zero, suc, _+_, _≤_}
 use native.Mathlib.Omega.{arith}
 use lib.Dec.{ltb}
-use lib.ListN.{length, take, drop, length-take, length-drop}
-use lib.Seq.{take-add, drop-drop}
+use lib.ListN.{length, take, drop}
+use lib.Seq.{take-add}
 use borrow.Author.Tests.{ltb-true, lt-ltb}
 use Rattle.logic.specs.Lists.{Among}
 use Rattle.logic.proofs.Members.{every-at, every-of}
@@ -16,7 +16,7 @@ use Rattle.sets.specs.declared.Pair.{Pair}
 use Rattle.meaning.specs.Books.{Book, PairRefused, past-exceptions, past-statements, shared}
 use Rattle.meaning.specs.Resolutions.{Resolution}
 use Rattle.meaning.specs.Order.{Before, Point, start, at, LawfulPoint, Later, AllLater}
-use Rattle.meaning.specs.Listings.{Answer, found, end, refused, Operation, first, after, pointOf, FirstLater, Refused, unlawful, short, Call, goOn, turnedDown, onward, handed, moved, goings, answered, answersTo, listing, reached, OfKind, Calls, Meets, Listed, Demand3}
+use Rattle.meaning.specs.Listings.{Answer, found, end, refused, Operation, first, after, pointOf, FirstLater, Refused, unlawful, short, Call, goOn, turnedDown, onward, handed, moved, goings, answered, answersTo, listing, reached, OfKind, Calls, Meets, Script, Demand3, PointAlone}
 use Rattle.meaning.specs.Twins.Next.{nextFrom}
 use Rattle.meaning.specs.Twins.Verdicts.{pairRefusal}
 use Rattle.meaning.proofs.Refusals.{lawful-or-refused, refusal-one, lawful-none}
@@ -59,13 +59,41 @@ module _ (b : Book) (from : Point) where
   going (q ∷ qs) end f a = absurd (f q (a .only .0 .0) (a .only .0 .1))
   going xs (refused k line) f a = absurd f
 
-  -- It is End exactly if the list is empty.
-  ended : (xs : List Pair) (x : Answer) → FirstLater b from x → AllLater b from xs → (x ≡ end) ↔ (length xs ≡ 0)
-  ended [] (found p) f a = absurd (a .all p (f .0) (f .1))
-  ended [] end f a = (λ e. refl, λ e. refl)
-  ended (q ∷ qs) (found p) f a = (λ e. absurd (no-end p e), λ e. absurd (omega arith))
-  ended (q ∷ qs) end f a = absurd (f q (a .only .0 .0) (a .only .0 .1))
-  ended xs (refused k line) f a = absurd f
+  -- It is the head of the list; where the list is empty, End.
+  next-answer : (x : Pair) (xs : List Pair) (y : Answer) → FirstLater b from y → AllLater b from (x ∷ xs) → y ≡ found x
+  next-answer x xs (found p) f a = ap found (head-first p x xs a f)
+  next-answer x xs end f a = absurd (f x (a .only .0 .0) (a .only .0 .1))
+  next-answer x xs (refused k l) f a = absurd f
+
+  ended : (y : Answer) → FirstLater b from y → AllLater b from [] → y ≡ end
+  ended (found p) f a = absurd (a .all p (f .0) (f .1))
+  ended end f a = refl
+  ended (refused k l) f a = absurd f
+
+-- An operation that is not refused is asked from a lawful point.
+lawful-point : (b : Book) (needed : ℕ) (op : Operation) (room : ℕ) → ((k : ℕ) → Refused b needed op room k → ⊥) → LawfulPoint b (pointOf op)
+lawful-point b needed first room n = tt
+lawful-point b needed (after p) room n = ⊎-elim (λ l. l .0) (λ f. absurd (n (pairRefusal b p) (unlawful p room (pairRefusal b p) f))) (lawful-or-refused b p)
+
+-- In a script a call that goes on is answered End exactly when the calls before it have left none.
+module _ (b : Book) (needed : ℕ) where
+  ends-at : (before rest : List Call) (room : ℕ) (xs : List Pair) (ahead behind : List Answer) (y : Answer)
+      → Script b needed (before ++ (goOn room ∷ rest)) xs (ahead ++ (y ∷ behind)) → length ahead ≡ length before → (y ≡ end) ↔ (length xs ≤ goings before)
+  unfolding goings
+  ends-at [] rest room [] [] behind y s e = (λ _. omega arith, λ _. s .0)
+  ends-at [] rest room (x ∷ xs) [] behind y s e = (λ d. absurd (no-end x (sym (s .0) ∙ d)), λ h. absurd (omega arith))
+  ends-at [] rest room xs (z ∷ ahead) behind y s e = absurd (omega arith)
+  ends-at (c ∷ before) rest room xs [] behind y s e = absurd (omega arith)
+  ends-at (goOn r ∷ before) rest room [] (z ∷ ahead) behind y s e =
+      let i = ends-at before rest room [] ahead behind y (s .1) (omega arith) in (λ d. omega arith, λ h. i .1 (omega arith))
+  ends-at (goOn r ∷ before) rest room (x ∷ xs) (z ∷ ahead) behind y s e =
+      let i = ends-at before rest room xs ahead behind y (s .1) (omega arith) in (λ d. let h = i .0 d in omega arith, λ h. i .1 (omega arith))
+  ends-at (turnedDown op r ∷ before) rest room xs (z ∷ ahead) behind y s e = ends-at before rest room xs ahead behind y (s .1) (omega arith)
+
+  script-ends : (cs : List Call) (xs : List Pair) (ys : List Answer) → Script b needed cs xs ys
+      → (before rest : List Call) (room : ℕ) (ahead behind : List Answer) (y : Answer) → cs ≡ before ++ (goOn room ∷ rest) → ys ≡ ahead ++ (y ∷ behind)
+      → length ahead ≡ length before → (y ≡ end) ↔ (length xs ≤ goings before)
+  script-ends cs xs ys s before rest room ahead behind y e d n = ends-at before rest room xs ahead behind y (rw (e, d) at s) n
 
 module _ (b : Book) (needed : ℕ) (ask : Operation → ℕ → Answer) (meets : Meets b needed ask) where
   same-point : (from : Point) → pointOf (onward from) ≡ from
@@ -73,12 +101,12 @@ module _ (b : Book) (needed : ℕ) (ask : Operation → ℕ → Answer) (meets :
   same-point (at p) = refl
 
   -- The answer to a call that goes on.
-  onward-first : (from : Point) (room : ℕ) → OfKind b needed ask (goOn room) from → FirstLater b from (ask (onward from) room)
+  onward-first : (from : Point) (room : ℕ) → OfKind b needed (goOn room) from → FirstLater b from (ask (onward from) room)
   onward-first from room n = rw (same-point from) at (meets .answers (onward from) room n)
 
   -- One call, with the number that it counts for.
-  stepped : (c : Call) (from : Point) (xs : List Pair) → AllLater b from xs → OfKind b needed ask c from
-      → (handed (answered b needed ask c from) ≡ take (goings (c ∷ [])) xs) × AllLater b (moved (answered b needed ask c from) from) (drop (goings (c ∷ [])) xs)
+  stepped : (c : Call) (from : Point) (xs : List Pair) → AllLater b from xs → OfKind b needed c from
+      → (handed (answered ask c from) ≡ take (goings (c ∷ [])) xs) × AllLater b (moved (answered ask c from) from) (drop (goings (c ∷ [])) xs)
   unfolding answered goings handed moved
   stepped (goOn room) from xs a n = going b from xs (ask (onward from) room) (onward-first from room n) a
   stepped (turnedDown op room) from xs a n = rw (meets .refuses op room (n .0) (n .1)) (refl, a)
@@ -88,53 +116,70 @@ module _ (b : Book) (needed : ℕ) (ask : Operation → ℕ → Answer) (meets :
   one-more (goOn room) cs = omega arith
   one-more (turnedDown op room) cs = omega arith
 
-  -- Any list of calls: what is handed out, and what is later than the point reached.
-  done : (cs : List Call) (from : Point) (xs : List Pair) → AllLater b from xs → Calls b needed ask cs from
-      → (listing b needed ask cs from ≡ take (goings cs) xs) × AllLater b (reached b needed ask cs from) (drop (goings cs) xs)
-  unfolding listing reached goings
-  done [] from xs a c = (refl, a)
-  done (c ∷ cs) from xs a k =
+  -- What a list of calls hands out.
+  handing : (cs : List Call) (from : Point) (xs : List Pair) → AllLater b from xs → Calls b needed ask cs from → listing ask cs from ≡ take (goings cs) xs
+  unfolding listing goings
+  handing [] from xs a c = refl
+  handing (c ∷ cs) from xs a k =
       let s = stepped c from xs a (k .0) in
-      let r = done cs (moved (answered b needed ask c from) from) (drop (goings (c ∷ [])) xs) (s .1) (k .1) in
-      rw (one-more c cs) (
-        rw (s .0, r .0) (sym (take-add (goings (c ∷ [])) (goings cs) xs)),
-        rw (drop-drop (goings cs) (goings (c ∷ [])) xs) at (r .1),
-      )
+      rw (one-more c cs, s .0, handing cs (moved (answered ask c from) from) (drop (goings (c ∷ [])) xs) (s .1) (k .1)) (sym (take-add (goings (c ∷ [])) (goings cs) xs))
 
-  listed-from : (from : Point) (xs : List Pair) → AllLater b from xs → Listed b needed ask from
+  -- What it is answered.
+  pub scripted : (cs : List Call) (from : Point) (xs : List Pair) → AllLater b from xs → Calls b needed ask cs from → Script b needed cs xs (answersTo ask cs from)
+  unfolding answersTo answered goings
+  scripted [] from xs a k = tt
+  scripted (goOn room ∷ cs) from [] a k = (
+    ended b from (ask (onward from) room) (onward-first from room (k .0)) a,
+    scripted cs (moved (ask (onward from) room) from) [] (stepped (goOn room) from [] a (k .0) .1) (k .1),
+  )
+  scripted (goOn room ∷ cs) from (x ∷ xs) a k = (
+    next-answer b from x xs (ask (onward from) room) (onward-first from room (k .0)) a,
+    scripted cs (moved (ask (onward from) room) from) xs (stepped (goOn room) from (x ∷ xs) a (k .0) .1) (k .1),
+  )
+  scripted (turnedDown op room ∷ cs) from xs a k = (
+    (k .0 .0, k .0 .1, meets .refuses op room (k .0 .0) (k .0 .1)),
+    scripted cs (moved (ask op room) from) xs (stepped (turnedDown op room) from xs a (k .0) .1) (k .1),
+  )
+
+  -- The claim, whole, for every lawful beginning and every list of calls.
+  pub demand3 : (cs : List Call) (from : Point) → LawfulPoint b from → Calls b needed ask cs from → Demand3 b needed from cs (answersTo ask cs from) (listing ask cs from)
+  demand3 cs from l k =
+      let a = all-later b from l in
+      let s = scripted cs from (a .0) (a .1) k in
+      record {
+        all = a .0;
+        later = a .1;
+        script = s;
+        handed-out = handing cs from (a .0) (a .1) k;
+        ends = script-ends b needed cs (a .0) (answersTo ask cs from) s;
+      }
+
+module _ (b : Book) (needed : ℕ) (ask ask′ : Operation → ℕ → Answer) (m : Meets b needed ask) (m′ : Meets b needed ask′) where
+  same-answer : (c : Call) (from : Point) → OfKind b needed c from → answered ask c from ≡ answered ask′ c from
   unfolding answered
-  listed-from from xs a =
-      record {
-        all = xs;
-        later = a;
-        handed-out = λ cs c. done cs from xs a c .0;
-        so-many = λ cs c. ap length (done cs from xs a c .0) ∙ length-take (goings cs) xs;
-        ends = λ cs c room n.
-            let r = reached b needed ask cs from in
-            let e = ended b r (drop (goings cs) xs) (ask (onward r) room) (onward-first r room n) (done cs from xs a c .1) in
-            let l = length-drop (goings cs) xs in
-            (λ x. let z = e .0 x in omega arith, λ x. e .1 (l ∙ omega arith));
-      }
+  same-answer (goOn room) from n =
+      let op = onward from in
+      let l = lawful-point b needed op room n in
+      next-iff b (pointOf op) l (ask op room) .0 (m .answers op room n) ∙ sym (next-iff b (pointOf op) l (ask′ op room) .0 (m′ .answers op room n))
+  same-answer (turnedDown op room) from n = m .refuses op room (n .0) (n .1) ∙ sym (m′ .refuses op room (n .0) (n .1))
 
-  -- The claim, whole.
-  pub demand3 : Demand3 b needed ask
-  demand3 =
-      record {
-        listed = λ from l. let a = all-later b from l in listed-from from (a .0) (a .1);
-        turned-down = meets .refuses;
-        point-alone = λ cs ds from onto e es. ap (answersTo b needed ask es) e;
-      }
+  -- Two engines that answer call by call as they should give the same answers from the same point.
+  alike : (es : List Call) (from : Point) → Calls b needed ask es from → answersTo ask es from ≡ answersTo ask′ es from
+  unfolding answersTo
+  alike [] from k = refl
+  alike (c ∷ cs) from k =
+      ap (λ (l : List Answer). answered ask c from ∷ l) (alike cs (moved (answered ask c from) from) (k .1))
+      ∙ ap (λ (a : Answer). a ∷ answersTo ask′ cs (moved a from)) (same-answer c from (k .0))
+
+  pub point-alone : PointAlone b needed ask ask′
+  point-alone cs ds es from onto e k = alike es (reached ask cs from) k ∙ ap (answersTo ask′ es) e
 
 -- The same from equations: a refused operation answers the refusal, any other the computed answer.
-pub demand3-by-equality : (b : Book) (needed : ℕ) (ask : Operation → ℕ → Answer)
+pub meets-by-equality : (b : Book) (needed : ℕ) (ask : Operation → ℕ → Answer)
     → ((op : Operation) (room k : ℕ) → Refused b needed op room k → ask op room ≡ refused k 0)
-    → ((op : Operation) (room : ℕ) → ((k : ℕ) → Refused b needed op room k → ⊥) → ask op room ≡ nextFrom b (pointOf op)) → Demand3 b needed ask
-demand3-by-equality b needed ask r e =
-    demand3 b needed ask (record { refuses = r; answers = λ op room n. next-iff b (pointOf op) (lawful-point op room n) (ask op room) .1 (e op room n) })
-  where
-    lawful-point : (op : Operation) (room : ℕ) → ((k : ℕ) → Refused b needed op room k → ⊥) → LawfulPoint b (pointOf op)
-    lawful-point first room n = tt
-    lawful-point (after p) room n = ⊎-elim (λ l. l .0) (λ f. absurd (n (pairRefusal b p) (unlawful p room (pairRefusal b p) f))) (lawful-or-refused b p)
+    → ((op : Operation) (room : ℕ) → ((k : ℕ) → Refused b needed op room k → ⊥) → ask op room ≡ nextFrom b (pointOf op)) → Meets b needed ask
+meets-by-equality b needed ask r e =
+    record { refuses = r; answers = λ op room n. next-iff b (pointOf op) (lawful-point b needed op room n) (ask op room) .1 (e op room n) }
 
 -- ---- the demand can be met: a model engine that answers by the definitions
 -- The answer, or the refusal with a number that is not 0.
@@ -150,9 +195,9 @@ unfoldable pub model : Book → ℕ → Operation → ℕ → Answer
 model b needed first room = roomFor (ltb room needed) (nextFrom b start)
 model b needed (after p) room = unless (pairRefusal b p) (roomFor (ltb room needed) (nextFrom b (at p)))
 
-pub model-meets : (b : Book) (needed : ℕ) → Demand3 b needed (model b needed)
+pub model-meets : (b : Book) (needed : ℕ) → Meets b needed (model b needed)
 unfolding model unless roomFor
-model-meets b needed = demand3-by-equality b needed (model b needed) turns answers
+model-meets b needed = meets-by-equality b needed (model b needed) turns answers
   where
     turned : (p : Pair) (k : ℕ) (x : Answer) → PairRefused b p k → unless k x ≡ refused k 0
     turned p k x (past-exceptions n) = refl

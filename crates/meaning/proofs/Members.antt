@@ -8,7 +8,7 @@ use borrow.Author.Tests.{eqb-true, eq-eqb}
 use Rattle.logic.specs.Tests.{either}
 use Rattle.logic.proofs.Decide.{clash}
 use Rattle.sets.specs.Sets.{member}
-use Rattle.sets.proofs.Words.{member-or, member-single, contained-same, disjoint-apart, none-and}
+use Rattle.sets.proofs.Words.{member-or, member-single, contained-same, separate-apart, none-and}
 use Rattle.meaning.specs.Literals.{Literal, pos, neg, Conclusions, isIn, _∈_, _⊆_}
 use Rattle.meaning.specs.Twins.Closure.{addTo, add}
 
@@ -30,7 +30,7 @@ place-same i j a e = rw e refl
 -- A number that is new in the set: the union is the sum.
 add-new : (i a : ℕ) → member i a ≡ false → bitOr a (2 ^ (i - 1)) ≡ a + 2 ^ (i - 1)
 add-new i a e =
-    or-disjoint a (2 ^ (i - 1)) (none-and a (2 ^ (i - 1)) (disjoint-apart a (2 ^ (i - 1))
+    or-disjoint a (2 ^ (i - 1)) (none-and a (2 ^ (i - 1)) (separate-apart a (2 ^ (i - 1))
     (λ j m n. clash (sym e ∙ (place-same i j a (eqb-true (i - 1) (j - 1) (sym (member-single i j) ∙ n)) ∙ m)))))
 
 -- The members of the set with one more number.

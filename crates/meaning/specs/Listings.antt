@@ -1,5 +1,5 @@
 -- A listing and its calls (document 01, 'Six operations'), over the answers that First and After give for one accepted book.
-use Prim.Native.Nat.{ℕ, suc, _<_, _≤_, min}
+use Prim.Native.Nat.{ℕ, suc, _<_, _≤_}
 use mathlib.Core.Path.{_≡_}
 use mathlib.Core.List.{List, [], _∷_, _++_}
 use mathlib.Core.Logic.{_⊎_, _↔_}
@@ -66,7 +66,7 @@ goings (goOn room ∷ cs) = suc (goings cs)
 goings (turnedDown op room ∷ cs) = goings cs
 
 -- `ask` is what the engine answers for the book's text, an operation and the room in the lent buffer.
-module _ (b : Book) (needed : ℕ) (ask : Operation → ℕ → Answer) where
+module _ (ask : Operation → ℕ → Answer) where
   -- What the engine answers to the call at the point.
   unfoldable pub answered : Call → Point → Answer
   answered (goOn room) from = ask (onward from) room
@@ -87,36 +87,45 @@ module _ (b : Book) (needed : ℕ) (ask : Operation → ℕ → Answer) where
   reached [] from = from
   reached (c ∷ cs) from = reached cs (moved (answered c from) from)
 
+module _ (b : Book) (needed : ℕ) where
   -- The call is of its kind at the point: it goes on where no refusal applies, or one applies.
   abbrev pub OfKind : Call → Point → Type 0
   OfKind (goOn room) from = (k : ℕ) → Refused b needed (onward from) room k → ⊥
   OfKind (turnedDown op room) from = (k : ℕ) × Refused b needed op room k
 
-  -- The calls are those of a listing that begins at the point.
-  abbrev pub Calls : List Call → Point → Type 0
-  Calls [] from = Unit {0}
-  Calls (c ∷ cs) from = OfKind c from × Calls cs (moved (answered c from) from)
+  -- The calls, answered so, are those of a listing that begins at the point.
+  abbrev pub Calls : (Operation → ℕ → Answer) → List Call → Point → Type 0
+  Calls ask [] from = Unit {0}
+  Calls ask (c ∷ cs) from = OfKind c from × Calls ask cs (moved (answered ask c from) from)
 
   -- What is asked of First and After call by call.
-  pub record Meets : Type 0 where
+  pub record Meets (ask : Operation → ℕ → Answer) : Type 0 where
     pub refuses : (op : Operation) (room k : ℕ) → Refused b needed op room k → ask op room ≡ refused k 0
     pub answers : (op : Operation) (room : ℕ) → ((k : ℕ) → Refused b needed op room k → ⊥) → FirstLater b (pointOf op) (ask op room)
 
-  -- Of the listings that begin at a point: there is the list of all resolutions later than it, in order, each once; after every list of calls
-  -- the pairs handed out are the first so many of that list, as many as calls not refused or as there are; a refused call answers its refusal;
-  -- and one more call that is not refused answers End exactly when none is left.
-  pub record Listed (from : Point) : Type 0 where
+  -- What a list of calls is answered, xs being the resolutions that are left: a call that goes on is answered with the next of them, or End
+  -- when none is left; a refused call with its refusal, and the same are left.
+  abbrev pub Script : List Call → List Pair → List Answer → Type 0
+  Script [] xs [] = Unit {0}
+  Script [] xs (y ∷ ys) = ⊥
+  Script (c ∷ cs) xs [] = ⊥
+  Script (goOn room ∷ cs) [] (y ∷ ys) = (y ≡ end) × Script cs [] ys
+  Script (goOn room ∷ cs) (x ∷ xs) (y ∷ ys) = (y ≡ found x) × Script cs xs ys
+  Script (turnedDown op room ∷ cs) xs (y ∷ ys) = ((k : ℕ) × Refused b needed op room k × (y ≡ refused k 0)) × Script cs xs ys
+
+  -- Demand 3 of a whole list of calls from a point, whose answers are ys and whose pairs handed out are ps. There is the list of all resolutions
+  -- later than the point, in order, each once, and the answers are its script; the pairs are the first so many of it, as many as calls not
+  -- refused or as there are; and a call that is not refused answers End exactly when those before it have left none.
+  pub record Demand3 (from : Point) (cs : List Call) (ys : List Answer) (ps : List Pair) : Type 0 where
     pub all : List Pair
     pub later : AllLater b from all
-    pub handed-out : (cs : List Call) → Calls cs from → listing cs from ≡ take (goings cs) all
-    pub so-many : (cs : List Call) → Calls cs from → length (listing cs from) ≡ min (goings cs) (length all)
-    pub ends : (cs : List Call) → Calls cs from → (room : ℕ) → OfKind (goOn room) (reached cs from)
-        → (answered (goOn room) (reached cs from) ≡ end) ↔ (length all ≤ goings cs)
+    pub script : Script cs all ys
+    pub handed-out : ps ≡ take (goings cs) all
+    pub ends : (before rest : List Call) (room : ℕ) (ahead behind : List Answer) (y : Answer) → cs ≡ before ++ (goOn room ∷ rest) → ys ≡ ahead ++ (y ∷ behind)
+        → length ahead ≡ length before → (y ≡ end) ↔ (length all ≤ goings before)
 
-  -- Demand 3, one claim about whole lists of calls: every beginning has its listing; a refused call answers the refusal; and listings that
-  -- have reached the same point get the same answers from there, whatever led to it.
-  pub record Demand3 : Type 0 where
-    pub listed : (from : Point) → LawfulPoint b from → Listed from
-    pub turned-down : (op : Operation) (room k : ℕ) → Refused b needed op room k → ask op room ≡ refused k 0
-    pub point-alone : (cs ds : List Call) (from onto : Point) → reached cs from ≡ reached ds onto
-        → (es : List Call) → answersTo es (reached cs from) ≡ answersTo es (reached ds onto)
+  -- The point alone decides: listings of the book that have come to the same point, through whatever calls and by whichever of two such
+  -- engines, get the same answers from there.
+  abbrev pub PointAlone : (Operation → ℕ → Answer) → (Operation → ℕ → Answer) → Type 0
+  PointAlone ask ask′ = (cs ds es : List Call) (from onto : Point) → reached ask cs from ≡ reached ask′ ds onto → Calls ask es (reached ask cs from)
+      → answersTo ask es (reached ask cs from) ≡ answersTo ask′ es (reached ask′ ds onto)

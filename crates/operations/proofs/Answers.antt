@@ -10,7 +10,7 @@ use Rattle.sets.specs.declared.Pair.{Pair}
 use Rattle.sets.specs.Pairs.{flat}
 use Rattle.book.specs.declared.Shape.{Shape}
 use Rattle.book.specs.Limits as limit
-use Rattle.book.specs.Kinds.{sets}
+use Rattle.book.specs.Kinds.{setCount}
 use Rattle.text.specs.declared.Refusal.{Refusal}
 use Rattle.text.specs.Reading.{readText, over}
 use Rattle.text.specs.Reading.Outcome.{accepted, refused as unread}
@@ -97,7 +97,7 @@ module _ (bs : List ℕ) (s : Shape) (ws ranks : List ℕ) (d : (rows : List ℤ
     pub lawful-was : k ≡ 0 → Lawful (bookOf s (d .0)) p
     lawful-was e = none-lawful (bookOf s (d .0)) p (sym same ∙ e)
 
-    pub few-taken : k ≡ 0 → p .taken < sets
+    pub few-taken : k ≡ 0 → p .taken < setCount
     few-taken e = let h : length (bookOf s (d .0) .exceptions) ≤ limit.exceptions = rw (exceptions-count s (d .0)) (d .2 .exceptions) in lt-of-lt-of-le (lawful-was e .exceptions) (pow-mono h)
 
     pub after-refused : (k ≡ 0 → ⊥) → answerOf (Refused (record { number = k; line = 0 })) ≡ afterAnswer bs p

@@ -5,7 +5,7 @@ use mathlib.Core.Path.{_≡_}
 use lib.ListN.{getD}
 use Rattle.sets.specs.Sets.{size}
 use Rattle.book.specs.Limits.{exceptions}
-use Rattle.book.specs.Kinds.{sets}
+use Rattle.book.specs.Kinds.{setCount}
 use Rattle.order.specs.Listed.{upToSize}
 
 -- The set a comes before the set b.
@@ -17,9 +17,9 @@ pub data Earlier (a b : ℕ) : Type 0 where
 
 -- The rule: f gives the set at each place, counted from 0. Every set is present, and a later place has a later set, so each is present once.
 pub record Ordered (f : ℕ → ℕ) : Type 0 where
-  pub below : (k : ℕ) → k < sets → f k < sets
-  pub present : (v : ℕ) → v < sets → (k : ℕ) × (k < sets) × (f k ≡ v)
-  pub rises : (j k : ℕ) → j < k → k < sets → Earlier (f j) (f k)
+  pub below : (k : ℕ) → k < setCount → f k < setCount
+  pub present : (v : ℕ) → v < setCount → (k : ℕ) × (k < setCount) × (f k ≡ v)
+  pub rises : (j k : ℕ) → j < k → k < setCount → Earlier (f j) (f k)
 
 -- All sets of exceptions in their order.
 unfoldable pub order : List ℕ

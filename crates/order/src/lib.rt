@@ -1,7 +1,7 @@
 // The sets of taken exceptions in the order of pairs (document 01), as one constant table.
 ghost use mathlib.Core.Path.{_≡_};
 ghost use Prim.Native.Nat.{_<_};
-ghost use Rattle.book.specs.Kinds.{sets};
+ghost use Rattle.book.specs.Kinds.{setCount};
 ghost use Rattle.order.specs.Order.{order, setAt};
 use book::Book;
 
@@ -4117,7 +4117,7 @@ pub fn table() -> Table
 
 // The set at a place of the lent table, counted from 0.
 pub fn set_in(table: &Table, place: usize) -> u64
-    requires { ⌜ (now table ≡ order) × (place < sets) ⌝ }
+    requires { ⌜ (now table ≡ order) × (place < setCount) ⌝ }
     ensures { λ r. ⌜ r ≡ setAt place ⌝ }
 {
     table[place] as u64

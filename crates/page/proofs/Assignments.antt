@@ -13,7 +13,7 @@ use Rattle.sets.specs.declared.Pair.{Pair}
 use Rattle.sets.specs.Sets.{member, bitOf, Apart, without}
 use Rattle.sets.specs.Pairs.{joinOf, minusOf}
 use Rattle.sets.proofs.Digits.{bit-or, bit-without, bit-lt, bit-zero}
-use Rattle.sets.proofs.Words.{sub-le, minus-sub, member-or, member-without, member-single, member-empty, same-place, apart-disjoint, disjoint-apart}
+use Rattle.sets.proofs.Words.{sub-le, minus-sub, member-or, member-without, member-single, member-empty, same-place, apart-separate, separate-apart}
 use Rattle.meaning.specs.Literals.{isIn}
 use Rattle.meaning.specs.Books.{Book, Lawful}
 use Rattle.meaning.specs.Order.{valueOf, value}
@@ -126,5 +126,5 @@ given-lawful b p i w hi hn l =
       exceptions = rw (given-taken p i w) (l .exceptions);
       held = s .0;
       denied = s .1;
-      apart = apart-disjoint _ _ (sides-apart (p .held) (p .denied) (2 ^ (i - 1)) (said i w .held) (said i w .denied) (disjoint-apart (p .held) (p .denied) (l .apart)) (said-about i w));
+      apart = apart-separate _ _ (sides-apart (p .held) (p .denied) (2 ^ (i - 1)) (said i w .held) (said i w .denied) (separate-apart (p .held) (p .denied) (l .apart)) (said-about i w));
     }

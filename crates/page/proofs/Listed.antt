@@ -16,7 +16,7 @@ use Rattle.logic.proofs.Decide.{clash, decided, holds, decides-and}
 use Rattle.logic.proofs.Members.{every-of, every-at, every-map, keep-in, keep-only, kept-from}
 use Rattle.sets.specs.declared.Pair.{Pair}
 use Rattle.sets.specs.Sets.{size}
-use Rattle.sets.proofs.Words.{apart-disjoint, none-off}
+use Rattle.sets.proofs.Words.{apart-separate, none-off}
 use Rattle.meaning.specs.Literals.{isIn}
 use Rattle.meaning.specs.Books.{Book, Lawful}
 use Rattle.meaning.specs.Resolutions.{Resolution}
@@ -60,7 +60,7 @@ begins-past b point p taken o = record {
 -- The pair without statements is lawful.
 bare-lawful : (b : Book) (taken : ℕ) → taken < 2 ^ length (b .exceptions) → Lawful b (bare taken)
 unfolding isIn
-bare-lawful b taken h = record { exceptions = h; held = pow-pos (b .statements); denied = pow-pos (b .statements); apart = apart-disjoint 0 0 (none-off 0) }
+bare-lawful b taken h = record { exceptions = h; held = pow-pos (b .statements); denied = pow-pos (b .statements); apart = apart-separate 0 0 (none-off 0) }
 
 -- Every pair that the search looks at is lawful and takes these exceptions.
 looked-at : (b : Book) (taken : ℕ) → taken < 2 ^ length (b .exceptions) → (v : Pair) → Among v (allFrom (b .statements) (b .statements) (bare taken)) → Lawful b v × (v .taken ≡ taken)

@@ -10,7 +10,7 @@ use lib.Pow.{pow-pos}
 use borrow.Author.Tests.{eqb-true, eqb-false, eq-eqb, ne-eqb}
 use Rattle.logic.specs.Tests.{Decides, both, either}
 use Rattle.logic.proofs.Decide.{clash}
-use Rattle.sets.specs.Sets.{member, Contained, Disjoint, bitOf, Within, Apart, without}
+use Rattle.sets.specs.Sets.{member, Contained, Separate, bitOf, Within, Apart, without}
 use Rattle.sets.proofs.Digits.{lt-pow, bit-lt, bit-and, bit-or, bit-without, bit-zero, bit-over, bit-single, ext, by-digits}
 
 -- ---- by digits
@@ -173,14 +173,14 @@ pub within-contained : (a b : ℕ) → Within a b → Contained a b
 unfolding member
 within-contained a b f i e = eq-eqb (bitOf b (i - 1)) 1 (let q = eqb-true (bitOf a (i - 1)) 1 e in omega (arith, f (i - 1), bit-lt b (i - 1)))
 
-pub disjoint-apart : (a b : ℕ) → Disjoint a b → Apart a b
-disjoint-apart a b f k =
+pub separate-apart : (a b : ℕ) → Separate a b → Apart a b
+separate-apart a b f k =
     by-digits (λ x y. (eqb x 1 ≡ true → eqb y 1 ≡ true → ⊥) → x + y ≤ 1) (λ g. omega arith) (λ g. omega arith) (λ g. omega arith) (λ g. absurd (g refl refl))
     (bitOf a k) (bitOf b k) (bit-lt a k) (bit-lt b k) (λ e d. f (suc k) (member-suc k a ∙ e) (member-suc k b ∙ d))
 
-pub apart-disjoint : (a b : ℕ) → Apart a b → Disjoint a b
+pub apart-separate : (a b : ℕ) → Apart a b → Separate a b
 unfolding member
-apart-disjoint a b f i e d =
+apart-separate a b f i e d =
     let p = eqb-true (bitOf a (i - 1)) 1 e in
     let q = eqb-true (bitOf b (i - 1)) 1 d in
     omega (arith, f (i - 1))
@@ -199,8 +199,8 @@ same-members a b f = contained-same a b (λ i e. sym (f i) ∙ e) (λ i e. f i �
 pub subset-is : (a b : ℕ) → Decides (eqb (without a b) 0) (Contained a b)
 subset-is a b = decide (without a b) (Contained a b) (λ e. within-contained a b (minus-zero a b e)) (λ f. zero-minus a b (contained-within a b f))
 
-pub disjoint-is : (a b : ℕ) → Decides (eqb (bitAnd a b) 0) (Disjoint a b)
-disjoint-is a b = decide (bitAnd a b) (Disjoint a b) (λ e. apart-disjoint a b (and-none a b e)) (λ f. none-and a b (disjoint-apart a b f))
+pub separate-is : (a b : ℕ) → Decides (eqb (bitAnd a b) 0) (Separate a b)
+separate-is a b = decide (bitAnd a b) (Separate a b) (λ e. apart-separate a b (and-none a b e)) (λ f. none-and a b (separate-apart a b f))
 
 pub off-is : (a b : ℕ) → Decides (eqb (bitAnd a b) 0) (Apart a b)
 off-is a b = decide (bitAnd a b) (Apart a b) (and-none a b) (none-and a b)

@@ -14,8 +14,8 @@ abbrev pub Contained : ℕ → ℕ → Type 0
 Contained a b = (i : ℕ) → member i a ≡ true → member i b ≡ true
 
 -- The sets a and b have no member in common.
-abbrev pub Disjoint : ℕ → ℕ → Type 0
-Disjoint a b = (i : ℕ) → member i a ≡ true → member i b ≡ true → ⊥
+abbrev pub Separate : ℕ → ℕ → Type 0
+Separate a b = (i : ℕ) → member i a ≡ true → member i b ≡ true → ⊥
 
 -- The set a is a proper subset of b.
 pub record ProperSubset (a b : ℕ) : Type 0 where

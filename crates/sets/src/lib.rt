@@ -4,7 +4,7 @@ ghost use mathlib.Core.Bool.{false, not};
 ghost use Prim.Native.Nat.{ℕ, _<_, _≤_};
 ghost use lib.Dec.{eqb};
 ghost use Rattle.logic.specs.Tests.{Decides, both, either};
-ghost use Rattle.sets.specs.Sets.{member as memberOf, Contained, Disjoint, size as sizeOf};
+ghost use Rattle.sets.specs.Sets.{member as memberOf, Contained, Separate, size as sizeOf};
 ghost use Rattle.sets.specs.Pairs.{joinOf, meetOf, minusOf, Sub, Off};
 
 // The set with no number.
@@ -49,7 +49,7 @@ pub fn subset(a: u64, b: u64) -> bool
 
 // No number is in both.
 pub fn disjoint(a: u64, b: u64) -> bool
-    ensures { λ r. ⌜ Decides r (Disjoint a b) ⌝ }
+    ensures { λ r. ⌜ Decides r (Separate a b) ⌝ }
 {
     a & b == 0
 }

@@ -9,7 +9,6 @@ use Rattle.sets.specs.Sets.{member, size}
 use Rattle.sets.specs.declared.Pair.{Pair}
 use Rattle.book.specs.Limits as limit
 use Rattle.text.specs.Fields.{writtenAll}
-use Rattle.text.specs.Reading.{over}
 
 -- The n numbers from i on.
 unfoldable pub from : ℕ → ℕ → List ℕ
@@ -27,7 +26,3 @@ mark p i = pick (member i (p .held)) 43 (pick (member i (p .denied)) 45 46)
 -- The line of a pair in a book of n statements.
 unfoldable pub aLine : ℕ → Pair → List ℕ
 aLine n p = 65 ∷ (writtenAll (map pos (size (p .taken) ∷ takenFields (p .taken))) ++ (map (mark p) (from 1 n) ++ (10 ∷ [])))
-
--- What Line leaves in the lent slice: the line in front, "bytes past the line are unchanged".
-unfoldable pub lineInto : ℕ → Pair → List ℕ → List ℕ
-lineInto n p l = over l (aLine n p)

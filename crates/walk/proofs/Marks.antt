@@ -16,7 +16,7 @@ use Rattle.logic.proofs.Decide.{clash, decided, reworded, holds-or-not, decides
 use Rattle.sets.specs.Sets.{bitOf, Within, Apart, without}
 use Rattle.sets.proofs.Digits.{bit-or, bit-lt, bit-zero, lt-or-le}
 use Rattle.sets.proofs.Words.{minus-zero, zero-minus, minus-off, and-none, none-and, none-off, or-r, and-r, sub-or, sub-le}
-use Rattle.book.specs.Kinds.{sets}
+use Rattle.book.specs.Kinds.{setCount}
 use Rattle.meaning.specs.Books.{Book}
 use Rattle.walk.specs.declared.marking.Strike.{Strike}
 use Rattle.walk.specs.Marks.{Struck, shares, between, IsMarked, Marked, Stands, Next, NoneAt, RightMarks, Outranked, WithRank}
@@ -55,7 +55,7 @@ module _ (s : Strike) where
 
   module _ (e : s .any ≡ 0) where
     -- No set lies from lo to hi.
-    pub first-none : (without (s .lo) (s .hi) ≡ 0 → ⊥) → Next s 0 sets
+    pub first-none : (without (s .lo) (s .hi) ≡ 0 → ⊥) → Next s 0 setCount
     first-none n = record {
       least = λ u h k. let x = in-range s u k e in absurd (n (zero-minus (s .lo) (s .hi) (λ i. le-trans (x .0 i) (x .1 i))));
       stands = λ l. absurd (omega arith);
@@ -72,14 +72,14 @@ module _ (s : Strike) where
     gap = outside (s .hi)
 
     off : Apart gap (s .hi)
-    off = minus-off (sets - 1) (s .hi)
+    off = minus-off (setCount - 1) (s .hi)
 
     module _ (t : ℕ) (w : Stands s t) where
       -- What is within hi of the sum that is carried over the rest.
       abbrev carried : ℕ
       carried = bitAnd (bitOr t gap + 1) (s .hi)
 
-      pub next-none : sets ≤ bitOr t gap + 1 → Next s (t + 1) sets
+      pub next-none : setCount ≤ bitOr t gap + 1 → Next s (t + 1) setCount
       next-none g = record {
         least = λ u h k. none-after (s .hi) gap off t u (outside-lt (s .hi)) (w e .1) (in-range s u k e .1) g (omega arith);
         stands = λ l. absurd (omega arith);
@@ -91,7 +91,7 @@ module _ (s : Strike) where
         stands = λ l y. (or-r carried (s .lo), sub-or carried (s .lo) (s .hi) (and-r (bitOr t gap + 1) (s .hi)) (λ i. le-trans (w e .0 i) (w e .1 i)));
       }
 
-      pub next-later : bitOr t gap + 1 < sets → t < bitOr carried (s .lo)
+      pub next-later : bitOr t gap + 1 < setCount → t < bitOr carried (s .lo)
       next-later h = later (s .hi) gap off t (s .lo) (w e .1) (outside-parts (s .hi) (bitOr t gap + 1) h)
 
 -- ---- all sets
@@ -135,11 +135,11 @@ module _ (s : Strike) (m : List ℕ) where
         (lt-or-le u t);
   }
 
-  pub marked-all : (n : List ℕ) (t : ℕ) → sets ≤ t → Marked m s 0 t n → Marked m s 0 sets n
+  pub marked-all : (n : List ℕ) (t : ℕ) → setCount ≤ t → Marked m s 0 t n → Marked m s 0 setCount n
   marked-all n t h f = record { only = f .only; stays = f .stays; same = f .same; all = λ u a l i k. f .all u a (omega arith) i k }
 
 -- Marks of sets that no resolution has are right.
-pub right-more : (b : Book) (m n : List ℕ) (s : Strike) → RightMarks b m → Marked m s 0 sets n → ((t : ℕ) → Struck s t → NoneAt b t) → RightMarks b n
+pub right-more : (b : Book) (m n : List ℕ) (s : Strike) → RightMarks b m → Marked m s 0 setCount n → ((t : ℕ) → Struck s t → NoneAt b t) → RightMarks b n
 right-more b m n s r f g = record { right = λ t x. ⊎-elim (λ y. r .right t y) (λ k. g t k) (f .only t x) }
 
 -- ---- outranked exceptions

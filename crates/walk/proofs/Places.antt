@@ -14,7 +14,7 @@ use Rattle.sets.specs.Sets.{Within}
 use Rattle.sets.proofs.Digits.{lt-or-le}
 use Rattle.sets.proofs.Words.{sub-le}
 use Rattle.book.specs.Limits.{exceptions}
-use Rattle.book.specs.Kinds.{sets}
+use Rattle.book.specs.Kinds.{setCount}
 use Rattle.order.specs.Order.{setAt, Earlier, fewer, smaller}
 use Rattle.order.proofs.Places.{place-earlier}
 use Rattle.order.proofs.Rule.{order-rule}
@@ -31,7 +31,7 @@ earlier-before p q (fewer l) = order.fewer l
 earlier-before p q (smaller e l) = order.smaller e l
 
 -- A set at an earlier place.
-pub at-or-past : (j k : ℕ) → j ≤ k → k < sets → (p q : Pair) → Passed j p → setAt k ≡ q .taken → Before p q
+pub at-or-past : (j k : ℕ) → j ≤ k → k < setCount → (p q : Pair) → Passed j p → setAt k ≡ q .taken → Before p q
 at-or-past zero k l h p q s e = absurd s
 at-or-past (suc j) k l h p q (inl s) e = at-or-past j k (omega arith) h p q s e
 at-or-past (suc j) k l h p q (inr d) e = earlier-before p q (rw (d, e) at (order-rule .rises j k (omega arith) h))
@@ -44,8 +44,8 @@ passed-at i (suc j) p l e = ⊎-elim (λ x. inl (passed-at i j p x e)) (λ x. in
     last i j l = ⊎-elim (λ e. inr e) (λ n. inl (omega arith)) (holds-or-not (decides-eq i j))
 
 -- All places have every pair whose exceptions the limits allow.
-pub passed-all : (p : Pair) → p .taken < sets → Passed sets p
-passed-all p h = let k = order-rule .present (p .taken) h in passed-at (k .0) sets p (k .1) (k .2)
+pub passed-all : (p : Pair) → p .taken < setCount → Passed setCount p
+passed-all p h = let k = order-rule .present (p .taken) h in passed-at (k .0) setCount p (k .1) (k .2)
 
 passed-or-not : (j : ℕ) (p : Pair) → Passed j p ⊎ (Passed j p → ⊥)
 passed-or-not zero p = inr (λ s. s)
@@ -53,17 +53,17 @@ passed-or-not (suc j) p =
     ⊎-elim (λ s. inl (inl s)) (λ n. ⊎-elim (λ e. inl (inr e)) (λ m. inr (λ s. ⊎-elim n m s)) (holds-or-not (decides-eq (setAt j) (p .taken)))) (passed-or-not j p)
 
 -- A set whose place has not been passed comes after one whose place has.
-rest-after : (j : ℕ) (p q : Pair) → Passed j p → (Passed j q → ⊥) × (q .taken < sets) → Before p q
+rest-after : (j : ℕ) (p q : Pair) → Passed j p → (Passed j q → ⊥) × (q .taken < setCount) → Before p q
 rest-after j p q s n =
     let k = order-rule .present (q .taken) (n .1) in
     ⊎-elim (λ l. absurd (n .0 (passed-at (k .0) j q l (k .2)))) (λ l. at-or-past j (k .0) l (k .1) p q s (k .2)) (lt-or-le (k .0) j)
 
-rest-or-not : (j : ℕ) (q : Pair) → ((Passed j q → ⊥) × (q .taken < sets)) ⊎ ((Passed j q → ⊥) × (q .taken < sets) → ⊥)
+rest-or-not : (j : ℕ) (q : Pair) → ((Passed j q → ⊥) × (q .taken < setCount)) ⊎ ((Passed j q → ⊥) × (q .taken < setCount) → ⊥)
 rest-or-not j q =
-    ⊎-elim (λ s. inr (λ n. n .0 s)) (λ n. ⊎-elim (λ l. inl (n, l)) (λ m. inr (λ x. m (x .1))) (holds-or-not (decides-lt (q .taken) sets))) (passed-or-not j q)
+    ⊎-elim (λ s. inr (λ n. n .0 s)) (λ n. ⊎-elim (λ l. inl (n, l)) (λ m. inr (λ x. m (x .1))) (holds-or-not (decides-lt (q .taken) setCount))) (passed-or-not j q)
 
 -- A proper subset of the set at place j stands at an earlier place.
-pub subset-place : (j : ℕ) → j < sets → (u : ℕ) → Within u (setAt j) → (u ≡ setAt j → ⊥) → (i : ℕ) × (i < j) × (setAt i ≡ u)
+pub subset-place : (j : ℕ) → j < setCount → (u : ℕ) → Within u (setAt j) → (u ≡ setAt j → ⊥) → (i : ℕ) × (i < j) × (setAt i ≡ u)
 subset-place j h u f n =
     let k = order-rule .present u (let x = sub-le u (setAt j) f in let y = order-rule .below j h in omega arith) in
     (k .0, place-earlier order-rule (k .0) j (k .1) (rw (k .2) (subset-earlier u (setAt j) f n)), k .2)
@@ -74,19 +74,19 @@ module _ (b : Book) (from : Point) where
   none-yet = part-none b from (Passed zero) (λ p r l s. s)
 
   -- One place more.
-  pub one-more : (j : ℕ) (xs ys : List Pair) → j < sets → Part b from (Passed j) xs → Part b from (λ p. setAt j ≡ p .taken) ys → Part b from (Passed (suc j)) (xs ++ ys)
+  pub one-more : (j : ℕ) (xs ys : List Pair) → j < setCount → Part b from (Passed j) xs → Part b from (λ p. setAt j ≡ p .taken) ys → Part b from (Passed (suc j)) (xs ++ ys)
   one-more j xs ys h s t = part-join b from (Passed j) (λ p. setAt j ≡ p .taken) xs ys s t (at-or-past j j (le-refl j) h)
 
   -- All places have been passed.
-  pub all-places : (few : length (b .exceptions) ≤ exceptions) (xs : List Pair) → Part b from (Passed sets) xs → AllLater b from xs
-  all-places few xs s = part-all b from (Passed sets) xs (λ p r. passed-all p (lt-of-lt-of-le (r .view .lawful .exceptions) (pow-mono few))) s
+  pub all-places : (few : length (b .exceptions) ≤ exceptions) (xs : List Pair) → Part b from (Passed setCount) xs → AllLater b from xs
+  all-places few xs s = part-all b from (Passed setCount) xs (λ p r. passed-all p (lt-of-lt-of-le (r .view .lawful .exceptions) (pow-mono few))) s
 
   -- Where the walk stops early, the resolutions at the places that are left follow those at the places passed.
   pub cut-short : (few : length (b .exceptions) ≤ exceptions) → LawfulPoint b from → (j : ℕ) (xs : List Pair) → Part b from (Passed j) xs → (ys : List Pair) × AllLater b from (xs ++ ys)
   cut-short few l j xs s =
-      let t = part-there b from (λ p. (Passed j p → ⊥) × (p .taken < sets)) (rest-or-not j) l in (
+      let t = part-there b from (λ p. (Passed j p → ⊥) × (p .taken < setCount)) (rest-or-not j) l in (
         t .0,
-        part-all b from (λ p. Passed j p ⊎ ((Passed j p → ⊥) × (p .taken < sets))) (xs ++ t .0)
+        part-all b from (λ p. Passed j p ⊎ ((Passed j p → ⊥) × (p .taken < setCount))) (xs ++ t .0)
             (λ p r. ⊎-elim (λ x. inl x) (λ n. inr (n, lt-of-lt-of-le (r .view .lawful .exceptions) (pow-mono few))) (passed-or-not j p))
-            (part-join b from (Passed j) (λ p. (Passed j p → ⊥) × (p .taken < sets)) xs (t .0) s (t .1) (rest-after j)),
+            (part-join b from (Passed j) (λ p. (Passed j p → ⊥) × (p .taken < setCount)) xs (t .0) s (t .1) (rest-after j)),
       )

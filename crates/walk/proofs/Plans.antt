@@ -17,7 +17,7 @@ use Rattle.sets.specs.Pairs.{Sub}
 use Rattle.sets.proofs.Digits.{bit-lt}
 use Rattle.sets.proofs.Words.{within-contained, both-ways, off-sub, none-off, zero-minus}
 use Rattle.sets.proofs.Pairs.{sub-trans}
-use Rattle.book.specs.Kinds.{sets}
+use Rattle.book.specs.Kinds.{setCount}
 use Rattle.masks.specs.declared.Bounds.{Bounds}
 use Rattle.masks.specs.Views.{MaskView}
 use Rattle.bounds.specs.Sound.{In, Propagated, withSets}
@@ -97,12 +97,12 @@ module _ (ws : List ℕ) (n : ℕ) (ranks : List ℕ) (root : Bounds) where
   told-none lo hi f m u g h = record { above = λ v x i e. absurd (none-in ws n ranks root lo hi f v x i (rw e g) (rw e h)) }
 
   -- Full marks stay full if the new ones tell of each struck set.
-  full-more : (m m′ : List ℕ) (s : Strike) → Marked m s 0 sets m′ → ((u : ℕ) → Struck s u → Told ws n ranks root m′ u) → Full ws n ranks root m → Full ws n ranks root m′
+  full-more : (m m′ : List ℕ) (s : Strike) → Marked m s 0 setCount m′ → ((u : ℕ) → Struck s u → Told ws n ranks root m′ u) → Full ws n ranks root m → Full ws n ranks root m′
   full-more m m′ s k g f = record { long = rw (k .same) (f .long); told = λ u x. ⊎-elim (λ y. told-kept m m′ (k .stays) u (f .told u y)) (λ y. g u y) (k .only u x) }
 
   -- A range that has no view is marked.
   pub range-marked : (t : ℕ) (s : Range) (but : ℕ) (m m′ : List ℕ) → Wider ws n ranks root (record { lo = t; hi = t }) s
-      → Marked m (record { lo = s .lo; hi = s .hi; but = but; any = 0 }) 0 sets m′ → NoView ws n ranks root t t → MarksRight ws n ranks root m m′
+      → Marked m (record { lo = s .lo; hi = s .hi; but = but; any = 0 }) 0 setCount m′ → NoView ws n ranks root t t → MarksRight ws n ranks root m m′
   range-marked t s but m m′ f k g = record {
     stay = λ b r w. right-more b m m′ _ w k (λ u x. let y = inside u x in none-within b ws n ranks root r (s .lo) (s .hi) (f .still g) u (y .0) (y .1));
     kept = k .stays;
@@ -119,7 +119,7 @@ module _ (ws : List ℕ) (n : ℕ) (ranks : List ℕ) (root : Bounds) (v : Pair)
   strike = record { lo = v .taken; hi = allOnes; but = v .taken; any = p .lower }
 
   -- A proper superset of a struck set is struck.
-  upward : (u t : ℕ) → t < sets → Within u t → (t ≡ u → ⊥) → Struck strike u → Struck strike t
+  upward : (u t : ℕ) → t < setCount → Within u t → (t ≡ u → ⊥) → Struck strike u → Struck strike t
   upward u t h w d (shares x) = shares (λ a. x (off-sub (p .lower) (p .lower) u t (λ i. le-refl _) w a))
   upward u t h w d (between x y z) = between (λ i. le-trans (x i) (w i)) (all-within t h) (λ e. d (both-ways t u (rw e x) w))
 

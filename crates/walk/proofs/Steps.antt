@@ -10,7 +10,7 @@ use Rattle.sets.specs.Sets.{bitOf, Within, Apart, without, sizeTo, size}
 use Rattle.sets.proofs.Digits.{bit-and, bit-or, bit-without, bit-lt, lt-or-le}
 use Rattle.sets.proofs.Words.{sub-or, sub-le, minus-sub, minus-zero, none-and}
 use Rattle.book.specs.Limits as limit
-use Rattle.book.specs.Kinds.{sets}
+use Rattle.book.specs.Kinds.{setCount}
 use Rattle.order.specs.Order.{Earlier, fewer, smaller}
 use Rattle.walk.specs.Marks.{allOnes}
 
@@ -76,11 +76,11 @@ module _ (hi gap : ℕ) (off : Apart gap hi) where
   filled v f = or-disjoint v gap (none-and v gap (λ i. let x = off i in let y = f i in omega arith))
 
   -- If the 1 is carried past the last place, there is none.
-  pub none-after : (t v : ℕ) → gap < sets → Within t hi → Within v hi → sets ≤ bitOr t gap + 1 → t < v → sets ≤ v
+  pub none-after : (t v : ℕ) → gap < setCount → Within t hi → Within v hi → setCount ≤ bitOr t gap + 1 → t < v → setCount ≤ v
   none-after t v b f g h l =
       let x = filled t f in
       let y = filled v g in
-      ⊎-elim (λ a. let z = or-lt limit.exceptions v gap a b in absurd (omega arith)) (λ a. a) (lt-or-le v sets)
+      ⊎-elim (λ a. let z = or-lt limit.exceptions v gap a b in absurd (omega arith)) (λ a. a) (lt-or-le v setCount)
 
   -- Otherwise it comes later: outside of hi the sum has at most gap.
   pub later : (t lo : ℕ) → Within t hi → Within (bitOr t gap + 1) (bitOr (bitAnd (bitOr t gap + 1) hi) gap) → t < bitOr (bitAnd (bitOr t gap + 1) hi) lo
@@ -94,19 +94,19 @@ module _ (hi gap : ℕ) (off : Apart gap hi) where
 
 -- What is outside of hi.
 abbrev pub outside : ℕ → ℕ
-outside hi = without (sets - 1) hi
+outside hi = without (setCount - 1) hi
 
-lt-within : (a b : ℕ) → Within a b → b < sets → a < sets
+lt-within : (a b : ℕ) → Within a b → b < setCount → a < setCount
 lt-within a b f h = let x = sub-le a b f in omega arith
 
-pub outside-lt : (hi : ℕ) → outside hi < sets
-outside-lt hi = lt-within (outside hi) (sets - 1) (minus-sub (sets - 1) hi) (omega arith)
+pub outside-lt : (hi : ℕ) → outside hi < setCount
+outside-lt hi = lt-within (outside hi) (setCount - 1) (minus-sub (setCount - 1) hi) (omega arith)
 
 -- The number with all ones outside of hi has a successor in a word.
-lt-word : (a : ℕ) → a < sets → a + 1 < 2 ^ 64
+lt-word : (a : ℕ) → a < setCount → a + 1 < 2 ^ 64
 lt-word a h = omega arith
 
-pub fill-word : (t hi : ℕ) → t < sets → bitOr t (outside hi) + 1 < 2 ^ 64
+pub fill-word : (t hi : ℕ) → t < setCount → bitOr t (outside hi) + 1 < 2 ^ 64
 fill-word t hi h = lt-word (bitOr t (outside hi)) (or-lt limit.exceptions t (outside hi) h (outside-lt hi))
 
 -- A word is within what it shares with hi and what is outside of hi.
@@ -120,11 +120,11 @@ in-parts all hi u f i =
     let q = bit-lt all i in
     omega arith
 
-pub outside-parts : (hi u : ℕ) → u < sets → Within u (bitOr (bitAnd u hi) (outside hi))
-outside-parts hi u h = in-parts (sets - 1) hi u (minus-zero u (sets - 1) (ap (bitXor u) (and-mask u limit.exceptions ∙ mod-eq-of-lt h) ∙ xor-self u))
+pub outside-parts : (hi u : ℕ) → u < setCount → Within u (bitOr (bitAnd u hi) (outside hi))
+outside-parts hi u h = in-parts (setCount - 1) hi u (minus-zero u (setCount - 1) (ap (bitXor u) (and-mask u limit.exceptions ∙ mod-eq-of-lt h) ∙ xor-self u))
 
 -- Every set of exceptions is within the word of all ones.
-pub all-within : (t : ℕ) → t < sets → Within t allOnes
+pub all-within : (t : ℕ) → t < setCount → Within t allOnes
 all-within t h = minus-zero t allOnes (ap (bitXor t) (and-mask t 64 ∙ mod-eq-of-lt (omega arith)) ∙ xor-self t)
 
 -- A set has no more members than one that contains it, so it comes earlier.

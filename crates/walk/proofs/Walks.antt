@@ -14,7 +14,7 @@ use Rattle.logic.proofs.Decide.{clash, reworded, holds-or-not, decides-eq}
 use Rattle.logic.proofs.Members.{every-at}
 use Rattle.sets.specs.declared.Pair.{Pair}
 use Rattle.sets.proofs.Digits.{lt-or-le}
-use Rattle.book.specs.Kinds.{sets}
+use Rattle.book.specs.Kinds.{setCount}
 use Rattle.order.specs.Order.{setAt}
 use Rattle.order.proofs.Rule.{order-rule}
 use Rattle.masks.specs.declared.Bounds.{Bounds}
@@ -111,7 +111,7 @@ module _ (ws ranks : List ℕ) (root : Bounds) (q : Task) (t : ℕ) (after known
 -- ---- what the marks tell
 module _ (ws : List ℕ) (n : ℕ) (ranks : List ℕ) (root : Bounds) where
   -- Nothing is told at first.
-  pub ready-none : (k : ℕ) → sets ≤ k → Ready ws n ranks root 0 (replicate k 0)
+  pub ready-none : (k : ℕ) → setCount ≤ k → Ready ws n ranks root 0 (replicate k 0)
   ready-none k h = record {
     full = record { long = rw (length-replicate {A = ℕ} k 0) h; told = λ u x. absurd (unmarked k u x) };
     told = λ i l. absurd (omega arith);
@@ -126,7 +126,7 @@ module _ (ws : List ℕ) (n : ℕ) (ranks : List ℕ) (root : Bounds) where
 
   -- Where every place before j has been walked, the set at place j is minimal if it is not marked: a view with a proper subset, which stands
   -- before, would have it marked.
-  ready-minimal : (j : ℕ) (m : List ℕ) → j < sets → Ready ws n ranks root j m → (IsMarked m (setAt j) → ⊥) → Minimal ws n ranks root (setAt j)
+  ready-minimal : (j : ℕ) (m : List ℕ) → j < setCount → Ready ws n ranks root j m → (IsMarked m (setAt j) → ⊥) → Minimal ws n ranks root (setAt j)
   ready-minimal j m h r f = record {
     has = λ v x i w.
         ⊎-elim (λ (e : v .taken ≡ setAt j). λ (c : ℕ). rw e (le-refl _))
@@ -138,7 +138,7 @@ module _ (ws : List ℕ) (n : ℕ) (ranks : List ℕ) (root : Bounds) where
 -- The loop of the walk at place j: marks are right and tell of the places before j, and the page has all that stands at those places.
 pub record Going (ws ranks : List ℕ) (root : Bounds) (q : Task) (first : ℕ) (known : Bool) (at : ℕ) (m o : List ℕ) (j k : ℕ) (n p : List ℕ) : Type 0 where
   pub from : first ≤ j
-  pub to : j ≤ sets
+  pub to : j ≤ setCount
   pub fits : Fits ws ranks p q k
   pub marks : MarksRight ws (q .rules) ranks root m n
   pub ready : Ready ws (q .rules) ranks root first m → Ready ws (q .rules) ranks root j n
@@ -150,7 +150,7 @@ pub fits-again : (ws ranks o o′ : List ℕ) (q : Task) (at r : ℕ) → Fits w
 fits-again ws ranks o o′ q at r f e h = record { suits = f .suits; place = h; long = rw e (f .long) }
 
 module _ (ws ranks : List ℕ) (root : Bounds) (q : Task) (first : ℕ) (known : Bool) (at : ℕ) (m o : List ℕ) where
-  pub going-first : Fits ws ranks o q at → first ≤ sets → Going ws ranks root q first known at m o first at m o
+  pub going-first : Fits ws ranks o q at → first ≤ setCount → Going ws ranks root q first known at m o first at m o
   going-first f h = record {
     from = le-refl first;
     to = h;
@@ -161,7 +161,7 @@ module _ (ws ranks : List ℕ) (root : Bounds) (q : Task) (first : ℕ) (known :
   }
 
   module _ (j k : ℕ) (n p : List ℕ) (g : Going ws ranks root q first known at m o j k n p) where
-    pub going-next : j < sets → (t : ℕ) → t ≡ setAt j → (n′ p′ : List ℕ) (r : ℕ) → SetListed ws ranks root q t false known k n n′ p p′ r → length p′ ≡ length p
+    pub going-next : j < setCount → (t : ℕ) → t ≡ setAt j → (n′ p′ : List ℕ) (r : ℕ) → SetListed ws ranks root q t false known k n n′ p p′ r → length p′ ≡ length p
         → Going ws ranks root q first known at m o (j + 1) r n′ p′
     going-next h t et n′ p′ r s e = record {
       from = omega (arith, g .from);
@@ -179,11 +179,11 @@ module _ (ws ranks : List ℕ) (root : Bounds) (q : Task) (first : ℕ) (known :
     }
 
     -- All places have been passed.
-    pub walked-all : sets ≤ j → Walked ws ranks root q first known at m o p k
+    pub walked-all : setCount ≤ j → Walked ws ranks root q first known at m o p k
     walked-all h = record {
       whole = λ b from x w f l y start xs u v.
           let c = g .page b from x w f l y start xs u v in
-          let e : j ≡ sets = omega (arith, g .to) in
+          let e : j ≡ setCount = omega (arith, g .to) in
           (c .0, all-places b from (x .few) (c .0) (rw e at (c .1)), c .2);
     }
 
@@ -198,7 +198,7 @@ module _ (ws ranks : List ℕ) (root : Bounds) (q : Task) (first : ℕ) (known :
 
 -- ---- the place of a set
 -- If a set stands at no place before the last, it stands at the last.
-pub last-place : (t j : ℕ) → t < sets → suc j ≡ sets → ((i : ℕ) → i < j → setAt i ≡ t → ⊥) → (j < sets) × (setAt j ≡ t)
+pub last-place : (t j : ℕ) → t < setCount → suc j ≡ setCount → ((i : ℕ) → i < j → setAt i ≡ t → ⊥) → (j < setCount) × (setAt j ≡ t)
 last-place t j h e n =
     let k = order-rule .present t h in
     let l : k .0 ≡ j = ⊎-elim (λ x. absurd (n (k .0) x (k .2))) (λ x. omega (arith, k .1)) (lt-or-le (k .0) j) in
@@ -209,12 +209,12 @@ pub none-marked : (b : Book) (k : ℕ) → RightMarks b (replicate k 0)
 none-marked b k = record { right = λ t x. absurd (unmarked k t x) }
 
 module _ (ws ranks : List ℕ) (root : Bounds) (q : Task) (k : ℕ) (o : List ℕ) where
-  pub first-walked : sets ≤ k → (o′ : List ℕ) (r : ℕ) → Walked ws ranks root q 0 true 0 (replicate k 0) o o′ r → FirstPage ws ranks root q o o′ r
+  pub first-walked : setCount ≤ k → (o′ : List ℕ) (r : ℕ) → Walked ws ranks root q 0 true 0 (replicate k 0) o o′ r → FirstPage ws ranks root q o o′ r
   first-walked h o′ r w = record {
     page = λ b s. w .whole b meaning.start s (none-marked b k) (λ e. ready-none ws (q .rules) ranks root k h) tt (record { later = λ i d l p e. tt }) o [] (none-yet b meaning.start) (page-none (q .room) 0 o);
   }
 
-  module _ (j : ℕ) (h : j < sets) (e : setAt j ≡ q .point .taken) where
+  module _ (j : ℕ) (h : j < setCount) (e : setAt j ≡ q .point .taken) where
     -- Nothing that stands before the point's place is later than the point.
     not-later : (b : Book) → Part b (meaning.at (q .point)) (Passed j) []
     not-later b = part-none b (meaning.at (q .point)) (Passed j) (λ p r l s. before-irreflexive p (before-transitive p (q .point) p (at-or-past j j (le-refl j) h p (q .point) s e) l))

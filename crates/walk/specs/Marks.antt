@@ -6,7 +6,7 @@ use mathlib.Core.Logic.{_⊎_}
 use lib.ListN.{length, getD}
 use Rattle.sets.specs.declared.Pair.{Pair}
 use Rattle.sets.specs.Sets.{bitOf, Within, Apart}
-use Rattle.book.specs.Kinds.{sets}
+use Rattle.book.specs.Kinds.{setCount}
 use Rattle.meaning.specs.Books.{Book}
 use Rattle.meaning.specs.Resolutions.{Resolution}
 use Rattle.walk.specs.declared.marking.Strike.{Strike}
@@ -35,7 +35,7 @@ Stands s t = s .any ≡ 0 → Within (s .lo) t × Within t (s .hi)
 -- No struck set stands from `from` on and before r, where marking goes on.
 pub record Next (s : Strike) (from r : ℕ) : Type 0 where
   pub least : (t : ℕ) → from ≤ t → Struck s t → r ≤ t
-  pub stands : r < sets → Stands s r
+  pub stands : r < setCount → Stands s r
 
 -- No resolution has the set t.
 pub record NoneAt (b : Book) (t : ℕ) : Type 0 where
@@ -68,4 +68,4 @@ allOnes = 2 ^ 64 - 1
 pub record Surpassed (ranks : List ℕ) (taken : ℕ) (before after : List ℕ) : Type 0 where
   pub lower : ℕ
   pub outranked : Outranked ranks taken lower
-  pub marked : Marked before (record { lo = taken; hi = allOnes; but = taken; any = lower }) 0 sets after
+  pub marked : Marked before (record { lo = taken; hi = allOnes; but = taken; any = lower }) 0 setCount after

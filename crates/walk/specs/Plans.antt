@@ -6,7 +6,7 @@ use mathlib.Core.List.{List}
 use lib.ListN.{length}
 use Rattle.sets.specs.declared.Pair.{Pair}
 use Rattle.sets.specs.Sets.{Within}
-use Rattle.book.specs.Kinds.{sets}
+use Rattle.book.specs.Kinds.{setCount}
 use Rattle.masks.specs.declared.Bounds.{Bounds}
 use Rattle.masks.specs.Views.{MaskView}
 use Rattle.bounds.specs.Sound.{In, Propagated, withSets}
@@ -30,11 +30,11 @@ pub record Wider (ws : List ℕ) (n : ℕ) (ranks : List ℕ) (root : Bounds) (s
 
 -- If a view has the set u, every proper superset of u is marked.
 pub record Told (ws : List ℕ) (n : ℕ) (ranks : List ℕ) (root : Bounds) (marks : List ℕ) (u : ℕ) : Type 0 where
-  pub above : (v : Pair) → MaskView ws n ranks v → In root v → v .taken ≡ u → (t : ℕ) → t < sets → Within u t → (t ≡ u → ⊥) → IsMarked marks t
+  pub above : (v : Pair) → MaskView ws n ranks v → In root v → v .taken ≡ u → (t : ℕ) → t < setCount → Within u t → (t ≡ u → ⊥) → IsMarked marks t
 
 -- There is a mark for every set, and that is so of each marked set.
 pub record Full (ws : List ℕ) (n : ℕ) (ranks : List ℕ) (root : Bounds) (marks : List ℕ) : Type 0 where
-  pub long : sets ≤ length marks
+  pub long : setCount ≤ length marks
   pub told : (u : ℕ) → IsMarked marks u → Told ws n ranks root marks u
 
 -- Marks that are right for the book stay so; what is marked stays marked; full marks stay full.

@@ -7,7 +7,7 @@ use mathlib.Core.Logic.{_⊎_}
 use lib.ListN.{length}
 use Rattle.sets.specs.declared.Pair.{Pair}
 use Rattle.book.specs.Limits.{exceptions}
-use Rattle.book.specs.Kinds.{sets}
+use Rattle.book.specs.Kinds.{setCount}
 use Rattle.order.specs.Order.{setAt}
 use Rattle.masks.specs.declared.Bounds.{Bounds}
 use Rattle.page.specs.declared.Task.{Task}
@@ -41,7 +41,7 @@ pub record SetListed (ws ranks : List ℕ) (root : Bounds) (q : Task) (t : ℕ) 
 
 -- From place j on every pair is later than the point.
 pub record Beyond (from : Point) (j : ℕ) : Type 0 where
-  pub later : (i : ℕ) → j ≤ i → i < sets → (p : Pair) → setAt i ≡ p .taken → Later from p
+  pub later : (i : ℕ) → j ≤ i → i < setCount → (p : Pair) → setAt i ≡ p .taken → Later from p
 
 -- The sets at the places before j have been walked with these marks: the marks tell of each of them, and of each marked set.
 pub record Ready (ws : List ℕ) (n : ℕ) (ranks : List ℕ) (root : Bounds) (j : ℕ) (marks : List ℕ) : Type 0 where

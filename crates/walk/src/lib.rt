@@ -3,7 +3,7 @@ ghost use mathlib.Core.Path.{_≡_};
 ghost use mathlib.Core.Bool.{true, false};
 ghost use Prim.Native.Nat.{_*_, _<_, _≤_};
 ghost use lib.ListN.{length};
-ghost use Rattle.book.specs.Kinds.{sets};
+ghost use Rattle.book.specs.Kinds.{setCount};
 ghost use Rattle.order.specs.Order.{order, setAt};
 ghost use Rattle.queue.specs.Chains.{Chains};
 ghost use Rattle.page.specs.Pages.{Fits};
@@ -100,7 +100,7 @@ pub fn tested(
     known: bool,
     marks: &mut Marks,
 ) -> bool
-    requires { ⌜ (n * 8 ≤ length (now words)) × (length (now ranks) ≤ 64) × (t < sets) × Chains (now words) n (now index) ⌝ }
+    requires { ⌜ (n * 8 ≤ length (now words)) × (length (now ranks) ≤ 64) × (t < setCount) × Chains (now words) n (now index) ⌝ }
     ensures { λ r. ⌜ (HasView (now (words .entry)) n (now (ranks .entry)) root t → Admits (now (words .entry)) n (now (ranks .entry)) root t known (now (marks .entry)) (now (marks .exit)) r) ⌝ }
 {
     marking::mark_surpassed(ranks, t, marks);
@@ -129,7 +129,7 @@ pub fn admits(
     store: &mut [u64],
     cap: usize,
 ) -> Admission
-    requires { ⌜ (n * 8 ≤ length (now words)) × (length (now ranks) ≤ 64) × (t < sets) × Chains (now words) n (now index) × (cap * 3 ≤ length (now store)) × (0 < cap) ⌝ }
+    requires { ⌜ (n * 8 ≤ length (now words)) × (length (now ranks) ≤ 64) × (t < setCount) × Chains (now words) n (now index) × (cap * 3 ≤ length (now store)) × (0 < cap) ⌝ }
     ensures { λ r. ⌜ Admits (now (words .entry)) n (now (ranks .entry)) root t known (now (marks .entry)) (now (marks .exit)) (r .ok) × Bounded (now (words .entry)) n (now (ranks .entry)) root t (r .ok) (r .rest .bounds) × (r .ok ≡ true → Collected (now (words .entry)) n (now (ranks .entry)) (r .rest .bounds) cap (now (store .exit)) (r .count)) ⌝ }
 {
     let place = t as usize;
@@ -183,7 +183,7 @@ pub fn list_set(
     store: &mut [u64],
     out: &mut [u64],
 ) -> Filled
-    requires { ⌜ Fits (now words) (now ranks) (now out) task (filled .at) × (t < sets) × Chains (now words) (task .rules) (now index) × (most * 3 ≤ length (now store)) ⌝ }
+    requires { ⌜ Fits (now words) (now ranks) (now out) task (filled .at) × (t < setCount) × Chains (now words) (task .rules) (now index) × (most * 3 ≤ length (now store)) ⌝ }
     ensures { λ r. ⌜ SetListed (now (words .entry)) (now (ranks .entry)) root task t after known (filled .at) (now (marks .entry)) (now (marks .exit)) (now (out .entry)) (now (out .exit)) (r .at) ⌝ }
 {
     let at = filled.at;
@@ -238,7 +238,7 @@ pub fn walk(
     store: &mut [u64],
     out: &mut [u64],
 ) -> usize
-    requires { ⌜ Fits (now words) (now ranks) (now out) task (filled .at) × (from ≤ sets) × (now table ≡ order) × Chains (now words) (task .rules) (now index) × (most * 3 ≤ length (now store)) ⌝ }
+    requires { ⌜ Fits (now words) (now ranks) (now out) task (filled .at) × (from ≤ setCount) × (now table ≡ order) × Chains (now words) (task .rules) (now index) × (most * 3 ≤ length (now store)) ⌝ }
     ensures { λ r. ⌜ Walked (now (words .entry)) (now (ranks .entry)) root task from known (filled .at) (now (marks .entry)) (now (out .entry)) (now (out .exit)) r ⌝ }
 {
     let mut f = filled;
@@ -268,8 +268,8 @@ pub fn walk(
 
 // The place of a set in the order, which is the table.
 pub fn place_of(table: &Table, t: u64) -> usize
-    requires { ⌜ (t < sets) × (now table ≡ order) ⌝ }
-    ensures { λ r. ⌜ (r < sets) × (setAt r ≡ t) ⌝ }
+    requires { ⌜ (t < setCount) × (now table ≡ order) ⌝ }
+    ensures { λ r. ⌜ (r < setCount) × (setAt r ≡ t) ⌝ }
 {
     let mut j: usize = 0;
     while j < Book::SETS - 1 {
@@ -325,7 +325,7 @@ pub fn page_after(
     task: Task,
     out: &mut [u64],
 ) -> usize
-    requires { ⌜ Fits (now words) (now ranks) (now out) task 0 × (task .point .taken < sets) × Chains (now words) (task .rules) (now index) ⌝ }
+    requires { ⌜ Fits (now words) (now ranks) (now out) task 0 × (task .point .taken < setCount) × Chains (now words) (task .rules) (now index) ⌝ }
     ensures { λ r. ⌜ PageAfter (now (words .entry)) (now (ranks .entry)) root task (now (out .entry)) (now (out .exit)) r ⌝ }
 {
     let mut marks = [0u8; Book::SETS];

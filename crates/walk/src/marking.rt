@@ -2,7 +2,7 @@
 ghost use Prim.Native.Nat.{_+_, _<_, _≤_};
 ghost use lib.ListN.{length};
 ghost use Rattle.logic.specs.Tests.{Decides};
-ghost use Rattle.book.specs.Kinds.{sets};
+ghost use Rattle.book.specs.Kinds.{setCount};
 ghost use Rattle.walk.specs.Marks.{Struck, Marked, Stands, Next, Outranked, WithRank, Surpassed};
 use book::Book;
 
@@ -35,7 +35,7 @@ pub fn struck(s: Strike, t: u64) -> bool
 
 // Marks the set t if it is one to mark. The result is how many sets are newly marked.
 pub fn mark_one(marks: &mut Marks, s: Strike, t: usize) -> u64
-    requires { ⌜ t < sets ⌝ }
+    requires { ⌜ t < setCount ⌝ }
     ensures { λ _. ⌜ Marked (now (marks .entry)) s t (t + 1) (now (marks .exit)) ⌝ }
 {
     if marks[t] != 0 {
@@ -64,7 +64,7 @@ pub fn first_set(s: Strike) -> usize
 // The next set after t that may be one to mark: where no member is asked for, the next one from lo to hi. There 1 is added to t with ones at
 // all places outside of hi, so that it is carried over them.
 pub fn next_set(s: Strike, t: usize) -> usize
-    requires { ⌜ (t < sets) × Stands s t ⌝ }
+    requires { ⌜ (t < setCount) × Stands s t ⌝ }
     ensures { λ r. ⌜ (t < r) × Next s (t + 1) r ⌝ }
 {
     if s.any != 0 {
@@ -81,7 +81,7 @@ pub fn next_set(s: Strike, t: usize) -> usize
 
 // Marks every set that is one to mark. The result is how many sets are newly marked.
 pub fn mark(marks: &mut Marks, s: Strike) -> u64
-    ensures { λ _. ⌜ Marked (now (marks .entry)) s 0 sets (now (marks .exit)) ⌝ }
+    ensures { λ _. ⌜ Marked (now (marks .entry)) s 0 setCount (now (marks .exit)) ⌝ }
 {
     let mut count = 0;
     let mut t = first_set(s);

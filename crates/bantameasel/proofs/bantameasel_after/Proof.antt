@@ -1,4 +1,6 @@
-use mathlib.Core.Path.{ap, _∙_}
+use mathlib.Core.Path.{refl, ap, _∙_}
+use Rattle.answers.proofs.Means.{after-means}
+use Rattle.bantameasel.proofs.Across.{answer-across}
 use Rattle.bantameasel.specs.Across.{answerIn, pairOf}
 use borrow.Author.Needs.{needs}
 use Rattle.bantameasel.proofs.bantameasel_after.Statement.{statement}
@@ -15,7 +17,7 @@ pair-in-requires c κs = search needs
 -- src/lib.rt:204:1
 returns : tie.Need-returns
 unfolding pairOf
-returns c = c .pair-in .ensures ∙ ap answerIn (c .before .after .ensures)
+returns c = answer-across _ _ _ (after-means _ _ _ .0 refl) _ (c .pair-in .ensures ∙ ap answerIn (c .before .after .ensures .0))
 
 pub bantameasel-after-spec : {M : Type 1} → statement M
 bantameasel-after-spec = tie.close (tie.spec after-requires pair-in-requires returns)

@@ -1,4 +1,6 @@
-use mathlib.Core.Path.{ap, _∙_}
+use mathlib.Core.Path.{refl, ap, _∙_}
+use Rattle.answers.proofs.Means.{first-means}
+use Rattle.bantameasel.proofs.Across.{answer-across}
 use Rattle.bantameasel.specs.Across.{answerIn}
 use borrow.Author.Needs.{needs}
 use Rattle.bantameasel.proofs.bantameasel_first.Statement.{statement}
@@ -14,7 +16,7 @@ pair-in-requires c κs = search needs
 
 -- src/lib.rt:196:1
 returns : tie.Need-returns
-returns c = c .pair-in .ensures ∙ ap answerIn (c .before .first .ensures)
+returns c = answer-across _ _ _ (first-means _ _ .0 refl) _ (c .pair-in .ensures ∙ ap answerIn (c .before .first .ensures .0))
 
 pub bantameasel-first-spec : {M : Type 1} → statement M
 bantameasel-first-spec = tie.close (tie.spec first-requires pair-in-requires returns)

@@ -1,4 +1,6 @@
-use mathlib.Core.Path.{ap, _∙_}
+use mathlib.Core.Path.{refl, ap, _∙_}
+use Rattle.answers.proofs.Means.{judge-means}
+use Rattle.bantameasel.proofs.Across.{verdict-across}
 use Rattle.bantameasel.specs.Across.{verdictIn, pairOf}
 use borrow.Author.Needs.{needs}
 use Rattle.bantameasel.proofs.bantameasel_judge.Statement.{statement}
@@ -15,7 +17,7 @@ verdict-in-requires c κs = search needs
 -- src/lib.rt:183:1
 returns : tie.Need-returns
 unfolding pairOf
-returns c = c .verdict-in .ensures ∙ ap verdictIn (c .before .judge .ensures)
+returns c = verdict-across _ _ _ (judge-means _ _ _ .0 refl) _ (c .verdict-in .ensures ∙ ap verdictIn (c .before .judge .ensures .0))
 
 pub bantameasel-judge-spec : {M : Type 1} → statement M
 bantameasel-judge-spec = tie.close (tie.spec judge-requires verdict-in-requires returns)

@@ -7,7 +7,7 @@ after-requires : tie.Need-after-requires
 after-requires c κs = search needs
 
 returns : tie.Need-returns
-returns c = λ b. answer-other b _ _ _ _ _ (search needs) (c .after .ensures)
+returns c = answer-other _ _ _ _ _ (search needs) (c .after .ensures .0)
 
 enum-told : tie.Need-enum-told
 enum-told c = search needs
@@ -22,10 +22,10 @@ after-requires-2 : tie.Need-after-requires-2
 after-requires-2 c κs = search needs
 
 returns-2 : tie.Need-returns-2
-returns-2 c = λ b. answer-first b _ _ _ _ _ (search needs) (search needs) (c .first .ensures)
+returns-2 c = answer-first _ _ _ _ _ (search needs) (search needs) (c .first .ensures .0)
 
 returns-3 : tie.Need-returns-3
-returns-3 c = λ b. answer-after b _ _ _ _ _ _ (search needs) (search needs) (c .after2 .ensures)
+returns-3 c = answer-after _ _ _ _ _ _ (search needs) (search needs) (c .after2 .ensures .0)
 
 pub answer-spec : {M : Type 1} → statement M
 answer-spec =

@@ -1,9 +1,9 @@
-use Rattle.sets.proofs.Words.{disjoint-is}
+use Rattle.sets.proofs.Words.{separate-is}
 use Rattle.sets.proofs.disjoint.Statement.{statement}
 use Rattle.sets.proofs.disjoint.Tie as tie
 
 returns : tie.Need-returns
-returns c = disjoint-is _ _
+returns c = separate-is _ _
 
 pub disjoint-spec : {M : Type 1} → statement M
 disjoint-spec = tie.close (tie.spec returns)

@@ -1,5 +1,5 @@
 use native.Mathlib.Nat.{le-refl}
-use Rattle.book.specs.Kinds.{sets}
+use Rattle.book.specs.Kinds.{setCount}
 use Rattle.walk.proofs.Walks.{first-walked}
 use borrow.Author.Needs.{needs}
 use Rattle.walk.proofs.first_page.Statement.{statement}
@@ -18,7 +18,7 @@ same-length : tie.Need-same-length
 same-length c = search needs
 
 returns : tie.Need-returns
-returns c = first-walked _ _ _ _ sets _ (le-refl sets) _ _ (c .before .before .before .walk .ensures)
+returns c = first-walked _ _ _ _ setCount _ (le-refl setCount) _ _ (c .before .before .before .walk .ensures)
 
 pub first-page-spec : {M : Type 1} → statement M
 first-page-spec =

@@ -1,6 +1,6 @@
 use Rattle.few.specs.Few.{most}
 use Rattle.few.proofs.Gathering.{store-again}
-use Rattle.book.specs.Kinds.{sets}
+use Rattle.book.specs.Kinds.{setCount}
 use Rattle.walk.proofs.Walks.{fits-again, after-walked}
 use borrow.Author.Needs.{needs}
 use Rattle.walk.proofs.page_after.Statement.{statement}
@@ -31,7 +31,7 @@ same-length : tie.Need-same-length
 same-length c = search needs
 
 returns : tie.Need-returns
-returns c = after-walked _ _ _ _ sets _ _ (c .before .before .before .before .before .before .before .before .before .before .before .before .before .before .before .place-of .ensures .0) (c .before .before .before .before .before .before .before .before .before .before .before .before .before .before .before .place-of .ensures .1) _ _ _ _ _ (c .before .before .before .before .before .before .before .before .before .before .before .list-set .ensures) (c .before .before .before .walk .ensures)
+returns c = after-walked _ _ _ _ setCount _ _ (c .before .before .before .before .before .before .before .before .before .before .before .before .before .before .before .place-of .ensures .0) (c .before .before .before .before .before .before .before .before .before .before .before .before .before .before .before .place-of .ensures .1) _ _ _ _ _ (c .before .before .before .before .before .before .before .before .before .before .before .list-set .ensures) (c .before .before .before .walk .ensures)
 
 pub page-after-spec : {M : Type 1} → statement M
 page-after-spec =

@@ -3,17 +3,17 @@ use mathlib.Core.Path.{_≡_, sym, _∙_}
 use native.Mathlib.Omega.{arith}
 use borrow.Author.Needs.{needs}
 use borrow.Author.Count.{below-more}
-use Rattle.book.specs.Kinds.{sets}
+use Rattle.book.specs.Kinds.{setCount}
 use Rattle.order.specs.Order.{setAt}
 use Rattle.walk.proofs.Walks.{last-place}
 use Rattle.walk.proofs.place_of.Statement.{statement}
 use Rattle.walk.proofs.place_of.Tie as tie
 
 abbrev Inv-loop : tie.InvT-loop
-Inv-loop table t j₀ j = (suc j ≤ sets) × ((i : ℕ) → i < j → setAt i ≡ t → ⊥)
+Inv-loop table t j₀ j = (suc j ≤ setCount) × ((i : ℕ) → i < j → setAt i ≡ t → ⊥)
 
 abbrev μ-loop : tie.MeasureT-loop
-μ-loop table t j₀ j = sets - j
+μ-loop table t j₀ j = setCount - j
 
 loop-holds : tie.Need-loop-holds Inv-loop μ-loop
 loop-holds c = (omega arith, λ i h. absurd (omega arith))

@@ -3,7 +3,7 @@ use mathlib.Core.Path.{_≡_, refl, _∙_}
 use native.Mathlib.Omega.{arith}
 use borrow.Author.Needs.{needs}
 use lib.ListN.{length}
-use Rattle.book.specs.Kinds.{sets}
+use Rattle.book.specs.Kinds.{setCount}
 use Rattle.order.proofs.Rule.{order-rule}
 use Rattle.walk.proofs.Walks.{Going, going-first, going-next, walked-all, walked-full}
 use Rattle.walk.proofs.walk.Statement.{statement}
@@ -13,7 +13,7 @@ abbrev Inv-loop : tie.InvT-loop
 Inv-loop words ranks index root task table from known marks₀ store₀ out₀ f₀ j₀ marks store out f j = Going words ranks root task from known (f₀ .at) marks₀ out₀ j (f .at) marks out × (length out ≡ length out₀) × (length store ≡ length store₀)
 
 abbrev μ-loop : tie.MeasureT-loop
-μ-loop words ranks index root task table from known marks₀ store₀ out₀ f₀ j₀ marks store out f j = sets - j
+μ-loop words ranks index root task table from known marks₀ store₀ out₀ f₀ j₀ marks store out f j = setCount - j
 
 loop-holds : tie.Need-loop-holds Inv-loop μ-loop
 loop-holds c = (going-first _ _ _ _ _ _ _ _ _ (c .before .before .before .before .pre .0) (c .before .before .before .before .pre .1), refl, refl)

@@ -1,17 +1,17 @@
 use Prim.Native.Nat.{_-_, _<_}
 use native.Mathlib.Omega.{arith}
 use borrow.Author.Needs.{needs}
-use Rattle.book.specs.Kinds.{sets}
+use Rattle.book.specs.Kinds.{setCount}
 use Rattle.walk.specs.Marks.{Marked, Stands}
 use Rattle.walk.proofs.Marks.{marked-none, marked-more, marked-all}
 use Rattle.walk.proofs.marking.mark.Statement.{statement}
 use Rattle.walk.proofs.marking.mark.Tie as tie
 
 abbrev Inv-loop : tie.InvT-loop
-Inv-loop marks₀ s count₀ t₀ marks count t = Marked marks₀ s 0 t marks × (t < sets → Stands s t)
+Inv-loop marks₀ s count₀ t₀ marks count t = Marked marks₀ s 0 t marks × (t < setCount → Stands s t)
 
 abbrev μ-loop : tie.MeasureT-loop
-μ-loop marks₀ s count₀ t₀ marks count t = sets - t
+μ-loop marks₀ s count₀ t₀ marks count t = setCount - t
 
 first-set-requires : tie.Need-first-set-requires Inv-loop μ-loop
 first-set-requires c κs = search needs
