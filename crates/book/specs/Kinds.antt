@@ -1,5 +1,5 @@
 -- The kinds of line (document 01, 'A book and its lines'), a row of data each, and what follows from the rows and the limits.
-use Prim.Native.Nat.{ℕ, _+_, _*_, _^_}
+use Prim.Native.Nat.{ℕ, _+_, _*_, _/_, _^_}
 use mathlib.Core.Bool.{true, false}
 use mathlib.Core.List.{List, [], _∷_, _++_}
 use lib.IntN.{ℤ, pos, negℤ}
@@ -84,6 +84,10 @@ width x = pick (x .row) (x .fields) 0
 -- The longest text: every line that a book may have.
 unfoldable pub longest : ℕ
 longest = most bytes kinds
+
+-- Room for the numbers of any text as it is read: each takes four bytes, and a line that is refused may have its numbers stored too.
+abbrev pub room : ℕ
+room = longest / 4 + ruleFields
 
 -- The most lines that Z counts.
 unfoldable pub mostRows : ℕ

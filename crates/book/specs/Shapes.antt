@@ -1,8 +1,11 @@
 -- The code's constants as the definitions give them.
+use lib.IntN.{pos}
+use lib.ListN.{replicate}
 use Rattle.book.specs.declared.Limits.{Limits}
 use Rattle.book.specs.declared.Shape.{Shape}
+use Rattle.book.specs.declared.Book.{Book}
 use Rattle.book.specs.Limits as limit
-use Rattle.book.specs.Kinds.{longest, mostRows, longestTable, setCount, rules}
+use Rattle.book.specs.Kinds.{longest, room, mostRows, longestTable, setCount, rules}
 
 -- The limits and all that follows from them.
 unfoldable pub limits : Limits
@@ -21,3 +24,7 @@ limits = record {
 -- The shape of the empty book: one statement, no line but B and Z.
 unfoldable pub emptyShape : Shape
 emptyShape = record { statements = 1; plain = 0; exceptions = 0; preferences = 0 }
+
+-- The empty book: that shape, and every number of its rows 0.
+unfoldable pub emptyBook : Book
+emptyBook = record { shape = emptyShape; rows = replicate room (pos 0) }

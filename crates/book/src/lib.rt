@@ -5,7 +5,7 @@ ghost use Prim.Native.Nat.{_<_};
 ghost use lib.ListN.{length, getD};
 ghost use Rattle.book.specs.Kinds.{kind, none, contents};
 ghost use Rattle.book.specs.declared.Content.the-variants.{Edition};
-ghost use Rattle.book.specs.Shapes.{limits as limitsOf, emptyShape};
+ghost use Rattle.book.specs.Shapes.{limits as limitsOf, emptyBook};
 
 // The number of statements and how many lines of each kind: the numbers before a number table's rows.
 pub struct Shape {
@@ -110,7 +110,7 @@ impl Book {
 
     // The empty book: one statement, no line but B and Z.
     pub fn empty() -> Self
-        ensures { λ r. ⌜ r .shape ≡ emptyShape ⌝ }
+        ensures { λ r. ⌜ r ≡ emptyBook ⌝ }
     {
         Self {
             shape: Shape {

@@ -107,8 +107,8 @@ pub fn put_line(buf: &mut [u8], at: usize, n: usize, p: Pair)
 pub fn line(text: &[u8], p: Pair, buf: &mut [u8]) -> Writing
     ensures { λ r. ⌜ Met (now (text .entry)) p (now (buf .entry)) r (now (buf .exit)) ⌝ }
 {
-    let mut rows = [0i32; Book::ROOM];
-    let got = read::parse(text, &mut rows);
+    let mut scratch = Book::empty();
+    let got = read::parse(text, &mut scratch.rows);
     match got {
         Reading::Refused(q) => Writing::Refused(q),
         Reading::Accepted(s) => {

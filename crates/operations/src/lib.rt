@@ -44,12 +44,12 @@ pub fn fill_from(s: Shape, rows: &[i32; Book::ROOM], words: &mut Words, ranks: &
 pub fn load(text: &[u8], words: &mut Words, ranks: &mut Ranks) -> Reading
     ensures { λ r. ⌜ Loads (now (text .entry)) r (now (words .exit)) (now (ranks .exit)) ⌝ }
 {
-    let mut rows = [0i32; Book::ROOM];
-    let got = read::parse(text, &mut rows);
+    let mut scratch = Book::empty();
+    let got = read::parse(text, &mut scratch.rows);
     match got {
         Reading::Refused(q) => Reading::Refused(q),
         Reading::Accepted(s) => {
-            fill_from(s, &rows, words, ranks);
+            fill_from(s, &scratch.rows, words, ranks);
             Reading::Accepted(s)
         }
     }

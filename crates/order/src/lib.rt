@@ -1,8 +1,9 @@
 // The sets of taken exceptions in the order of pairs (document 01), as one constant table.
 ghost use mathlib.Core.Path.{_≡_};
 ghost use Prim.Native.Nat.{_<_};
+ghost use Rattle.logic.specs.Tests.{Decides};
 ghost use Rattle.book.specs.Kinds.{setCount};
-ghost use Rattle.order.specs.Order.{order, setAt};
+ghost use Rattle.order.specs.Order.{Earlier, order, setAt};
 use book::Book;
 
 // All sets of exceptions in their order.
@@ -4121,4 +4122,16 @@ pub fn set_in(table: &Table, place: usize) -> u64
     ensures { λ r. ⌜ r ≡ setAt place ⌝ }
 {
     table[place] as u64
+}
+
+// The set a comes before the set b: the sizes are compared, and where they are the same the numbers.
+pub fn earlier(a: u64, b: u64) -> bool
+    ensures { λ r. ⌜ Decides r (Earlier a b) ⌝ }
+{
+    let m = sets::size(a);
+    let n = sets::size(b);
+    if m != n {
+        return m < n;
+    }
+    a < b
 }

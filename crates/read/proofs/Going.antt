@@ -17,7 +17,7 @@ use Rattle.logic.specs.Tests.{pick, consIf}
 use Rattle.book.specs.declared.Content.{Content}
 use Rattle.book.specs.declared.Content.the-variants.{Edition, Statements, Literal, Exception, Total}
 use Rattle.book.specs.Limits as limit
-use Rattle.book.specs.Kinds.{kinds, kind, bytes, most, fieldsOf, none, width, longest, ruleFields, rangeOf}
+use Rattle.book.specs.Kinds.{kinds, kind, bytes, most, fieldsOf, none, width, longest, room, ruleFields, rangeOf}
 use Rattle.text.specs.declared.State.{State}
 use Rattle.text.specs.declared.Field.the-variants.{Value}
 use Rattle.text.specs.declared.Reading.{Reading}
@@ -39,7 +39,7 @@ use Rattle.read.specs.declared.LineIs.{LineIs}
 use Rattle.read.specs.declared.LineIs.the-variants.{Of, Bad}
 use Rattle.cursor.specs.declared.Cursor.{Cursor}
 use Rattle.cursor.specs.Places.{firstCursor, pastLine}
-use Rattle.read.specs.Storing.{storeLine, answerLine, stepWith, untilFeed, room, noReading, endOf, outcomeOf}
+use Rattle.read.specs.Storing.{storeLine, answerLine, stepWith, untilFeed, noReading, endOf, outcomeOf}
 use Rattle.read.specs.Storing.LineLeft.{keptLine, lostLine}
 use Rattle.read.proofs.Feeds.{line-in, line-split}
 use Rattle.read.proofs.States.{step-with}

@@ -1,5 +1,5 @@
 -- What the functions of the reader answer and leave in a slice of numbers, by the definitions of crate text.
-use Prim.Native.Nat.{ℕ, suc, _+_, _/_}
+use Prim.Native.Nat.{ℕ, suc}
 use mathlib.Core.Bool.{false}
 use mathlib.Core.List.{List, [], _∷_}
 use lib.Dec.{eqb, leb}
@@ -9,7 +9,7 @@ use lib.Seq.{sets}
 use Rattle.logic.specs.Tests.{both, pick}
 use Rattle.book.specs.declared.Kind.{Kind}
 use Rattle.book.specs.declared.Content.{Content}
-use Rattle.book.specs.Kinds.{kind, none, longest, ruleFields, Range}
+use Rattle.book.specs.Kinds.{kind, none, Range}
 use Rattle.text.specs.declared.Field.{Field}
 use Rattle.text.specs.declared.Field.the-variants.{Value, Misspelt}
 use Rattle.text.specs.declared.State.{State}
@@ -86,10 +86,6 @@ stepWith st k n = record { next = after k; statements = n; counts = set (st .cou
 unfoldable pub untilFeed : List ℕ → ℕ
 untilFeed [] = 0
 untilFeed (b ∷ bs) = pick (eqb b 10) 0 (suc (untilFeed bs))
-
--- Room for the numbers of any text as it is read: each takes four bytes, and a line that is refused may have its numbers stored too.
-abbrev pub room : ℕ
-room = longest / 4 + ruleFields
 
 -- A refusal as an answer.
 abbrev pub noReading : ℕ → ℕ → Reading

@@ -4,12 +4,12 @@ ghost use Prim.Native.Nat.{_+_, _*_, _<_, _≤_};
 ghost use lib.IntN.{pos};
 ghost use lib.ListN.{length, getD, drop, take};
 ghost use lib.Seq.{sets};
-ghost use Rattle.book.specs.Kinds.{kind, none, rangeOf, contents, fieldsOf, width, longest, exception};
+ghost use Rattle.book.specs.Kinds.{kind, none, rangeOf, contents, fieldsOf, width, longest, room, exception};
 ghost use Rattle.text.specs.Fields.{firstField};
 ghost use Rattle.logic.specs.Tests.{both};
 ghost use Rattle.text.specs.Lines.{kindFor, between, readLine, lines};
 ghost use Rattle.text.specs.Reading.{start, lastByte, readLines, tableOf, over};
-ghost use Rattle.read.specs.Storing.{numberOf, answerFields, storeFields, wholeIs, answerLine, storeLine, stepWith, untilFeed, endOf, noReading, room, outcomeOf};
+ghost use Rattle.read.specs.Storing.{numberOf, answerFields, storeFields, wholeIs, answerLine, storeLine, stepWith, untilFeed, endOf, noReading, outcomeOf};
 ghost use Rattle.read.specs.Parsing.{Parsing, Met};
 use book::Book;
 use book::Content;
@@ -327,8 +327,8 @@ pub fn put_table(table: &mut [i32], s: Shape, rows: &[i32; Book::ROOM], m: usize
 pub fn read(text: &[u8], table: &mut [i32]) -> Reading
     ensures { λ r. ⌜ Met (now (text .entry)) (now (table .entry)) r (now (table .exit)) ⌝ }
 {
-    let mut rows = [0i32; Book::ROOM];
-    let parsed = parse(text, &mut rows);
+    let mut scratch = Book::empty();
+    let parsed = parse(text, &mut scratch.rows);
     match parsed {
         Reading::Refused(r) => Reading::Refused(r),
         Reading::Accepted(s) => {
@@ -336,7 +336,7 @@ pub fn read(text: &[u8], table: &mut [i32]) -> Reading
             if table.len() < Book::COUNTS + m {
                 return refused(15, 0);
             }
-            put_table(table, s, &rows, m);
+            put_table(table, s, &scratch.rows, m);
             Reading::Accepted(s)
         }
     }

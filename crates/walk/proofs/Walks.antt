@@ -196,14 +196,6 @@ module _ (ws ranks : List ℕ) (root : Bounds) (q : Task) (first : ℕ) (known :
           (c .0 ++ d .0, d .1, page-append (q .room) 0 k k start p p (c .0) (d .0) (c .2) (page-full (q .room) k p (d .0) h));
     }
 
--- ---- the place of a set
--- If a set stands at no place before the last, it stands at the last.
-pub last-place : (t j : ℕ) → t < setCount → suc j ≡ setCount → ((i : ℕ) → i < j → setAt i ≡ t → ⊥) → (j < setCount) × (setAt j ≡ t)
-last-place t j h e n =
-    let k = order-rule .present t h in
-    let l : k .0 ≡ j = ⊎-elim (λ x. absurd (n (k .0) x (k .2))) (λ x. omega (arith, k .1)) (lt-or-le (k .0) j) in
-    (omega arith, rw l at (k .2))
-
 -- ---- whole pages
 pub none-marked : (b : Book) (k : ℕ) → RightMarks b (replicate k 0)
 none-marked b k = record { right = λ t x. absurd (unmarked k t x) }

@@ -266,19 +266,22 @@ pub fn walk(
     f.at
 }
 
-// The place of a set in the order, which is the table.
+// The place of a set in the order, which is the table: each look at the middle leaves half of the places.
 pub fn place_of(table: &Table, t: u64) -> usize
     requires { ⌜ (t < setCount) × (now table ≡ order) ⌝ }
     ensures { λ r. ⌜ (r < setCount) × (setAt r ≡ t) ⌝ }
 {
-    let mut j: usize = 0;
-    while j < Book::SETS - 1 {
-        if order::set_in(table, j) == t {
-            return j;
+    let mut lo: usize = 0;
+    let mut hi = Book::SETS - 1;
+    while lo < hi {
+        let mid = lo + (hi - lo) / 2;
+        if order::earlier(order::set_in(table, mid), t) {
+            lo = mid + 1;
+        } else {
+            hi = mid;
         }
-        j += 1;
     }
-    j
+    lo
 }
 
 // The page of the first resolutions of a book, whose views are within root.

@@ -4,6 +4,9 @@ use borrow.Author.Needs.{needs}
 use Rattle.line.proofs.line.Statement.{statement}
 use Rattle.line.proofs.line.Tie as tie
 
+empty-requires : tie.Need-empty-requires
+empty-requires c κs = search needs
+
 parse-requires : tie.Need-parse-requires
 parse-requires c κs = search needs
 
@@ -71,6 +74,7 @@ pub line-spec : {M : Type 1} → statement M
 line-spec =
     tie.close
     (tie.spec
+    empty-requires
     parse-requires
     enum-known-got
     enum-known-got-2

@@ -1,43 +1,59 @@
-use Prim.Native.Nat.{ℕ, suc, _-_, _<_, _≤_}
-use mathlib.Core.Path.{_≡_, sym, _∙_}
+use Prim.Native.Nat.{_-_}
 use native.Mathlib.Omega.{arith}
 use borrow.Author.Needs.{needs}
-use borrow.Author.Count.{below-more}
-use Rattle.book.specs.Kinds.{setCount}
 use Rattle.order.specs.Order.{setAt}
-use Rattle.walk.proofs.Walks.{last-place}
+use Rattle.order.proofs.Places.{PlaceWithin, place-somewhere, place-past, place-upto, place-left}
+use Rattle.order.proofs.Rule.{order-rule}
 use Rattle.walk.proofs.place_of.Statement.{statement}
 use Rattle.walk.proofs.place_of.Tie as tie
 
 abbrev Inv-loop : tie.InvT-loop
-Inv-loop table t j₀ j = (suc j ≤ setCount) × ((i : ℕ) → i < j → setAt i ≡ t → ⊥)
+Inv-loop table t lo₀ hi₀ lo hi = PlaceWithin setAt t lo hi
 
 abbrev μ-loop : tie.MeasureT-loop
-μ-loop table t j₀ j = setCount - j
+μ-loop table t lo₀ hi₀ lo hi = hi - lo
+
+sub-hi : tie.Need-sub-hi Inv-loop μ-loop
+sub-hi c = omega arith
 
 loop-holds : tie.Need-loop-holds Inv-loop μ-loop
-loop-holds c = (omega arith, λ i h. absurd (omega arith))
+loop-holds c = place-somewhere order-rule _ (c .pre .0)
 
-sub-loop : tie.Need-sub-loop Inv-loop μ-loop
-sub-loop c = omega arith
+sub-mid : tie.Need-sub-mid Inv-loop μ-loop
+sub-mid c = omega arith
+
+add-mid : tie.Need-add-mid Inv-loop μ-loop
+add-mid c = omega arith
 
 set-in-requires : tie.Need-set-in-requires Inv-loop μ-loop
 set-in-requires c κs = (search needs, omega arith)
 
-returns : tie.Need-returns Inv-loop μ-loop
-returns c = (omega arith, sym (c .before .set-in .ensures) ∙ search needs)
+earlier-requires : tie.Need-earlier-requires Inv-loop μ-loop
+earlier-requires c κs = search needs
 
-add-j : tie.Need-add-j Inv-loop μ-loop
-add-j c = search needs
+add-lo : tie.Need-add-lo Inv-loop μ-loop
+add-lo c = omega arith
 
 loop-less : tie.Need-loop-less Inv-loop μ-loop
 loop-less c = omega arith
 
 loop-again : tie.Need-loop-again Inv-loop μ-loop
-loop-again c = (omega arith, below-more (λ i. setAt i ≡ _ → ⊥) _ (c .before .before .before .loop .inv .1) (λ e. (c .if1 .left) (c .before .set-in .ensures ∙ e)))
+loop-again c =
+    let earlier = c .before .earlier in
+    let loop = c .before .before .before .before .loop in
+    place-past order-rule _ _ _ (loop .inv) _ (omega arith) _ (c .before .before .set-in .ensures) (earlier .ensures .yes (search needs))
 
-returns-2 : tie.Need-returns-2 Inv-loop μ-loop
-returns-2 c = last-place _ _ (c .before .before .pre .0) (omega arith) (c .before .loop .inv .1)
+loop-less-2 : tie.Need-loop-less-2 Inv-loop μ-loop
+loop-less-2 c = omega arith
+
+loop-again-2 : tie.Need-loop-again-2 Inv-loop μ-loop
+loop-again-2 c =
+    let earlier = c .before .earlier in
+    let loop = c .before .before .before .before .loop in
+    place-upto order-rule _ _ _ (loop .inv) _ (omega arith) _ (c .before .before .set-in .ensures) (earlier .ensures .no (search needs))
+
+returns : tie.Need-returns Inv-loop μ-loop
+returns c = place-left setAt _ _ _ (c .before .loop .inv) (omega arith)
 
 pub place-of-spec : {M : Type 1} → statement M
 place-of-spec =
@@ -45,11 +61,15 @@ place-of-spec =
     (tie.spec
     Inv-loop
     μ-loop
+    sub-hi
     loop-holds
-    sub-loop
+    sub-mid
+    add-mid
     set-in-requires
-    returns
-    add-j
+    earlier-requires
+    add-lo
     loop-less
     loop-again
-    returns-2)
+    loop-less-2
+    loop-again-2
+    returns)
