@@ -20,22 +20,22 @@ use Rattle.meaning.specs.Twins.Next.{nextFrom, onwardFrom, pageFrom}
 use Rattle.meaning.proofs.Refusals.{lawful-or-refused, refusal-one, lawful-none}
 use Rattle.meaning.proofs.Next.{next-is}
 use Rattle.meaning.proofs.Demand3.{meets-by-equality, demand3, point-alone}
-use Rattle.answers.specs.Operations.{told, turned, onText, unless, firstAnswer, afterAnswer, firstPage, pageAfter, asks}
+use Rattle.answers.specs.Operations.{told, turned, onText, unlessDown, firstAnswer, afterAnswer, firstPage, pageAfter, asks}
 
 -- A number that is not 0 is answered as a refusal.
-pub unless-other : {A : Type 0} (down : ℕ → ℕ → A) (k : ℕ) (x : A) → (k ≡ 0 → ⊥) → unless down k x ≡ down k 0
-unfolding unless
+pub unless-other : {A : Type 0} (down : ℕ → ℕ → A) (k : ℕ) (x : A) → (k ≡ 0 → ⊥) → unlessDown down k x ≡ down k 0
+unfolding unlessDown
 unless-other down zero x n = absurd (n refl)
 unless-other down (suc k) x n = refl
 
 -- With number 0 the rest is answered.
-pub unless-none : {A : Type 0} (down : ℕ → ℕ → A) (k : ℕ) (x : A) → k ≡ 0 → unless down k x ≡ x
-unfolding unless
+pub unless-none : {A : Type 0} (down : ℕ → ℕ → A) (k : ℕ) (x : A) → k ≡ 0 → unlessDown down k x ≡ x
+unfolding unlessDown
 unless-none down k x e = rw e refl
 
 -- A pair's refusal is answered.
-pub unless-refused : {A : Type 0} (down : ℕ → ℕ → A) (b : Book) (p : Pair) (k : ℕ) (x : A) → PairRefused b p k → unless down k x ≡ down k 0
-unfolding unless
+pub unless-refused : {A : Type 0} (down : ℕ → ℕ → A) (b : Book) (p : Pair) (k : ℕ) (x : A) → PairRefused b p k → unlessDown down k x ≡ down k 0
+unfolding unlessDown
 unless-refused down b p k x (past-exceptions n) = refl
 unless-refused down b p k x (past-statements t n) = refl
 unless-refused down b p k x (shared t h d n) = refl
@@ -47,7 +47,7 @@ module _ (bs : List ℕ) (s : Shape) (ws : List ℤ) (e : readText bs ≡ accept
   turns op room k (short o r l h) = absurd (omega arith)
 
   answers : (op : Operation) (room : ℕ) → ((k : ℕ) → Refused (bookOf s ws) 0 op room k → ⊥) → asks bs op room ≡ nextFrom (bookOf s ws) (pointOf op)
-  unfolding asks firstAnswer afterAnswer onText unless
+  unfolding asks firstAnswer afterAnswer onText unlessDown
   answers first room n = rw e refl
   answers (after p) room n =
       ⊎-elim (λ l. rw (e, l .1) refl) (λ f. absurd (n (pairRefusal (bookOf s ws) p) (unlawful p room (pairRefusal (bookOf s ws) p) f))) (lawful-or-refused (bookOf s ws) p)
@@ -63,7 +63,7 @@ module _ (bs : List ℕ) (s : Shape) (ws : List ℤ) (e : readText bs ≡ accept
 
   -- ---- a page is what First and After would hand out
   asked : (from : Point) → LawfulPoint (bookOf s ws) from → asks bs (onward from) 0 ≡ nextFrom (bookOf s ws) from
-  unfolding asks firstAnswer afterAnswer onText unless
+  unfolding asks firstAnswer afterAnswer onText unlessDown
   asked start l = rw e refl
   asked (at p) l = rw (e, lawful-none (bookOf s ws) p l) refl
 
@@ -106,5 +106,5 @@ module _ (bs : List ℕ) (s : Shape) (ws : List ℤ) (e : readText bs ≡ accept
 
 -- Texts with the same book: the point alone decides what comes next.
 pub point-alone-of-texts : (bs bs′ : List ℕ) (s s′ : Shape) (ws ws′ : List ℤ) → readText bs ≡ accepted s ws → readText bs′ ≡ accepted s′ ws′ → bookOf s ws ≡ bookOf s′ ws′
-    → PointAlone (bookOf s ws) 0 (asks bs) (asks bs′)
+    → (cs : List Call) (from : Point) → Calls (bookOf s ws) 0 (asks bs) cs from → PointAlone (asks bs) (asks bs′) cs from
 point-alone-of-texts bs bs′ s s′ ws ws′ e e′ d = point-alone (bookOf s ws) 0 (asks bs) (asks bs′) (text-meets bs s ws e) (rw d (text-meets bs′ s′ ws′ e′))

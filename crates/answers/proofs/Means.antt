@@ -2,9 +2,9 @@
 -- pages, Line and `ways`. Idea: the text is refused or accepted, the pair lawful or refused, and each is so in one way.
 use mathlib.Core.Path.{_≡_, refl, sym, ap, _∙_}
 use mathlib.Core.Bool.{Bool, true, false}
-use mathlib.Core.List.{List, _++_}
+use mathlib.Core.List.{List}
 use mathlib.Core.Logic.{⊎-elim, _↔_}
-use Prim.Native.Nat.{ℕ, suc, _/_, _≤_, _<_}
+use Prim.Native.Nat.{ℕ, suc, _/_}
 use native.Mathlib.Omega.{arith}
 use borrow.Author.Tests.{ltb-true, ltb-false, lt-ltb, le-ltb}
 use lib.Dec.{ltb}
@@ -20,7 +20,6 @@ use Rattle.text.specs.ALines.{aLine}
 use Rattle.meaning.specs.Books.{Book}
 use Rattle.meaning.specs.Meant.{bookOf}
 use Rattle.meaning.specs.Order.{Point, start, at, LawfulPoint, AllLater}
-use Rattle.meaning.specs.Resolutions.{Verdict}
 use Rattle.meaning.specs.Listings.{Answer, refused, FirstLater}
 use Rattle.meaning.specs.Twins.Verdicts.{pairRefusal, verdict}
 use Rattle.meaning.specs.Twins.Next.{nextFrom, pageFrom}
@@ -28,16 +27,16 @@ use Rattle.meaning.proofs.Laws.{verdict-iff}
 use Rattle.meaning.proofs.Next.{next-iff}
 use Rattle.meaning.proofs.Pages.{page-is}
 use Rattle.meaning.proofs.Refusals.{lawful-or-refused, refusal-one, lawful-none}
-use Rattle.meaning.proofs.Sorted.{all-later, all-later-one}
-use Rattle.answers.specs.Operations.{Told, told, turned, onText, unless, firstAnswer, afterAnswer, judgeAnswer, firstPage, pageAfter, roomFor, lineAnswer}
+use Rattle.meaning.proofs.Sorted.{all-later}
+use Rattle.answers.specs.Operations.{Told, told, turned, onText, unlessDown, firstAnswer, afterAnswer, judgeAnswer, firstPage, pageAfter, roomFor, lineAnswer}
 use Rattle.answers.specs.Ways.{mostLines, closing, printed, listed, failed, waysOf}
-use Rattle.answers.specs.Means.{Means, text-refused, pair-refused, not-refused, Judges, Pages, Lines, Prints}
+use Rattle.answers.specs.Means.{Means, text-refused, pair-refused, not-refused, Judges, Pages, Lines, WaysPrints}
 use Rattle.answers.proofs.Listed.{unless-none, unless-refused}
 
 -- What is computed of a book from a point: the refusal of the point's pair, or the rest.
 abbrev guarded : {A : Type 0} → (ℕ → ℕ → A) → Point → (Book → A) → Book → A
 guarded down start g b = g b
-guarded down (at p) g b = unless down (pairRefusal b p) (g b)
+guarded down (at p) g b = unlessDown down (pairRefusal b p) (g b)
 
 module _ {A : Type 0} (down : ℕ → ℕ → A) (right : Book → Point → A → Type 0) (bs : List ℕ) (from : Point) (g : Book → A)
     (is : (b : Book) → LawfulPoint b from → (x : A) → right b from x ↔ (x ≡ g b)) where
@@ -96,14 +95,8 @@ judge-means bs p x = means turned Judges bs (at p) (λ b. told (verdict b p)) is
     is b l (turned q line) = (λ v. absurd v, λ e. absurd (told-not q line (verdict b p) e))
 
 -- A computed answer with what it means.
-pub first-both : (bs : List ℕ) (x : Answer) → x ≡ firstAnswer bs → (x ≡ firstAnswer bs) × Means refused FirstLater bs start x
-first-both bs x e = (e, first-means bs x .0 e)
-
-pub after-both : (bs : List ℕ) (p : Pair) (x : Answer) → x ≡ afterAnswer bs p → (x ≡ afterAnswer bs p) × Means refused FirstLater bs (at p) x
-after-both bs p x e = (e, after-means bs p x .0 e)
-
-pub judge-both : (bs : List ℕ) (p : Pair) (x : Told ℕ) → x ≡ judgeAnswer bs p → (x ≡ judgeAnswer bs p) × Means turned Judges bs (at p) x
-judge-both bs p x e = (e, judge-means bs p x .0 e)
+pub with-meaning : {A : Type 0} (x y : A) (P : Type 0) → (x ≡ y) ↔ P → x ≡ y → (x ≡ y) × P
+with-meaning x y P i e = (e, i .0 e)
 
 -- A page: the first of all later resolutions, as many as there is room for.
 pages-are : (k : ℕ) (from : Point) (b : Book) → LawfulPoint b from → (y : Told (List Pair)) → Pages k b from y ↔ (y ≡ told (pageFrom b k from))
@@ -149,11 +142,11 @@ front-printed b all a =
     rw e (rw (take-take mostLines (suc mostLines) all (omega arith), more mostLines all) refl)
 
 -- `ways`: all lines, or the first 9,999 of them, and E or M.
-pub ways-means : (bs x : List ℕ) → (x ≡ waysOf bs) ↔ Means failed Prints bs start x
+pub ways-means : (bs x : List ℕ) → (x ≡ waysOf bs) ↔ Means failed WaysPrints bs start x
 unfolding waysOf
-ways-means bs x = means failed Prints bs start (λ b. listed b mostLines start) is x
+ways-means bs x = means failed WaysPrints bs start (λ b. listed b mostLines start) is x
   where
-    is : (b : Book) → LawfulPoint b start → (y : List ℕ) → Prints b start y ↔ (y ≡ listed b mostLines start)
+    is : (b : Book) → LawfulPoint b start → (y : List ℕ) → WaysPrints b start y ↔ (y ≡ listed b mostLines start)
     is b l y = (
       λ r. r .2 ∙ front-printed b (r .0) (r .1),
       λ e. let a = all-later b start tt in (a .0, a .1, e ∙ sym (front-printed b (a .0) (a .1))),

@@ -128,14 +128,30 @@ lines-length (b ∷ bs) =
     let h = lines-length bs in let g = first-length b (lines bs) in
     either-way (λ (ls : List (List ℕ)). length ls ≤ suc (length bs)) (eqb b 10) ([] ∷ lines bs) (toFirst b (lines bs)) (omega arith) (omega arith)
 
--- Every text's refusal.
-pub text-known : (bs : List ℕ) → Known (suc longest) (readText bs)
-unfolding readText lastByte readLines pick
-text-known bs = go (ltb longest (length bs)) refl
+-- Every text's refusal: its line is one of the text's, or the line after the last, or 0.
+pub text-known : (bs : List ℕ) → Known (suc (length (lines bs))) (readText bs)
+unfolding readText lastByte readLines
+text-known bs =
+    let m = suc (length (lines bs)) in
+    either-way (Known m) (ltb longest (length bs)) (refused 1 0) _ (record { low = omega arith; high = omega arith }, omega arith)
+    (either-way (Known m) (eqb (lastByte bs) 10) (readLines (lines bs) start 1) (refused 2 0) (lines-known m (lines bs) start 1 (omega arith))
+    (record { low = omega arith; high = omega arith }, omega arith))
+
+-- So the line is never more than the longest text has bytes, and one.
+known-more : (m n : ℕ) (o : Outcome) → m ≤ n → Known m o → Known n o
+known-more m n (accepted s ws) h k = tt
+known-more m n (refused q l) h k = (k .0, omega (arith, k .1))
+
+too-long : (bs : List ℕ) → ltb longest (length bs) ≡ true → readText bs ≡ refused 1 0
+unfolding readText pick
+too-long bs e = rw e refl
+
+pub text-short : (bs : List ℕ) → Known (suc longest) (readText bs)
+text-short bs = go (ltb longest (length bs)) refl
   where
-    go : (b : Bool) → ltb longest (length bs) ≡ b → Known (suc longest) (pick b (refused 1 0) (pick (eqb (lastByte bs) 10) (readLines (lines bs) start 1) (refused 2 0)))
-    go true e = (record { low = omega arith; high = omega arith }, omega arith)
-    go false e = let h = lines-length bs in either-way (Known (suc longest)) (eqb (lastByte bs) 10) (readLines (lines bs) start 1) (refused 2 0) (lines-known (suc longest) (lines bs) start 1 (let g = ltb-false longest (length bs) e in omega arith)) (record { low = omega arith; high = omega arith }, omega arith)
+    go : (b : Bool) → ltb longest (length bs) ≡ b → Known (suc longest) (readText bs)
+    go true e = rw (too-long bs e) (record { low = omega arith; high = omega arith }, omega arith)
+    go false e = known-more (suc (length (lines bs))) (suc longest) (readText bs) (let h = lines-length bs in let g = ltb-false longest (length bs) e in omega arith) (text-known bs)
 
 -- ---- an answer by its meaning
 -- What holds of every refusal whose number is not 0, and of all that is right, holds of what an operation answers.

@@ -43,5 +43,5 @@ Lines m b (at p) (told l) = (l ≡ aLine (b .statements) p) × (length l ≤ m)
 Lines m b (at p) (turned q line) = (q ≡ 15) × (line ≡ 0) × (m < length (aLine (b .statements) p))
 
 -- Of what `ways` prints: all resolutions by Line, no more than 9,999, then E, or M if more remain.
-abbrev pub Prints : Book → Point → List ℕ → Type 0
-Prints b from x = (all : List Pair) × AllLater b from all × (x ≡ printed mostLines (b .statements) all)
+abbrev pub WaysPrints : Book → Point → List ℕ → Type 0
+WaysPrints b from x = (all : List Pair) × AllLater b from all × (x ≡ printed mostLines (b .statements) all)

@@ -64,9 +64,9 @@ onText down on (unread q line) = down q line
 onText down on (accepted s ws) = on (bookOf s ws)
 
 -- A refusal whose number is not 0, with line 0, or the rest.
-unfoldable pub unless : {A : Type 0} → (ℕ → ℕ → A) → ℕ → A → A
-unless down zero x = x
-unless down (suc k) x = down (suc k) 0
+unfoldable pub unlessDown : {A : Type 0} → (ℕ → ℕ → A) → ℕ → A → A
+unlessDown down zero x = x
+unlessDown down (suc k) x = down (suc k) 0
 
 -- First.
 unfoldable pub firstAnswer : List ℕ → Answer
@@ -74,25 +74,25 @@ firstAnswer bs = onText refused (λ b. nextFrom b start) (readText bs)
 
 -- After.
 unfoldable pub afterAnswer : List ℕ → Pair → Answer
-afterAnswer bs p = onText refused (λ b. unless refused (pairRefusal b p) (nextFrom b (at p))) (readText bs)
+afterAnswer bs p = onText refused (λ b. unlessDown refused (pairRefusal b p) (nextFrom b (at p))) (readText bs)
 
 -- Judge.
 unfoldable pub judgeAnswer : List ℕ → Pair → Told ℕ
-judgeAnswer bs p = onText turned (λ b. unless turned (pairRefusal b p) (told (verdict b p))) (readText bs)
+judgeAnswer bs p = onText turned (λ b. unlessDown turned (pairRefusal b p) (told (verdict b p))) (readText bs)
 
 -- The first pairs, as many as a lent slice of m numbers has room for, three numbers each.
 unfoldable pub firstPage : List ℕ → ℕ → Told (List Pair)
 firstPage bs m = onText turned (λ b. told (pageFrom b (m / 3) start)) (readText bs)
 
 unfoldable pub pageAfter : List ℕ → Pair → ℕ → Told (List Pair)
-pageAfter bs p m = onText turned (λ b. unless turned (pairRefusal b p) (told (pageFrom b (m / 3) (at p)))) (readText bs)
+pageAfter bs p m = onText turned (λ b. unlessDown turned (pairRefusal b p) (told (pageFrom b (m / 3) (at p)))) (readText bs)
 
 -- Line, into a lent buffer of m bytes: 15 last.
 unfoldable pub roomFor : ℕ → List ℕ → Told (List ℕ)
 roomFor m l = pick (ltb m (length l)) (turned 15 0) (told l)
 
 unfoldable pub lineAnswer : List ℕ → Pair → ℕ → Told (List ℕ)
-lineAnswer bs p m = onText turned (λ b. unless turned (pairRefusal b p) (roomFor m (aLine (b .statements) p))) (readText bs)
+lineAnswer bs p m = onText turned (λ b. unlessDown turned (pairRefusal b p) (roomFor m (aLine (b .statements) p))) (readText bs)
 
 -- ---- lent slices
 -- What an operation leaves in a lent slice: what it was told in front and the rest as it was; after a refusal all of it.

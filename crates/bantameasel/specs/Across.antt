@@ -1,13 +1,17 @@
 -- The answers of the operations as a program in C has them: the refusal and its line first, 0 and 0 where there is none; then the answer, or
 -- zeros where it was refused.
 use Prim.Native.Nat.{ℕ}
+use mathlib.Core.Path.{_≡_}
+use mathlib.Core.List.{List, [], _∷_, _++_}
 use lib.Dec.{eqb}
 use Rattle.logic.specs.Tests.{pick}
 use Rattle.sets.specs.declared.Pair.{Pair}
 use Rattle.text.specs.declared.Reading.{Reading}
 use Rattle.text.specs.declared.Reading.the-variants.{Accepted, Refused}
-use Rattle.meaning.specs.Listings.{Answer, found, end, refused, Operation, first, after}
-use Rattle.answers.specs.Operations.{Told, told, turned}
+use Rattle.meaning.specs.Books.{Book}
+use Rattle.meaning.specs.Order.{Point}
+use Rattle.meaning.specs.Listings.{Answer, found, end, refused, Call, handed, moved, answered, OfKind}
+use Rattle.answers.specs.Operations.{Told, told, turned, asks}
 use Rattle.bantameasel.specs.declared.BookAnswer.{BookAnswer}
 use Rattle.bantameasel.specs.declared.Amount.{Amount}
 use Rattle.bantameasel.specs.declared.VerdictAnswer.{VerdictAnswer}
@@ -45,7 +49,16 @@ verdictFrom r = pick (eqb (r .refusal) 0) (told (r .verdict)) (turned (r .refusa
 unfoldable pub answerFrom : PairAnswer → Answer
 answerFrom r = pick (eqb (r .refusal) 0) (pick (eqb (r .found) 0) end (found (pairOf (r .taken) (r .held) (r .denied)))) (refused (r .refusal) (r .line))
 
--- What a listing in C is answered, where First handed back the struct f and After with a pair p the struct g p.
-unfoldable pub asksAcross : PairAnswer → (Pair → PairAnswer) → Operation → ℕ → Answer
-asksAcross f g first room = answerFrom f
-asksAcross f g (after p) room = answerFrom (g p)
+-- The structs rs are what a program in C gets for the calls cs of a listing of the book's text bs, made one after the other from the point: each
+-- call is of its kind at the point; its struct is what the contract of First or of After says of it; the next call finds the point as it is read
+-- off that struct.
+abbrev pub HandedBack : Book → List ℕ → List Call → Point → List PairAnswer → Type 0
+HandedBack b bs [] from [] = Unit {0}
+HandedBack b bs [] from (r ∷ rs) = ⊥
+HandedBack b bs (c ∷ cs) from [] = ⊥
+HandedBack b bs (c ∷ cs) from (r ∷ rs) = OfKind b 0 c from × (r ≡ answerIn (answered (asks bs) c from)) × HandedBack b bs cs (moved (answerFrom r) from) rs
+
+-- The pairs read off the structs.
+unfoldable pub pairsFrom : List PairAnswer → List Pair
+pairsFrom [] = []
+pairsFrom (r ∷ rs) = handed (answerFrom r) ++ pairsFrom rs

@@ -25,7 +25,7 @@ use Rattle.read.specs.Parsing.{Parsing}
 use Rattle.meaning.specs.Meant.{bookOf}
 use Rattle.meaning.specs.Twins.Verdicts.{pairRefusal}
 use Rattle.meaning.proofs.Meant.{exceptions-count}
-use Rattle.answers.specs.Operations.{Told, told, turned, lengthOf, counted, onText, unless, roomFor, lineAnswer, left}
+use Rattle.answers.specs.Operations.{Told, told, turned, lengthOf, counted, onText, unlessDown, roomFor, lineAnswer, left}
 use Rattle.answers.proofs.Listed.{unless-other, unless-none}
 use Rattle.lawful.specs.Refusals.{Refuses}
 use Rattle.line.specs.Parts.{lineBytes}
@@ -64,9 +64,9 @@ module _ (bs : List ℕ) (r : Reading) (rows : List ℤ) (g : Parsing bs r rows)
       unfolding bookOf
       same = c .refusal (bookOf s (take (rowNumbers s) rows)) refl (exceptions-count s (take (rowNumbers s) rows))
 
-      answer-is : lineAnswer bs p (length l) ≡ unless turned k (roomFor (length l) (aLine (s .statements) p))
+      answer-is : lineAnswer bs p (length l) ≡ unlessDown turned k (roomFor (length l) (aLine (s .statements) p))
       unfolding lineAnswer onText bookOf
-      answer-is = rw read-is (ap (λ (j : ℕ). unless turned j (roomFor (length l) (aLine (s .statements) p))) (sym same))
+      answer-is = rw read-is (ap (λ (j : ℕ). unlessDown turned j (roomFor (length l) (aLine (s .statements) p))) (sym same))
 
       pub line-unlawful : (k ≡ 0 → ⊥) → Met bs p l (NotWritten (record { number = k; line = 0 })) l
       line-unlawful n = turned-met bs p l (record { number = k; line = 0 }) (answer-is ∙ unless-other turned k (roomFor (length l) (aLine (s .statements) p)) n)

@@ -26,7 +26,7 @@ use Rattle.meaning.specs.Twins.Next.{pageFrom}
 use Rattle.meaning.proofs.Meant.{exceptions-count}
 use Rattle.answers.specs.Operations.{onText}
 use Rattle.answers.specs.Ways.{linesOf, mostLines, failed, waysOf}
-use Rattle.answers.proofs.Refused.{text-known}
+use Rattle.answers.proofs.Refused.{text-short}
 use Rattle.line.specs.Parts.{lineBytes}
 use Rattle.engine.specs.Loaded.{Loaded, PageIs}
 use Rattle.listing.specs.declared.Part.{Part}
@@ -137,7 +137,7 @@ module _ (bs : List ℕ) (q : Refusal) (r : readText bs ≡ refused (q .number) 
   longest-short = omega arith
 
   pub refusal-short : (q .number < 10000) × (q .line < 10000)
-  refusal-short = let k = rw r at (text-known bs) in let h = k .0 .high in let g = k .1 in let l = longest-short in (omega arith, omega arith)
+  refusal-short = let k = rw r at (text-short bs) in let h = k .0 .high in let g = k .1 in let l = longest-short in (omega arith, omega arith)
 
   pub begins-refused : (out out₁ ws ranks : List ℕ) (s : Shape) (p : Pair) → 10 ≤ length out → length out₁ ≡ length out → out₁ ≡ sets out 0 (failed (q .number) (q .line))
       → Begins bs ws ranks out₁ (record { part = record { bytes = 10; full = false; last = p }; shape = s })

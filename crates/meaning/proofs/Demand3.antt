@@ -154,6 +154,18 @@ module _ (b : Book) (needed : ℕ) (ask : Operation → ℕ → Answer) (meets :
         ends = script-ends b needed cs (a .0) (answersTo ask cs from) s;
       }
 
+-- Of a list of calls, those after its front: they are answered from the point that the front has reached, and are calls of a listing from there.
+rest-answers : (ask : Operation → ℕ → Answer) (front es : List Call) (from : Point) → drop (length front) (answersTo ask (front ++ es) from) ≡ answersTo ask es (reached ask front from)
+unfolding answersTo reached
+rest-answers ask [] es from = refl
+rest-answers ask (c ∷ front) es from = rest-answers ask front es (moved (answered ask c from) from)
+
+rest-calls : (b : Book) (needed : ℕ) (ask : Operation → ℕ → Answer) (front es : List Call) (from : Point) → Calls b needed ask (front ++ es) from
+    → Calls b needed ask es (reached ask front from)
+unfolding reached
+rest-calls b needed ask [] es from k = k
+rest-calls b needed ask (c ∷ front) es from k = rest-calls b needed ask front es (moved (answered ask c from) from) (k .1)
+
 module _ (b : Book) (needed : ℕ) (ask ask′ : Operation → ℕ → Answer) (m : Meets b needed ask) (m′ : Meets b needed ask′) where
   same-answer : (c : Call) (from : Point) → OfKind b needed c from → answered ask c from ≡ answered ask′ c from
   unfolding answered
@@ -171,8 +183,14 @@ module _ (b : Book) (needed : ℕ) (ask ask′ : Operation → ℕ → Answer) (
       ap (λ (l : List Answer). answered ask c from ∷ l) (alike cs (moved (answered ask c from) from) (k .1))
       ∙ ap (λ (a : Answer). a ∷ answersTo ask′ cs (moved a from)) (same-answer c from (k .0))
 
-  pub point-alone : PointAlone b needed ask ask′
-  point-alone cs ds es from onto e k = alike es (reached ask cs from) k ∙ ap (answersTo ask′ es) e
+  -- So the point alone decides.
+  pub point-alone : (cs : List Call) (from : Point) → Calls b needed ask cs from → PointAlone ask ask′ cs from
+  point-alone cs from k front es ds onto e d =
+      ap (λ (l : List Call). drop (length front) (answersTo ask l from)) e
+      ∙ rest-answers ask front es from
+      ∙ alike es (reached ask front from) (rest-calls b needed ask front es from (rw e at k))
+      ∙ ap (answersTo ask′ es) d
+      ∙ sym (rest-answers ask′ ds es onto)
 
 -- The same from equations: a refused operation answers the refusal, any other the computed answer.
 pub meets-by-equality : (b : Book) (needed : ℕ) (ask : Operation → ℕ → Answer)
@@ -183,34 +201,34 @@ meets-by-equality b needed ask r e =
 
 -- ---- the demand can be met: a model engine that answers by the definitions
 -- The answer, or the refusal with a number that is not 0.
-unfoldable pub unless : ℕ → Answer → Answer
-unless zero x = x
-unless (suc k) x = refused (suc k) 0
+unfoldable pub refusedBy : ℕ → Answer → Answer
+refusedBy zero x = x
+refusedBy (suc k) x = refused (suc k) 0
 
-unfoldable pub roomFor : Bool → Answer → Answer
-roomFor true x = refused 15 0
-roomFor false x = x
+unfoldable pub withRoom : Bool → Answer → Answer
+withRoom true x = refused 15 0
+withRoom false x = x
 
 unfoldable pub model : Book → ℕ → Operation → ℕ → Answer
-model b needed first room = roomFor (ltb room needed) (nextFrom b start)
-model b needed (after p) room = unless (pairRefusal b p) (roomFor (ltb room needed) (nextFrom b (at p)))
+model b needed first room = withRoom (ltb room needed) (nextFrom b start)
+model b needed (after p) room = refusedBy (pairRefusal b p) (withRoom (ltb room needed) (nextFrom b (at p)))
 
 pub model-meets : (b : Book) (needed : ℕ) → Meets b needed (model b needed)
-unfolding model unless roomFor
+unfolding model refusedBy withRoom
 model-meets b needed = meets-by-equality b needed (model b needed) turns answers
   where
-    turned : (p : Pair) (k : ℕ) (x : Answer) → PairRefused b p k → unless k x ≡ refused k 0
+    turned : (p : Pair) (k : ℕ) (x : Answer) → PairRefused b p k → refusedBy k x ≡ refused k 0
     turned p k x (past-exceptions n) = refl
     turned p k x (past-statements t n) = refl
     turned p k x (shared t h d n) = refl
 
     turns : (op : Operation) (room k : ℕ) → Refused b needed op room k → model b needed op room ≡ refused k 0
     turns first room k (short op r l h) = rw (lt-ltb room needed h) refl
-    turns (after p) room k (unlawful q r j f) = rw (refusal-one b p k f) (turned p k (roomFor (ltb room needed) (nextFrom b (at p))) f)
+    turns (after p) room k (unlawful q r j f) = rw (refusal-one b p k f) (turned p k (withRoom (ltb room needed) (nextFrom b (at p))) f)
     turns (after p) room k (short op r l h) = rw (lawful-none b p l, lt-ltb room needed h) refl
 
     enough : (op : Operation) (room : ℕ) → LawfulPoint b (pointOf op) → ((k : ℕ) → Refused b needed op room k → ⊥) → (y : Bool) → ltb room needed ≡ y
-        → roomFor y (nextFrom b (pointOf op)) ≡ nextFrom b (pointOf op)
+        → withRoom y (nextFrom b (pointOf op)) ≡ nextFrom b (pointOf op)
     enough op room l n true e = absurd (n 15 (short op room l (ltb-true room needed e)))
     enough op room l n false e = refl
 

@@ -3,7 +3,7 @@ use Prim.Native.Nat.{ℕ, suc, _<_, _≤_}
 use mathlib.Core.Path.{_≡_}
 use mathlib.Core.List.{List, [], _∷_, _++_}
 use mathlib.Core.Logic.{_⊎_, _↔_}
-use lib.ListN.{length, take}
+use lib.ListN.{length, take, drop}
 use Rattle.sets.specs.declared.Pair.{Pair}
 use Rattle.meaning.specs.Books.{Book, PairRefused}
 use Rattle.meaning.specs.Resolutions.{Resolution}
@@ -124,8 +124,8 @@ module _ (b : Book) (needed : ℕ) where
     pub ends : (before rest : List Call) (room : ℕ) (ahead behind : List Answer) (y : Answer) → cs ≡ before ++ (goOn room ∷ rest) → ys ≡ ahead ++ (y ∷ behind)
         → length ahead ≡ length before → (y ≡ end) ↔ (length all ≤ goings before)
 
-  -- The point alone decides: listings of the book that have come to the same point, through whatever calls and by whichever of two such
-  -- engines, get the same answers from there.
-  abbrev pub PointAlone : (Operation → ℕ → Answer) → (Operation → ℕ → Answer) → Type 0
-  PointAlone ask ask′ = (cs ds es : List Call) (from onto : Point) → reached ask cs from ≡ reached ask′ ds onto → Calls ask es (reached ask cs from)
-      → answersTo ask es (reached ask cs from) ≡ answersTo ask′ es (reached ask′ ds onto)
+-- The point alone decides. The calls cs, made from a point and answered by `ask`, have come to some point after their front; the answers from
+-- there to the rest, es, are those of any other listing that has come to that point, through whatever calls ds, answered by ask′.
+abbrev pub PointAlone : (ask ask′ : Operation → ℕ → Answer) → List Call → Point → Type 0
+PointAlone ask ask′ cs from = (front es ds : List Call) (onto : Point) → cs ≡ front ++ es → reached ask front from ≡ reached ask′ ds onto
+    → drop (length front) (answersTo ask cs from) ≡ drop (length ds) (answersTo ask′ (ds ++ es) onto)

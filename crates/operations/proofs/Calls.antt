@@ -27,21 +27,21 @@ use Rattle.text.specs.declared.Refusal.{Refusal}
 use Rattle.operations.specs.declared.Spot.{Spot}
 use Rattle.operations.specs.declared.Spot.the-variants.{Start, At}
 use Rattle.operations.specs.declared.Handed.{Handed}
-use Rattle.operations.specs.Calls.{pointOf, callOf, callAt, callsFrom, callsOf, row, rows, Makes, Ran, runRefusal}
+use Rattle.operations.specs.Calls.{asPoint, callOf, callAt, callsFrom, callsOf, row, rows, Makes, Ran, runRefusal}
 
 -- ---- one answer
 module _ (bs : List ℕ) where
-  pub answer-other : (kind : ℕ) (p : Pair) (s : Spot) (r : Found) → (kind ≡ 0 → ⊥) → answerOf r ≡ afterAnswer bs p → answerOf r ≡ answered (asks bs) (callOf kind p) (pointOf s)
+  pub answer-other : (kind : ℕ) (p : Pair) (s : Spot) (r : Found) → (kind ≡ 0 → ⊥) → answerOf r ≡ afterAnswer bs p → answerOf r ≡ answered (asks bs) (callOf kind p) (asPoint s)
   unfolding answered asks callOf
   answer-other zero p s r n e = absurd (n refl)
   answer-other (suc k) p s r n e = e
 
-  pub answer-first : (kind : ℕ) (p : Pair) (s : Spot) (r : Found) → kind ≡ 0 → s ≡ Start → answerOf r ≡ firstAnswer bs → answerOf r ≡ answered (asks bs) (callOf kind p) (pointOf s)
-  unfolding answered asks callOf pointOf
+  pub answer-first : (kind : ℕ) (p : Pair) (s : Spot) (r : Found) → kind ≡ 0 → s ≡ Start → answerOf r ≡ firstAnswer bs → answerOf r ≡ answered (asks bs) (callOf kind p) (asPoint s)
+  unfolding answered asks callOf asPoint
   answer-first kind p s r z d e = rw (z, d) e
 
-  pub answer-after : (kind : ℕ) (p q : Pair) (s : Spot) (r : Found) → kind ≡ 0 → s ≡ At q → answerOf r ≡ afterAnswer bs q → answerOf r ≡ answered (asks bs) (callOf kind p) (pointOf s)
-  unfolding answered asks callOf pointOf
+  pub answer-after : (kind : ℕ) (p q : Pair) (s : Spot) (r : Found) → kind ≡ 0 → s ≡ At q → answerOf r ≡ afterAnswer bs q → answerOf r ≡ answered (asks bs) (callOf kind p) (asPoint s)
+  unfolding answered asks callOf asPoint
   answer-after kind p q s r z d e = rw (z, d) e
 
 -- ---- answers as numbers
@@ -80,7 +80,7 @@ rows-append (x ∷ xs) ys = rw (rows-append xs ys) (sym (append-assoc (row x) (r
 
 -- ---- one call
 module _ (bs ns : List ℕ) (k : ℕ) (from : Point) (n : ℕ) (ans out : List ℕ) where
-  one : (x : Answer) → x ≡ answered (asks bs) (callAt ns k) from → (ans′ out′ : List ℕ) (r : Handed) → r .count ≡ n + length (handed x) → pointOf (r .spot) ≡ moved x from
+  one : (x : Answer) → x ≡ answered (asks bs) (callAt ns k) from → (ans′ out′ : List ℕ) (r : Handed) → r .count ≡ n + length (handed x) → asPoint (r .spot) ≡ moved x from
       → ans′ ≡ sets ans (k * 4) (row x) → out′ ≡ sets out (n * 3) (flat (handed x)) → Makes bs ns k 1 from n ans ans′ out out′ r
   unfolding callsFrom answersTo listing reached rows
   one x e ans′ out′ r c s f g = record {
@@ -92,14 +92,14 @@ module _ (bs ns : List ℕ) (k : ℕ) (from : Point) (n : ℕ) (ans out : List �
 
   module _ (a : Found) (ans′ : List ℕ) (e : answerOf a ≡ answered (asks bs) (callAt ns k) from) (f : ans′ ≡ sets ans (k * 4) (row (answerOf a))) where
     pub called-found : (q : Pair) (out′ : List ℕ) → a ≡ Resolution q → out′ ≡ sets out (n * 3) (flat (q ∷ [])) → Makes bs ns k 1 from n ans ans′ out out′ (record { count = n + 1; spot = At q })
-    unfolding answerOf handed moved pointOf
+    unfolding answerOf handed moved asPoint
     called-found q out′ d g = one (found q) (rw d at e) ans′ out′ (record { count = n + 1; spot = At q }) refl refl (rw d at f) g
 
-    pub called-end : (s : Spot) → from ≡ pointOf s → a ≡ End → Makes bs ns k 1 from n ans ans′ out out (record { count = n; spot = s })
+    pub called-end : (s : Spot) → from ≡ asPoint s → a ≡ End → Makes bs ns k 1 from n ans ans′ out out (record { count = n; spot = s })
     unfolding answerOf handed moved flat
     called-end s z d = one end (rw d at e) ans′ out (record { count = n; spot = s }) (omega arith) (sym z) (rw d at f) refl
 
-    pub called-refused : (q : Refusal) (s : Spot) → from ≡ pointOf s → a ≡ Refused q → Makes bs ns k 1 from n ans ans′ out out (record { count = n; spot = s })
+    pub called-refused : (q : Refusal) (s : Spot) → from ≡ asPoint s → a ≡ Refused q → Makes bs ns k 1 from n ans ans′ out out (record { count = n; spot = s })
     unfolding answerOf handed moved flat
     called-refused q s z d = one (refused (q .number) (q .line)) (rw d at e) ans′ out (record { count = n; spot = s }) (omega arith) (sym z) (rw d at f) refl
 
@@ -152,11 +152,11 @@ calls-length ns zero k = refl
 calls-length ns (suc m) k = ap suc (calls-length ns m (suc k))
 
 module _ (bs ns : List ℕ) (from : Point) (ans out : List ℕ) where
-  pub makes-none : (s : Spot) → from ≡ pointOf s → Makes bs ns 0 0 from 0 ans ans out out (record { count = 0; spot = s })
+  pub makes-none : (s : Spot) → from ≡ asPoint s → Makes bs ns 0 0 from 0 ans ans out out (record { count = 0; spot = s })
   unfolding callsFrom answersTo listing reached rows flat
   makes-none s e = record { count = refl; spot = sym e; answers = refl; pairs = refl }
 
-  pub makes-more : (k : ℕ) (ans₁ out₁ ans′ out′ : List ℕ) (h r : Handed) → Makes bs ns 0 k from 0 ans ans₁ out out₁ h → Makes bs ns k 1 (pointOf (h .spot)) (h .count) ans₁ ans′ out₁ out′ r
+  pub makes-more : (k : ℕ) (ans₁ out₁ ans′ out′ : List ℕ) (h r : Handed) → Makes bs ns 0 k from 0 ans ans₁ out out₁ h → Makes bs ns k 1 (asPoint (h .spot)) (h .count) ans₁ ans′ out₁ out′ r
       → Makes bs ns 0 (k + 1) from 0 ans ans′ out out′ r
   makes-more k ans₁ out₁ ans′ out′ h r f g =
       let z : 0 + k ≡ k = omega arith in
@@ -200,7 +200,7 @@ module _ (bs ns : List ℕ) (from : Point) (ans out : List ℕ) where
         count = f .count ∙ omega arith;
         spot = f .spot;
         demand3 = λ s ws e l c. demand3-of-text bs s ws e (callsFrom ns 0 (length ns / 4)) from l c;
-        point-alone = λ s ws e bs′ s′ ws′ e′ d. point-alone-of-texts bs bs′ s s′ ws ws′ e e′ d;
+        alone = λ s ws e c bs′ s′ ws′ e′ d. point-alone-of-texts bs bs′ s s′ ws ws′ e e′ d (callsFrom ns 0 (length ns / 4)) from c;
       }
 
 -- One call more has handed out one pair more at most.

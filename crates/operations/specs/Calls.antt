@@ -23,9 +23,9 @@ use Rattle.operations.specs.declared.Calling.{Calling}
 use Rattle.operations.specs.declared.Calling.the-variants.{Made, Refused}
 
 -- The point where a listing stands.
-unfoldable pub pointOf : Spot → Point
-pointOf Start = start
-pointOf (At p) = at p
+unfoldable pub asPoint : Spot → Point
+asPoint Start = start
+asPoint (At p) = at p
 
 -- ---- calls and answers as numbers, four each
 -- Kind 0 goes on; any other kind is After with the pair. First and After lend no buffer, so the room does not matter.
@@ -60,23 +60,23 @@ rows (y ∷ ys) = row y ++ rows ys
 -- the slice of answers with the answers, and the slice of pairs with the pairs that were handed out.
 pub record Makes (bs ns : List ℕ) (k m : ℕ) (from : Point) (n : ℕ) (ans ans′ out out′ : List ℕ) (r : Handed) : Type 0 where
   pub count : r .count ≡ n + length (listing (asks bs) (callsFrom ns k m) from)
-  pub spot : pointOf (r .spot) ≡ reached (asks bs) (callsFrom ns k m) from
+  pub spot : asPoint (r .spot) ≡ reached (asks bs) (callsFrom ns k m) from
   pub answers : ans′ ≡ sets ans (k * 4) (rows (answersTo (asks bs) (callsFrom ns k m) from))
   pub pairs : out′ ≡ sets out (n * 3) (flat (listing (asks bs) (callsFrom ns k m) from))
 
 -- The calls cs, made one after the other from a point through First and After, whose answers are `asks` (their contracts), and what they leave:
--- every answer, every pair handed out, their number, and the point reached. And this is demand 3: for an accepted text, a lawful point and calls
--- of a listing these answers and pairs are the script of all later resolutions (`Demand3`); and from the point reached, whatever is called next
--- is answered as in every listing that has come to that point in a text with the same book (`PointAlone`).
+-- every answer, every pair handed out, their number, and the point reached. And this is demand 3. For an accepted text, a lawful point and calls
+-- of a listing these answers and pairs are the script of all later resolutions (`Demand3`); and these answers, from each point that the calls have
+-- come to, are those of every listing that has come to that point in a text with the same book (`PointAlone`).
 pub record Ran (bs : List ℕ) (cs : List Call) (from : Point) (ans ans′ out out′ : List ℕ) (r : Handed) : Type 0 where
   pub answers : ans′ ≡ over ans (rows (answersTo (asks bs) cs from))
   pub pairs : out′ ≡ over out (flat (listing (asks bs) cs from))
   pub count : r .count ≡ length (listing (asks bs) cs from)
-  pub spot : pointOf (r .spot) ≡ reached (asks bs) cs from
+  pub spot : asPoint (r .spot) ≡ reached (asks bs) cs from
   pub demand3 : (s : Shape) (ws : List ℤ) → readText bs ≡ accepted s ws → LawfulPoint (bookOf s ws) from → Calls (bookOf s ws) 0 (asks bs) cs from
       → Demand3 (bookOf s ws) 0 from cs (answersTo (asks bs) cs from) (listing (asks bs) cs from)
-  pub point-alone : (s : Shape) (ws : List ℤ) → readText bs ≡ accepted s ws → (bs′ : List ℕ) (s′ : Shape) (ws′ : List ℤ) → readText bs′ ≡ accepted s′ ws′
-      → bookOf s ws ≡ bookOf s′ ws′ → PointAlone (bookOf s ws) 0 (asks bs) (asks bs′)
+  pub alone : (s : Shape) (ws : List ℤ) → readText bs ≡ accepted s ws → Calls (bookOf s ws) 0 (asks bs) cs from
+      → (bs′ : List ℕ) (s′ : Shape) (ws′ : List ℤ) → readText bs′ ≡ accepted s′ ws′ → bookOf s ws ≡ bookOf s′ ws′ → PointAlone (asks bs) (asks bs′) cs from
 
 -- The refusal of n numbers with so much room for answers and for pairs: 16 where they are not four a call; 15 where there is less room than
 -- for the answers, or than for as many pairs as calls; 0 if none.

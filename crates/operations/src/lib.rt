@@ -10,7 +10,7 @@ ghost use Rattle.meaning.specs.Listings.{refused, FirstLater, answered};
 ghost use Rattle.answers.specs.Operations.{turned, answerOf, verdictOf, firstAnswer, afterAnswer, judgeAnswer, firstPage, pageAfter, PageMet, asks};
 ghost use Rattle.answers.specs.Means.{Means, Judges};
 ghost use Rattle.operations.specs.Loads.{Loads, Filled, foundIn};
-ghost use Rattle.operations.specs.Calls.{callOf, pointOf, row, runRefusal, Makes, Runs};
+ghost use Rattle.operations.specs.Calls.{callOf, asPoint, row, runRefusal, Makes, Runs};
 use answers::Found;
 use answers::Judged;
 use answers::Paged;
@@ -181,7 +181,7 @@ pub enum Calling {
 
 // One call of a listing: kind 0 goes on from the point, by First or After; any other kind is After with the pair p.
 pub fn answer(text: &[u8], kind: u64, p: Pair, spot: Spot) -> Found
-    ensures { λ r. ⌜ answerOf r ≡ answered (asks (now (text .entry))) (callOf kind p) (pointOf spot) ⌝ }
+    ensures { λ r. ⌜ answerOf r ≡ answered (asks (now (text .entry))) (callOf kind p) (asPoint spot) ⌝ }
 {
     if kind != 0 {
         return after(text, p);
@@ -228,7 +228,7 @@ pub fn one_call(
     at: usize,
 ) -> Handed
     requires { ⌜ (k * 4 + 4 ≤ length (now calls)) × (k * 4 + 4 ≤ length (now answers)) × (at * 3 + 3 ≤ length (now pairs)) ⌝ }
-    ensures { λ r. ⌜ Makes (now (text .entry)) (now (calls .entry)) k 1 (pointOf spot) at (now (answers .entry)) (now (answers .exit)) (now (pairs .entry)) (now (pairs .exit)) r ⌝ }
+    ensures { λ r. ⌜ Makes (now (text .entry)) (now (calls .entry)) k 1 (asPoint spot) at (now (answers .entry)) (now (answers .exit)) (now (pairs .entry)) (now (pairs .exit)) r ⌝ }
 {
     let i = k * 4;
     let p = Pair {
@@ -260,7 +260,7 @@ pub fn make_calls(
     pairs: &mut [u64],
 ) -> Handed
     requires { ⌜ (length (now calls) ≤ length (now answers)) × (length (now calls) / 4 * 3 ≤ length (now pairs)) ⌝ }
-    ensures { λ r. ⌜ Makes (now (text .entry)) (now (calls .entry)) 0 (length (now (calls .entry)) / 4) (pointOf spot) 0 (now (answers .entry)) (now (answers .exit)) (now (pairs .entry)) (now (pairs .exit)) r ⌝ }
+    ensures { λ r. ⌜ Makes (now (text .entry)) (now (calls .entry)) 0 (length (now (calls .entry)) / 4) (asPoint spot) 0 (now (answers .entry)) (now (answers .exit)) (now (pairs .entry)) (now (pairs .exit)) r ⌝ }
 {
     let m = calls.len() / 4;
     let mut r = Handed { count: 0, spot };
@@ -300,7 +300,7 @@ pub fn run(
     answers: &mut [u64],
     pairs: &mut [u64],
 ) -> Calling
-    ensures { λ r. ⌜ Runs (now (text .entry)) (now (calls .entry)) (pointOf spot) (now (answers .entry)) (now (answers .exit)) (now (pairs .entry)) (now (pairs .exit)) r ⌝ }
+    ensures { λ r. ⌜ Runs (now (text .entry)) (now (calls .entry)) (asPoint spot) (now (answers .entry)) (now (answers .exit)) (now (pairs .entry)) (now (pairs .exit)) r ⌝ }
 {
     let k = run_refusal(calls.len(), answers.len(), pairs.len());
     if k != 0 {

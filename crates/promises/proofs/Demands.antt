@@ -1,16 +1,16 @@
 -- The three demands, about the engine's own functions and about those for C, for every input. What a function meets is its contract, which says
--- its full answer and what it leaves in each lent slice, and that it ends: `F.statement`, proved as `F.met`. Beside them stand the laws that say
--- what the definitions in the contracts mean; none of them is about any function whatever.
+-- its full answer and what it leaves in each lent slice, and that it ends: `F.statement`, proved as `F.met`. Beside the contracts stand laws about
+-- the definitions that they name, so that a reader need believe no more than those of the documents.
 use mathlib.Core.Path.{_≡_, refl}
 use mathlib.Core.List.{List}
 use mathlib.Core.Logic.{_↔_}
 use Prim.Native.Nat.{ℕ, suc, _/_}
 use lib.IntN.{ℤ}
-use lib.ListN.{replicate}
+use lib.ListN.{length, replicate}
 use Rattle.logic.specs.Lists.{Every}
 use Rattle.sets.specs.declared.Pair.{Pair}
 use Rattle.book.specs.declared.Shape.{Shape}
-use Rattle.book.specs.Kinds.{longest}
+use Rattle.text.specs.Lines.{lines}
 use Rattle.text.specs.Reading.{readText, readInto, tableOf}
 use Rattle.text.specs.Reading.Outcome.{accepted, refused as unread}
 use Rattle.text.specs.Tables.{testTable}
@@ -20,17 +20,17 @@ use Rattle.text.proofs.Inverse.{read-write, write-read}
 use Rattle.meaning.specs.Books.{Book, Lawful}
 use Rattle.meaning.specs.Meant.{bookOf}
 use Rattle.meaning.specs.Order.{start, at}
-use Rattle.meaning.specs.Resolutions.{Resolution, Verdict}
+use Rattle.meaning.specs.Resolutions.{Resolution}
 use Rattle.meaning.specs.Published.{Chosen}
-use Rattle.meaning.specs.Listings.{goOn, listing}
+use Rattle.meaning.specs.Listings.{Answer, refused, first, after, FirstLater, goOn, listing}
 use Rattle.meaning.proofs.Laws.{as-published}
 use Rattle.meaning.proofs.Shown.{Shown, small-books}
 use Rattle.meaning.proofs.SmallBooks.{table}
-use Rattle.answers.specs.Operations.{Told, told, turned, left, firstPage, pageAfter, lineAnswer, asks}
+use Rattle.answers.specs.Operations.{Told, told, turned, left, judgeAnswer, firstPage, pageAfter, lineAnswer, asks}
 use Rattle.answers.specs.Ways.{failed, waysOf}
-use Rattle.answers.specs.Means.{Means, Pages, Lines, Prints}
+use Rattle.answers.specs.Means.{Means, Judges, Pages, Lines, WaysPrints}
 use Rattle.answers.proofs.Refused.{Known, text-known}
-use Rattle.answers.proofs.Means.{first-page-means, page-after-means, line-means, ways-means}
+use Rattle.answers.proofs.Means.{judge-means, first-means, after-means, first-page-means, page-after-means, line-means, ways-means}
 use Rattle.answers.proofs.Listed.{first-page-handed, page-after-handed}
 use Rattle.read.proofs.read.Statement as read
 use Rattle.read.proofs.read.Met as read-met
@@ -62,54 +62,55 @@ use Rattle.bantameasel.proofs.bantameasel_first_page.Met as first-page-c-met
 use Rattle.bantameasel.proofs.bantameasel_page_after.Statement as page-after-c
 use Rattle.bantameasel.proofs.bantameasel_page_after.Met as page-after-c-met
 
--- Demand 1. Every operation ends on every input, turns down what is faulty by the number and line of the documents, and then leaves every lent
--- buffer untouched: the contracts, in which a refused Read, Write, Line or page leaves the slice that it was lent. A text is never refused with
--- number 0, nor with a line past the one after its last.
-pub record DemandOne (M : Type 1) : Type 2 where
+-- Every operation that users call, in the engine and for C: its contract, on every input. Of First and After there are the contracts and that of
+-- the function which makes any list of calls through them (`engine.Claim`); of `ways` those of the functions that leave what it writes, and that
+-- this is, part after part, the whole of it (`ways.Claim`).
+pub record Contracts (M : Type 1) : Type 2 where
   pub read-meets : read.statement M
   pub write-meets : write.statement M
   pub judge-meets : judge.statement M
-  pub line-meets : line.statement M
+  pub listing-meets : engine.Claim M
   pub first-page-meets : first-page.statement M
   pub page-after-meets : page-after.statement M
-  pub listing-meets : engine.Claim M
+  pub line-meets : line.statement M
+  pub line-part-meets : line-part.statement M
+  pub ways-meets : ways.Claim M
   pub read-c-meets : read-c.statement M
   pub write-c-meets : write-c.statement M
   pub judge-c-meets : judge-c.statement M
-  pub line-c-meets : line-c.statement M
+  pub listing-c-meets : across.Claim M
   pub first-page-c-meets : first-page-c.statement M
   pub page-after-c-meets : page-after-c.statement M
-  pub listing-c-meets : across.Claim M
+  pub line-c-meets : line-c.statement M
+
+-- Demand 1. Every operation ends on every input, turns down what is faulty by the number and line of the documents, and then leaves every lent
+-- buffer untouched: the contracts, in whose definitions a refused Read, Write, Line or page leaves the slice that it was lent. A text is never
+-- refused with number 0, nor with a line past the one after its last.
+pub record DemandOne : Type 1 where
   pub read-untouched : (l : List ℤ) (q at′ : ℕ) → readInto l (unread q at′) ≡ l
   pub write-untouched : (l : List ℕ) (q at′ : ℕ) → writeInto l (noText q at′) ≡ l
   pub left-untouched : (A : Type 0) (f : A → List ℕ) (l : List ℕ) (q at′ : ℕ) → left f l (turned q at′) ≡ l
-  pub numbered : (bs : List ℕ) → Known (suc longest) (readText bs)
+  pub numbered : (bs : List ℕ) → Known (suc (length (lines bs))) (readText bs)
 
--- Demand 2. A book is accepted, read and written as the documents lay it out, reading and writing being inverse (the contracts of Read and Write
--- with these two laws). The verdict on any pair is the one that follows from answer sets, views, domination and minimality: `Means` in the
--- contracts of Judge, whose resolutions are the published ones, shown by the small books. Line, pages and `ways` by the definitions alone.
-pub record DemandTwo (M : Type 1) : Type 2 where
-  pub read-meets : read.statement M
-  pub write-meets : write.statement M
+-- Demand 2. A book is accepted, read and written as the documents lay it out, reading and writing being inverse: the contracts of Read and Write,
+-- and the first two laws. The verdict on any pair is the one that follows from answer sets, views, domination and minimality: the contracts of
+-- Judge, whose answer is the one that `Means` and `Verdict` allow; resolutions are the published ones, and the small books show it. What Line
+-- writes and `ways` prints is also said by the definitions alone.
+pub record DemandTwo : Type 0 where
   pub read-back : (bs : List ℕ) (s : Shape) (ws : List ℤ) → readText bs ≡ accepted s ws → (testTable (tableOf s ws) ≡ accepted s ws) × (textOf s ws ≡ bs)
   pub write-back : (t : List ℤ) (s : Shape) (ws : List ℤ) → testTable t ≡ accepted s ws → (readText (textOf s ws) ≡ accepted s ws) × (tableOf s ws ≡ t)
-  pub judge-meets : judge.statement M
-  pub judge-c-meets : judge-c.statement M
+  pub judge-right : (bs : List ℕ) (p : Pair) (x : Told ℕ) → (x ≡ judgeAnswer bs p) ↔ Means turned Judges bs (at p) x
   pub published : (b : Book) (p : Pair) → Resolution b p ↔ Chosen b p
   pub shown : Every Shown table
-  pub line-meets : line.statement M
-  pub line-part-meets : line-part.statement M
   pub line-right : (bs : List ℕ) (p : Pair) (m : ℕ) (x : Told (List ℕ)) → (x ≡ lineAnswer bs p m) ↔ Means turned (Lines m) bs (at p) x
-  pub ways-meets : ways.Claim M
-  pub ways-right : (bs x : List ℕ) → (x ≡ waysOf bs) ↔ Means failed Prints bs start x
+  pub ways-right : (bs x : List ℕ) → (x ≡ waysOf bs) ↔ Means failed WaysPrints bs start x
 
--- Demand 3, one claim about the whole list of calls of the engine's own First and After: `run` in `engine.Claim`. The same for C. And pages: a
--- page is the first so many of all later resolutions, and what as many calls of First and After would hand out.
-pub record DemandThree (M : Type 1) : Type 2 where
-  pub listing-meets : engine.Claim M
-  pub listing-c-meets : across.Claim M
-  pub first-page-meets : first-page.statement M
-  pub page-after-meets : page-after.statement M
+-- Demand 3, one claim about the whole list of calls of the engine's own First and After: the contract of `run`, in `engine.Claim`, where `asks` is
+-- what First and After answer, the first later resolution; and of the structs that C gets, `across.Claim`. And pages: a page is the first so many
+-- of all later resolutions, and what as many calls of First and After would hand out.
+pub record DemandThree : Type 0 where
+  pub first-right : (bs : List ℕ) (x : Answer) → (x ≡ asks bs first 0) ↔ Means refused FirstLater bs start x
+  pub after-right : (bs : List ℕ) (p : Pair) (x : Answer) → (x ≡ asks bs (after p) 0) ↔ Means refused FirstLater bs (at p) x
   pub first-page-right : (bs : List ℕ) (m : ℕ) (x : Told (List Pair)) → (x ≡ firstPage bs m) ↔ Means turned (Pages (m / 3)) bs start x
   pub page-after-right : (bs : List ℕ) (p : Pair) (m : ℕ) (x : Told (List Pair)) → (x ≡ pageAfter bs p m) ↔ Means turned (Pages (m / 3)) bs (at p) x
   pub first-page-calls : (bs : List ℕ) (s : Shape) (ws : List ℤ) → readText bs ≡ accepted s ws → (m : ℕ)
@@ -118,53 +119,45 @@ pub record DemandThree (M : Type 1) : Type 2 where
       → pageAfter bs p m ≡ told (listing (asks bs) (replicate (m / 3) (goOn 0)) (at p))
 
 pub record Demands (M : Type 1) : Type 2 where
-  pub one : DemandOne M
-  pub two : DemandTwo M
-  pub three : DemandThree M
+  pub contracts : Contracts M
+  pub one : DemandOne
+  pub two : DemandTwo
+  pub three : DemandThree
 
 pub demands : {M : Type 1} → Demands M
-unfolding readInto writeInto left
+unfolding readInto writeInto left asks
 demands = record {
-  one = record {
+  contracts = record {
     read-meets = read-met.met;
     write-meets = write-met.met;
     judge-meets = judge-met.met;
-    line-meets = line-met.met;
+    listing-meets = engine.claim;
     first-page-meets = first-page-met.met;
     page-after-meets = page-after-met.met;
-    listing-meets = engine.claim;
+    line-meets = line-met.met;
+    line-part-meets = line-part-met.met;
+    ways-meets = ways.claim;
     read-c-meets = read-c-met.met;
     write-c-meets = write-c-met.met;
     judge-c-meets = judge-c-met.met;
-    line-c-meets = line-c-met.met;
+    listing-c-meets = across.claim;
     first-page-c-meets = first-page-c-met.met;
     page-after-c-meets = page-after-c-met.met;
-    listing-c-meets = across.claim;
-    read-untouched = λ l q at′. refl;
-    write-untouched = λ l q at′. refl;
-    left-untouched = λ A f l q at′. refl;
-    numbered = text-known;
+    line-c-meets = line-c-met.met;
   };
+  one = record { read-untouched = λ l q at′. refl; write-untouched = λ l q at′. refl; left-untouched = λ A f l q at′. refl; numbered = text-known };
   two = record {
-    read-meets = read-met.met;
-    write-meets = write-met.met;
     read-back = read-write;
     write-back = write-read;
-    judge-meets = judge-met.met;
-    judge-c-meets = judge-c-met.met;
+    judge-right = judge-means;
     published = as-published;
     shown = small-books;
-    line-meets = line-met.met;
-    line-part-meets = line-part-met.met;
     line-right = line-means;
-    ways-meets = ways.claim;
     ways-right = ways-means;
   };
   three = record {
-    listing-meets = engine.claim;
-    listing-c-meets = across.claim;
-    first-page-meets = first-page-met.met;
-    page-after-meets = page-after-met.met;
+    first-right = first-means;
+    after-right = after-means;
     first-page-right = first-page-means;
     page-after-right = page-after-means;
     first-page-calls = first-page-handed;

@@ -1,4 +1,4 @@
-use Rattle.answers.proofs.Means.{after-both}
+use Rattle.answers.proofs.Means.{with-meaning, after-means}
 use Rattle.operations.proofs.Loading.{refused-was, accepted-was, small-was}
 use Rattle.operations.proofs.Answers.{after-down, after-refused, after-accepted, few-taken}
 use mathlib.Core.Path.{refl, ap, _∙_}
@@ -21,7 +21,7 @@ refusal-requires : tie.Need-refusal-requires
 refusal-requires c κs = let k = small-was _ _ (c .before .got2 .given .0 .0) _ _ (search needs) (c .before .before .before .load .ensures) in (omega (arith, k .statements), omega (arith, k .exceptions))
 
 returns : tie.Need-returns
-returns c = after-both _ _ _ (after-refused _ _ _ _ (accepted-was _ _ (c .before .before .before .got2 .given .0 .0) _ _ (search needs) (c .before .before .before .before .before .load .ensures)) _ _ (c .before .refusal .ensures) (search needs))
+returns c = with-meaning _ _ _ (after-means _ _ _) (after-refused _ _ _ _ (accepted-was _ _ (c .before .before .before .got2 .given .0 .0) _ _ (search needs) (c .before .before .before .before .before .load .ensures)) _ _ (c .before .refusal .ensures) (search needs))
 
 slice-aggregate-after-in : tie.Need-slice-aggregate-after-in
 slice-aggregate-after-in c = search needs
@@ -33,10 +33,10 @@ found-requires : tie.Need-found-requires
 found-requires c κs = search needs
 
 returns-2 : tie.Need-returns-2
-returns-2 c = after-both _ _ _ (after-down _ _ (refused-was _ _ _ _ _ (search needs) (c .before .before .before .load .ensures)) _)
+returns-2 c = with-meaning _ _ _ (after-means _ _ _) (after-down _ _ (refused-was _ _ _ _ _ (search needs) (c .before .before .before .load .ensures)) _)
 
 returns-3 : tie.Need-returns-3
-returns-3 c = after-both _ _ _ (ap answerOf (c .found .ensures) ∙ after-accepted _ _ _ _ (accepted-was _ _ (c .before .before .before .before .before .before .before .before .before .before .got2 .given .0 .0) _ _ (search needs) (c .before .before .before .before .before .before .before .before .before .before .before .before .load .ensures)) _ _ (c .before .before .before .before .before .before .before .before .refusal .ensures) (search needs) _ _ _ refl (c .before .before .before .after-in .ensures))
+returns-3 c = with-meaning _ _ _ (after-means _ _ _) (ap answerOf (c .found .ensures) ∙ after-accepted _ _ _ _ (accepted-was _ _ (c .before .before .before .before .before .before .before .before .before .before .got2 .given .0 .0) _ _ (search needs) (c .before .before .before .before .before .before .before .before .before .before .before .before .load .ensures)) _ _ (c .before .before .before .before .before .before .before .before .refusal .ensures) (search needs) _ _ _ refl (c .before .before .before .after-in .ensures))
 
 pub after-spec : {M : Type 1} → statement M
 after-spec =

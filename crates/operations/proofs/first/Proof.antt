@@ -1,4 +1,4 @@
-use Rattle.answers.proofs.Means.{first-both}
+use Rattle.answers.proofs.Means.{with-meaning, first-means}
 use Rattle.operations.proofs.Loading.{refused-was, accepted-was, small-was}
 use Rattle.operations.proofs.Answers.{first-down, first-accepted}
 use mathlib.Core.Path.{refl, ap, _∙_}
@@ -26,10 +26,10 @@ found-requires : tie.Need-found-requires
 found-requires c κs = search needs
 
 returns : tie.Need-returns
-returns c = first-both _ _ (first-down _ _ (refused-was _ _ _ _ _ (search needs) (c .before .before .before .load .ensures)))
+returns c = with-meaning _ _ _ (first-means _ _) (first-down _ _ (refused-was _ _ _ _ _ (search needs) (c .before .before .before .load .ensures)))
 
 returns-2 : tie.Need-returns-2
-returns-2 c = first-both _ _ (ap answerOf (c .found .ensures) ∙ first-accepted _ _ _ _ (accepted-was _ _ _ _ _ (search needs) (c .before .before .before .before .before .before .before .before .before .before .load .ensures)) _ _ _ refl (c .before .before .before .first-in .ensures))
+returns-2 c = with-meaning _ _ _ (first-means _ _) (ap answerOf (c .found .ensures) ∙ first-accepted _ _ _ _ (accepted-was _ _ _ _ _ (search needs) (c .before .before .before .before .before .before .before .before .before .before .load .ensures)) _ _ _ refl (c .before .before .before .first-in .ensures))
 
 pub first-spec : {M : Type 1} → statement M
 first-spec =

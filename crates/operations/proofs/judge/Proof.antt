@@ -1,4 +1,4 @@
-use Rattle.answers.proofs.Means.{judge-both}
+use Rattle.answers.proofs.Means.{with-meaning, judge-means}
 use Rattle.operations.proofs.Loading.{refused-was, accepted-was, small-was}
 use Rattle.operations.proofs.Answers.{judge-down, judge-refused, judge-accepted}
 use native.Mathlib.Omega.{arith}
@@ -19,16 +19,16 @@ refusal-requires : tie.Need-refusal-requires
 refusal-requires c κs = let k = small-was _ _ (c .before .got2 .given .0 .0) _ _ (search needs) (c .before .before .before .load .ensures) in (omega (arith, k .statements), omega (arith, k .exceptions))
 
 returns : tie.Need-returns
-returns c = judge-both _ _ _ (judge-refused _ _ _ _ (accepted-was _ _ (c .before .before .before .got2 .given .0 .0) _ _ (search needs) (c .before .before .before .before .before .load .ensures)) _ _ (c .before .refusal .ensures) (search needs))
+returns c = with-meaning _ _ _ (judge-means _ _ _) (judge-refused _ _ _ _ (accepted-was _ _ (c .before .before .before .got2 .given .0 .0) _ _ (search needs) (c .before .before .before .before .before .load .ensures)) _ _ (c .before .refusal .ensures) (search needs))
 
 verdict-in-requires : tie.Need-verdict-in-requires
 verdict-in-requires c κs = small-was _ _ _ _ _ (search needs) (c .before .before .before .before .before .before .before .load .ensures)
 
 returns-2 : tie.Need-returns-2
-returns-2 c = judge-both _ _ _ (judge-down _ _ (refused-was _ _ _ _ _ (search needs) (c .before .before .before .load .ensures)) _)
+returns-2 c = with-meaning _ _ _ (judge-means _ _ _) (judge-down _ _ (refused-was _ _ _ _ _ (search needs) (c .before .before .before .load .ensures)) _)
 
 returns-3 : tie.Need-returns-3
-returns-3 c = judge-both _ _ _ (judge-accepted _ _ _ _ (accepted-was _ _ (c .before .before .before .before .before .before .got2 .given .0 .0) _ _ (search needs) (c .before .before .before .before .before .before .before .before .load .ensures)) _ _ (c .before .before .before .before .refusal .ensures) (search needs) _ (c .verdict-in .ensures))
+returns-3 c = with-meaning _ _ _ (judge-means _ _ _) (judge-accepted _ _ _ _ (accepted-was _ _ (c .before .before .before .before .before .before .got2 .given .0 .0) _ _ (search needs) (c .before .before .before .before .before .before .before .before .load .ensures)) _ _ (c .before .before .before .before .refusal .ensures) (search needs) _ (c .verdict-in .ensures))
 
 pub judge-spec : {M : Type 1} → statement M
 judge-spec =

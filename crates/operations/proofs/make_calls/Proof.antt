@@ -1,16 +1,16 @@
 use native.Mathlib.Omega.{arith}
 use borrow.Author.Needs.{needs}
 use native.Mathlib.Nat.{div-mul-le-self}
-use Prim.Native.Nat.{_-_, _≤_, _/_}
+use Prim.Native.Nat.{_-_, _≤_}
 use mathlib.Core.Path.{_≡_, refl, _∙_}
 use lib.ListN.{length}
-use Rattle.operations.specs.Calls.{pointOf, Makes}
+use Rattle.operations.specs.Calls.{asPoint, Makes}
 use Rattle.operations.proofs.Calls.{makes-none, makes-more, makes-all, one-most}
 use Rattle.operations.proofs.make_calls.Statement.{statement}
 use Rattle.operations.proofs.make_calls.Tie as tie
 
 abbrev Inv-loop : tie.InvT-loop
-Inv-loop text calls answers₀ pairs₀ m r₀ k₀ answers pairs r k = (k ≤ m) × (length answers ≡ length answers₀) × (length pairs ≡ length pairs₀) × (r .count ≤ k) × Makes text calls 0 k (pointOf (r₀ .spot)) 0 answers₀ answers pairs₀ pairs r
+Inv-loop text calls answers₀ pairs₀ m r₀ k₀ answers pairs r k = (k ≤ m) × (length answers ≡ length answers₀) × (length pairs ≡ length pairs₀) × (r .count ≤ k) × Makes text calls 0 k (asPoint (r₀ .spot)) 0 answers₀ answers pairs₀ pairs r
 
 abbrev μ-loop : tie.MeasureT-loop
 μ-loop text calls answers₀ pairs₀ m r₀ k₀ answers pairs r k = m - k
