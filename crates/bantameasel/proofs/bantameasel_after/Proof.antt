@@ -6,15 +6,12 @@ use borrow.Author.Needs.{needs}
 use Rattle.bantameasel.proofs.bantameasel_after.Statement.{statement}
 use Rattle.bantameasel.proofs.bantameasel_after.Tie as tie
 
--- src/lib.rt:213:13
 after-requires : tie.Need-after-requires
 after-requires c κs = search needs
 
--- src/lib.rt:213:5
 pair-in-requires : tie.Need-pair-in-requires
 pair-in-requires c κs = search needs
 
--- src/lib.rt:204:1
 returns : tie.Need-returns
 unfolding pairOf
 returns c = answer-across _ _ _ (after-means _ _ _ .0 refl) _ (c .pair-in .ensures ∙ ap answerIn (c .before .after .ensures .0))

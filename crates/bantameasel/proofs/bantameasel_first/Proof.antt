@@ -6,15 +6,12 @@ use borrow.Author.Needs.{needs}
 use Rattle.bantameasel.proofs.bantameasel_first.Statement.{statement}
 use Rattle.bantameasel.proofs.bantameasel_first.Tie as tie
 
--- src/lib.rt:200:13
 first-requires : tie.Need-first-requires
 first-requires c κs = search needs
 
--- src/lib.rt:200:5
 pair-in-requires : tie.Need-pair-in-requires
 pair-in-requires c κs = search needs
 
--- src/lib.rt:196:1
 returns : tie.Need-returns
 returns c = answer-across _ _ _ (first-means _ _ .0 refl) _ (c .pair-in .ensures ∙ ap answerIn (c .before .first .ensures .0))
 

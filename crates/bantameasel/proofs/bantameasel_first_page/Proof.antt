@@ -4,19 +4,15 @@ use borrow.Author.Needs.{needs}
 use Rattle.bantameasel.proofs.bantameasel_first_page.Statement.{statement}
 use Rattle.bantameasel.proofs.bantameasel_first_page.Tie as tie
 
--- src/lib.rt:222:14
 first-page-requires : tie.Need-first-page-requires
 first-page-requires c κs = search needs
 
--- src/lib.rt:222:5
 count-in-requires : tie.Need-count-in-requires
 count-in-requires c κs = search needs
 
--- src/lib.rt:217:1
 same-length : tie.Need-same-length
 same-length c = search needs
 
--- src/lib.rt:217:1
 returns : tie.Need-returns
 returns c = (c .count-in .ensures ∙ ap amountIn (c .before .before .before .first-page .ensures .count), c .before .before .before .first-page .ensures .filled)
 

@@ -6,15 +6,12 @@ use borrow.Author.Needs.{needs}
 use Rattle.bantameasel.proofs.bantameasel_judge.Statement.{statement}
 use Rattle.bantameasel.proofs.bantameasel_judge.Tie as tie
 
--- src/lib.rt:192:16
 judge-requires : tie.Need-judge-requires
 judge-requires c κs = search needs
 
--- src/lib.rt:192:5
 verdict-in-requires : tie.Need-verdict-in-requires
 verdict-in-requires c κs = search needs
 
--- src/lib.rt:183:1
 returns : tie.Need-returns
 unfolding pairOf
 returns c = verdict-across _ _ _ (judge-means _ _ _ .0 refl) _ (c .verdict-in .ensures ∙ ap verdictIn (c .before .judge .ensures .0))

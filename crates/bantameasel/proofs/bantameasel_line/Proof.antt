@@ -4,19 +4,15 @@ use borrow.Author.Needs.{needs}
 use Rattle.bantameasel.proofs.bantameasel_line.Statement.{statement}
 use Rattle.bantameasel.proofs.bantameasel_line.Tie as tie
 
--- src/lib.rt:240:15
 line-requires : tie.Need-line-requires
 line-requires c κs = search needs
 
--- src/lib.rt:240:5
 length-in-requires : tie.Need-length-in-requires
 length-in-requires c κs = search needs
 
--- src/lib.rt:224:1
 same-length : tie.Need-same-length
 same-length c = search needs
 
--- src/lib.rt:224:1
 returns : tie.Need-returns
 unfolding pairOf
 returns c = (c .length-in .ensures ∙ ap amountIn (c .before .before .before .line .ensures .answer), c .before .before .before .line .ensures .slice)

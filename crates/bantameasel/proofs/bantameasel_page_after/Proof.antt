@@ -4,19 +4,15 @@ use borrow.Author.Needs.{needs}
 use Rattle.bantameasel.proofs.bantameasel_page_after.Statement.{statement}
 use Rattle.bantameasel.proofs.bantameasel_page_after.Tie as tie
 
--- src/lib.rt:242:14
 page-after-requires : tie.Need-page-after-requires
 page-after-requires c κs = search needs
 
--- src/lib.rt:242:5
 count-in-requires : tie.Need-count-in-requires
 count-in-requires c κs = search needs
 
--- src/lib.rt:226:1
 same-length : tie.Need-same-length
 same-length c = search needs
 
--- src/lib.rt:226:1
 returns : tie.Need-returns
 unfolding pairOf
 returns c = (c .count-in .ensures ∙ ap amountIn (c .before .before .before .page-after .ensures .count), c .before .before .before .page-after .ensures .filled)

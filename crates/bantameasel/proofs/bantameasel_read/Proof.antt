@@ -4,19 +4,15 @@ use borrow.Author.Needs.{needs}
 use Rattle.bantameasel.proofs.bantameasel_read.Statement.{statement}
 use Rattle.bantameasel.proofs.bantameasel_read.Tie as tie
 
--- src/lib.rt:170:13
 read-requires : tie.Need-read-requires
 read-requires c κs = search needs
 
--- src/lib.rt:170:5
 book-in-requires : tie.Need-book-in-requires
 book-in-requires c κs = search needs
 
--- src/lib.rt:165:1
 same-length : tie.Need-same-length
 same-length c = search needs
 
--- src/lib.rt:165:1
 returns : tie.Need-returns
 returns c = (c .book-in .ensures ∙ ap bookIn (c .before .before .read .ensures .answer), c .before .before .read .ensures .slice)
 

@@ -5,19 +5,15 @@ use borrow.Author.Needs.{needs}
 use Rattle.bantameasel.proofs.bantameasel_write.Statement.{statement}
 use Rattle.bantameasel.proofs.bantameasel_write.Tie as tie
 
--- src/lib.rt:179:15
 write-requires : tie.Need-write-requires
 write-requires c κs = search needs
 
--- src/lib.rt:179:5
 length-in-requires : tie.Need-length-in-requires
 length-in-requires c κs = search needs
 
--- src/lib.rt:174:1
 same-length : tie.Need-same-length
 same-length c = search needs
 
--- src/lib.rt:174:1
 returns : tie.Need-returns
 returns c = (c .length-in .ensures ∙ ap (λ w. amountIn (lengthOf w)) (c .before .before .before .write .ensures .answer), c .before .before .before .write .ensures .slice)
 

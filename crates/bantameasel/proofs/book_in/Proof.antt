@@ -4,20 +4,16 @@ use borrow.Author.Needs.{needs}
 use Rattle.bantameasel.proofs.book_in.Statement.{statement}
 use Rattle.bantameasel.proofs.book_in.Tie as tie
 
--- src/lib.rt:61:27
 enum-known-r : tie.Need-enum-known-r
 enum-known-r c = search needs
 
--- src/lib.rt:69:26
 enum-known-r-2 : tie.Need-enum-known-r-2
 enum-known-r-2 c = search needs
 
--- src/lib.rt:57:1
 returns : tie.Need-returns
 unfolding bookIn
 returns c = book-is (c .before .before .before .args .r) _ (search needs)
 
--- src/lib.rt:57:1
 returns-2 : tie.Need-returns-2
 unfolding bookIn
 returns-2 c = book-not (c .before .before .before .args .r) _ (search needs)

@@ -4,20 +4,16 @@ use borrow.Author.Needs.{needs}
 use Rattle.bantameasel.proofs.count_in.Statement.{statement}
 use Rattle.bantameasel.proofs.count_in.Tie as tie
 
--- src/lib.rt:101:22
 enum-known-p : tie.Need-enum-known-p
 enum-known-p c = search needs
 
--- src/lib.rt:106:24
 enum-known-p-2 : tie.Need-enum-known-p-2
 enum-known-p-2 c = search needs
 
--- src/lib.rt:97:1
 returns : tie.Need-returns
 unfolding amountIn
 returns c = count-is _ _ (search needs)
 
--- src/lib.rt:97:1
 returns-2 : tie.Need-returns-2
 unfolding amountIn
 returns-2 c = count-not _ _ (search needs)

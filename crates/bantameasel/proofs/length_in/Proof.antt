@@ -4,20 +4,16 @@ use borrow.Author.Needs.{needs}
 use Rattle.bantameasel.proofs.length_in.Statement.{statement}
 use Rattle.bantameasel.proofs.length_in.Tie as tie
 
--- src/lib.rt:84:26
 enum-known-w : tie.Need-enum-known-w
 enum-known-w c = search needs
 
--- src/lib.rt:89:26
 enum-known-w-2 : tie.Need-enum-known-w-2
 enum-known-w-2 c = search needs
 
--- src/lib.rt:80:1
 returns : tie.Need-returns
 unfolding amountIn
 returns c = length-is _ _ (search needs)
 
--- src/lib.rt:80:1
 returns-2 : tie.Need-returns-2
 unfolding amountIn
 returns-2 c = length-not _ _ (search needs)

@@ -4,29 +4,23 @@ use borrow.Author.Needs.{needs}
 use Rattle.bantameasel.proofs.pair_in.Statement.{statement}
 use Rattle.bantameasel.proofs.pair_in.Tie as tie
 
--- src/lib.rt:135:27
 enum-known-f : tie.Need-enum-known-f
 enum-known-f c = search needs
 
--- src/lib.rt:143:23
 enum-told : tie.Need-enum-told
 enum-told c = search needs
 
--- src/lib.rt:151:24
 enum-known-f-2 : tie.Need-enum-known-f-2
 enum-known-f-2 c = search needs
 
--- src/lib.rt:131:1
 returns : tie.Need-returns
 unfolding answerIn
 returns c = answer-is _ _ (search needs)
 
--- src/lib.rt:131:1
 returns-2 : tie.Need-returns-2
 unfolding answerIn
 returns-2 c = answer-end _ (search needs)
 
--- src/lib.rt:131:1
 returns-3 : tie.Need-returns-3
 unfolding answerIn
 returns-3 c = answer-not _ _ (search needs)

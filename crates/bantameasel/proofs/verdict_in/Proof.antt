@@ -4,20 +4,16 @@ use borrow.Author.Needs.{needs}
 use Rattle.bantameasel.proofs.verdict_in.Statement.{statement}
 use Rattle.bantameasel.proofs.verdict_in.Tie as tie
 
--- src/lib.rt:118:25
 enum-known-j : tie.Need-enum-known-j
 enum-known-j c = search needs
 
--- src/lib.rt:123:25
 enum-known-j-2 : tie.Need-enum-known-j-2
 enum-known-j-2 c = search needs
 
--- src/lib.rt:114:1
 returns : tie.Need-returns
 unfolding verdictIn
 returns c = verdict-is _ _ (search needs)
 
--- src/lib.rt:114:1
 returns-2 : tie.Need-returns-2
 unfolding verdictIn
 returns-2 c = verdict-not _ _ (search needs)

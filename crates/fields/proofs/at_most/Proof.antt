@@ -3,15 +3,12 @@ use borrow.Author.Needs.{needs}
 use Rattle.fields.proofs.at_most.Statement.{statement}
 use Rattle.fields.proofs.at_most.Tie as tie
 
--- src/lib.rt:170:9
 cast-if1 : tie.Need-cast-if1
 cast-if1 c = search needs
 
--- src/lib.rt:171:9
 returns : tie.Need-returns
 returns c = not-at-most (c .before .args .v) (c .before .args .m) (search needs) (search needs) (search needs)
 
--- src/lib.rt:166:1
 returns-2 : tie.Need-returns-2
 returns-2 c = is-at-most (c .before .args .v) (c .before .args .m) (search needs) (search needs) (search needs)
 

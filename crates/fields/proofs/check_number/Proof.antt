@@ -4,87 +4,66 @@ use borrow.Author.Needs.{needs}
 use Rattle.fields.proofs.check_number.Statement.{statement}
 use Rattle.fields.proofs.check_number.Tie as tie
 
--- src/lib.rt:147:29
 enum-told : tie.Need-enum-told
 enum-told c = search needs
 
--- src/lib.rt:147:29
 in-range-requires : tie.Need-in-range-requires
 in-range-requires c κs = search needs
 
--- src/lib.rt:148:44
 enum-told-2 : tie.Need-enum-told-2
 enum-told-2 c = search needs
 
--- src/lib.rt:148:44
 cast-in-range : tie.Need-cast-in-range
 cast-in-range c = search needs
 
--- src/lib.rt:148:32
 in-range-requires-2 : tie.Need-in-range-requires-2
 in-range-requires-2 c κs = search needs
 
--- src/lib.rt:149:43
 enum-told-3 : tie.Need-enum-told-3
 enum-told-3 c = search needs
 
--- src/lib.rt:149:43
 cast-in-range-2 : tie.Need-cast-in-range-2
 cast-in-range-2 c = search needs
 
--- src/lib.rt:149:38
 sub-in-range : tie.Need-sub-in-range
 sub-in-range c = flip-fits (c .before .before .args .n) (search needs)
 
--- src/lib.rt:149:54
 cast-in-range-3 : tie.Need-cast-in-range-3
 cast-in-range-3 c = search needs
 
--- src/lib.rt:149:29
 in-range-requires-3 : tie.Need-in-range-requires-3
 in-range-requires-3 c κs = search needs
 
--- src/lib.rt:150:43
 enum-told-4 : tie.Need-enum-told-4
 enum-told-4 c = search needs
 
--- src/lib.rt:150:43
 cast-in-range-4 : tie.Need-cast-in-range-4
 cast-in-range-4 c = search needs
 
--- src/lib.rt:150:31
 in-range-requires-4 : tie.Need-in-range-requires-4
 in-range-requires-4 c κs = search needs
 
--- src/lib.rt:151:39
 enum-told-5 : tie.Need-enum-told-5
 enum-told-5 c = search needs
 
--- src/lib.rt:151:39
 cast-in-range-5 : tie.Need-cast-in-range-5
 cast-in-range-5 c = search needs
 
--- src/lib.rt:151:27
 in-range-requires-5 : tie.Need-in-range-requires-5
 in-range-requires-5 c κs = search needs
 
--- src/lib.rt:142:1
 returns : tie.Need-returns
 returns c = number-of _ Edition _ _ _ (search needs) (search needs) _ (edition-range _) (c .in-range .ensures)
 
--- src/lib.rt:142:1
 returns-2 : tie.Need-returns-2
 returns-2 c = number-of _ Statements _ _ _ (search needs) (search needs) _ (statements-range _) (c .in-range2 .ensures)
 
--- src/lib.rt:142:1
 returns-3 : tie.Need-returns-3
 returns-3 c = number-of _ Literal _ _ _ (search needs) (search needs) _ (literal-range _ (search needs)) (c .in-range3 .ensures)
 
--- src/lib.rt:142:1
 returns-4 : tie.Need-returns-4
 returns-4 c = number-of _ Exception _ _ _ (search needs) (search needs) _ (exception-range _) (c .in-range4 .ensures)
 
--- src/lib.rt:142:1
 returns-5 : tie.Need-returns-5
 returns-5 c = number-of _ Total _ _ _ (search needs) (search needs) _ (total-range _) (c .in-range5 .ensures)
 

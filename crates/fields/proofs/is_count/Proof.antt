@@ -3,23 +3,18 @@ use borrow.Author.Needs.{needs}
 use Rattle.fields.proofs.is_count.Statement.{statement}
 use Rattle.fields.proofs.is_count.Tie as tie
 
--- src/lib.rt:181:13
 cast-if1 : tie.Need-cast-if1
 cast-if1 c = search needs
 
--- src/lib.rt:182:9
 returns : tie.Need-returns
 returns c = below-count _ _ (search needs) (search needs) (search needs)
 
--- src/lib.rt:184:9
 cast-if2 : tie.Need-cast-if2
 cast-if2 c = search needs
 
--- src/lib.rt:185:9
 returns-2 : tie.Need-returns-2
 returns-2 c = above-count _ _ (search needs) (search needs) (search needs) (search needs)
 
--- src/lib.rt:177:1
 returns-3 : tie.Need-returns-3
 returns-3 c = count-here _ _ (search needs) (search needs) (search needs) (search needs)
 

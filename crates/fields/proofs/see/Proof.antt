@@ -3,55 +3,42 @@ use borrow.Author.Needs.{needs}
 use Rattle.fields.proofs.see.Statement.{statement}
 use Rattle.fields.proofs.see.Tie as tie
 
--- src/lib.rt:207:25
 enum-told : tie.Need-enum-told
 enum-told c = search needs
 
--- src/lib.rt:207:25
 to-nat-requires : tie.Need-to-nat-requires
 to-nat-requires c κs = search needs
 
--- src/lib.rt:213:33
 enum-told-2 : tie.Need-enum-told-2
 enum-told-2 c = search needs
 
--- src/lib.rt:213:33
 at-most-requires : tie.Need-at-most-requires
 at-most-requires c κs = search needs
 
--- src/lib.rt:219:39
 enum-told-3 : tie.Need-enum-told-3
 enum-told-3 c = search needs
 
--- src/lib.rt:219:39
 is-count-requires : tie.Need-is-count-requires
 is-count-requires c κs = search needs
 
--- src/lib.rt:221:29
 enum-told-4 : tie.Need-enum-told-4
 enum-told-4 c = search needs
 
--- src/lib.rt:222:29
 enum-told-5 : tie.Need-enum-told-5
 enum-told-5 c = search needs
 
--- src/lib.rt:198:1
 returns : tie.Need-returns
 returns c = see-statements _ _ _ _ _ (search needs) _ (search needs) (c .to-nat .ensures .0)
 
--- src/lib.rt:198:1
 returns-2 : tie.Need-returns-2
 returns-2 c = see-exception _ _ _ _ _ (search needs) _ (search needs) (c .at-most .ensures)
 
--- src/lib.rt:198:1
 returns-3 : tie.Need-returns-3
 returns-3 c = see-total _ _ _ _ _ (search needs) _ (search needs) (c .is-count .ensures)
 
--- src/lib.rt:198:1
 returns-4 : tie.Need-returns-4
 returns-4 c = see-edition _ _ _ _ _ (search needs) (search needs)
 
--- src/lib.rt:198:1
 returns-5 : tie.Need-returns-5
 returns-5 c = see-literal _ _ _ _ _ (search needs) (search needs)
 

@@ -5,31 +5,24 @@ use borrow.Author.Needs.{needs}
 use Rattle.listing.proofs.begin.Statement.{statement}
 use Rattle.listing.proofs.begin.Tie as tie
 
--- src/lib.rt:157:9
 load-requires : tie.Need-load-requires
 load-requires c κs = search needs
 
--- src/lib.rt:159:26
 enum-known-got : tie.Need-enum-known-got
 enum-known-got c = search needs
 
--- src/lib.rt:160:13
 put-failed-requires : tie.Need-put-failed-requires
 put-failed-requires c κs = let k = refusal-short _ (c .before .before .got .given .0 .0) (refused-was _ _ _ _ _ (search needs) (c .before .before .before .before .load .ensures)) in (k .0, k .1, omega arith)
 
--- src/lib.rt:179:27
 enum-known-got-2 : tie.Need-enum-known-got-2
 enum-known-got-2 c = search needs
 
--- src/lib.rt:180:17
 opening-requires : tie.Need-opening-requires
 opening-requires c κs = prepared-was _ _ _ _ (accepted-was _ _ _ _ _ (search needs) (c .before .before .before .before .before .before .load .ensures))
 
--- src/lib.rt:154:1
 returns : tie.Need-returns
 returns c = begins-refused _ _ (refused-was _ _ _ _ _ (search needs) (c .before .before .before .before .before .load .ensures)) _ _ _ _ _ _ (omega arith) (c .put-failed .kept .0) (c .put-failed .ensures)
 
--- src/lib.rt:154:1
 returns-2 : tie.Need-returns-2
 returns-2 c = begins-accepted _ _ _ _ (accepted-was _ _ _ _ _ (search needs) (c .before .before .before .before .before .before .before .load .ensures)) _ _ (c .opening .ensures)
 

@@ -6,23 +6,18 @@ use borrow.Author.Needs.{needs}
 use Rattle.listing.proofs.go_on.Statement.{statement}
 use Rattle.listing.proofs.go_on.Tie as tie
 
--- src/lib.rt:132:50
 slice-aggregate-after-in : tie.Need-slice-aggregate-after-in
 slice-aggregate-after-in c = search needs
 
--- src/lib.rt:132:9
 after-in-requires : tie.Need-after-in-requires
 after-in-requires c κs = (search needs, few-taken _ _ _ _ (c .before .pre))
 
--- src/lib.rt:133:33
 slice-aggregate-put-part : tie.Need-slice-aggregate-put-part
 slice-aggregate-put-part c = search needs
 
--- src/lib.rt:133:5
 put-part-requires : tie.Need-put-part-requires
 put-part-requires c κs = (c .before .before .before .before .before .pre .loaded .statements, part-few _ _ _ _ 0 _ _ _ (length-replicate {A = ℕ} (partLines * 3) 0) (c .before .before .before .after-in .ensures) (c .before .before .before .before .before .pre .rows) (c .before .before .before .before .before .pre .loaded) (c .before .before .before .before .before .pre .lawful), search needs, search needs)
 
--- src/lib.rt:127:1
 returns : tie.Need-returns
 returns c = lists _ _ _ _ _ _ _ _ (length-replicate {A = ℕ} (partLines * 3) 0) (c .before .before .before .before .after-in .ensures) _ _ (c .put-part .ensures) (part-few _ _ _ _ 0 _ _ _ (length-replicate {A = ℕ} (partLines * 3) 0) (c .before .before .before .before .after-in .ensures) (c .before .before .before .before .before .before .pre .rows) (c .before .before .before .before .before .before .pre .loaded) (c .before .before .before .before .before .before .pre .lawful))
 

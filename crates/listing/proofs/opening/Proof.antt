@@ -7,23 +7,18 @@ use borrow.Author.Needs.{needs}
 use Rattle.listing.proofs.opening.Statement.{statement}
 use Rattle.listing.proofs.opening.Tie as tie
 
--- src/lib.rt:122:47
 slice-aggregate-first-in : tie.Need-slice-aggregate-first-in
 slice-aggregate-first-in c = search needs
 
--- src/lib.rt:122:9
 first-in-requires : tie.Need-first-in-requires
 first-in-requires c κs = search needs
 
--- src/lib.rt:123:33
 slice-aggregate-put-part : tie.Need-slice-aggregate-put-part
 slice-aggregate-put-part c = search needs
 
--- src/lib.rt:123:5
 put-part-requires : tie.Need-put-part-requires
 put-part-requires c κs = (c .before .before .before .before .before .pre .loaded .statements, part-few _ _ _ _ mostLines _ _ _ (length-replicate {A = ℕ} (partLines * 3) 0) (c .before .before .before .first-in .ensures) (c .before .before .before .before .before .pre .rows) (c .before .before .before .before .before .pre .loaded) tt, search needs, search needs)
 
--- src/lib.rt:117:1
 returns : tie.Need-returns
 returns c = lists _ _ _ _ _ _ _ _ (length-replicate {A = ℕ} (partLines * 3) 0) (c .before .before .before .before .first-in .ensures) _ _ (c .put-part .ensures) (part-few _ _ _ _ mostLines _ _ _ (length-replicate {A = ℕ} (partLines * 3) 0) (c .before .before .before .before .first-in .ensures) (c .before .before .before .before .before .before .pre .rows) (c .before .before .before .before .before .before .pre .loaded) tt)
 

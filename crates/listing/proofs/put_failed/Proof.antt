@@ -5,31 +5,24 @@ use borrow.Author.Needs.{needs}
 use Rattle.listing.proofs.put_failed.Statement.{statement}
 use Rattle.listing.proofs.put_failed.Tie as tie
 
--- src/lib.rt:132:5
 slice-write-out : tie.Need-slice-write-out
 slice-write-out c = search needs
 
--- src/lib.rt:133:5
 put-columns-requires : tie.Need-put-columns-requires
 put-columns-requires c κs = simp length-set (omega arith)
 
--- src/lib.rt:134:40
 cast-put-columns : tie.Need-cast-put-columns
 cast-put-columns c = search needs
 
--- src/lib.rt:134:5
 put-columns-requires-2 : tie.Need-put-columns-requires-2
 put-columns-requires-2 c κs = omega (arith, simp length-set at (c .before .before .before .before .put-columns .kept .0))
 
--- src/lib.rt:135:5
 slice-write-out-2 : tie.Need-slice-write-out-2
 slice-write-out-2 c = omega (arith, simp length-set at (c .before .before .before .before .before .before .before .put-columns .kept .0), c .before .before .put-columns2 .kept .0)
 
--- src/lib.rt:128:1
 same-length : tie.Need-same-length
 same-length c = simp length-set (omega (arith, simp length-set at (c .before .before .before .before .before .before .before .put-columns .kept .0), c .before .before .put-columns2 .kept .0))
 
--- src/lib.rt:128:1
 returns : tie.Need-returns
 returns c = failed-put (c .before .before .before .before .before .before .before .before .before .before .args .out .now) _ _ _ _ (c .before .before .before .before .before .before .before .put-columns .ensures) (c .before .before .put-columns2 .ensures)
 

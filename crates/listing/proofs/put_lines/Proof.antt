@@ -12,47 +12,36 @@ Inv-loop out₀ n pairs k w i₀ at₀ out i at = Putting n pairs k out₀ w out
 abbrev μ-loop : tie.MeasureT-loop
 μ-loop out₀ n pairs k w i₀ at₀ out i at = k - i
 
--- src/lib.rt:55:13
 sub-w : tie.Need-sub-w Inv-loop μ-loop
 sub-w c = omega arith
 
--- src/lib.rt:55:13
 add-w : tie.Need-add-w Inv-loop μ-loop
 add-w c = omega arith
 
--- src/lib.rt:58:5
 loop-holds : tie.Need-loop-holds Inv-loop μ-loop
 loop-holds c = put-start _ _ _ _ _ (omega arith)
 
--- src/lib.rt:59:13
 pair-at-requires : tie.Need-pair-at-requires Inv-loop μ-loop
 pair-at-requires c κs = let f = c .before .loop .inv .few in omega arith
 
--- src/lib.rt:60:9
 put-line-requires : tie.Need-put-line-requires Inv-loop μ-loop
 put-line-requires c κs = (omega arith, put-room _ _ _ _ _ _ _ _ (c .before .before .before .loop .inv) (search needs) (c .before .before .before .before .before .before .pre .2))
 
--- src/lib.rt:61:14
 add-at : tie.Need-add-at Inv-loop μ-loop
 add-at c = let f = put-room _ _ _ _ _ _ _ _ (c .before .before .before .before .before .before .loop .inv) (search needs) (c .before .before .before .before .before .before .before .before .before .pre .2) in let g = c .before .before .before .before .before .before .loop .inv .wide in let h = c .before .before .before .before .before .before .loop .inv .same-size in omega arith
 
--- src/lib.rt:62:9
 add-i : tie.Need-add-i Inv-loop μ-loop
 add-i c = omega arith
 
--- src/lib.rt:58:5
 loop-less : tie.Need-loop-less Inv-loop μ-loop
 loop-less c = omega arith
 
--- src/lib.rt:58:5
 loop-again : tie.Need-loop-again Inv-loop μ-loop
 loop-again c = put-next _ _ _ _ _ _ _ _ (c .before .before .before .before .before .before .loop .inv) (search needs) _ (c .before .before .put-line .kept .0) (line-at _ _ _ _ _ _ _ (c .before .before .before .before .pair-at .ensures) (c .before .before .put-line .ensures))
 
--- src/lib.rt:51:1
 same-length : tie.Need-same-length Inv-loop μ-loop
 same-length c = c .before .loop .inv .same-size
 
--- src/lib.rt:51:1
 returns : tie.Need-returns Inv-loop μ-loop
 returns c = put-end _ _ _ _ _ _ _ _ (c .before .loop .inv) (search needs)
 

@@ -4,59 +4,45 @@ use borrow.Author.Needs.{needs}
 use Rattle.listing.proofs.put_part.Statement.{statement}
 use Rattle.listing.proofs.put_part.Tie as tie
 
--- src/lib.rt:103:13
 close-part-requires : tie.Need-close-part-requires
 close-part-requires c κs = search needs
 
--- src/lib.rt:103:13
 same-length : tie.Need-same-length
 same-length c = search needs
 
--- src/lib.rt:103:13
 returns : tie.Need-returns
 returns c = prints-ended _ _ _ _ _ _ (search needs) (search needs) (c .before .before .close-part .ensures)
 
--- src/lib.rt:105:9
 close-part-requires-2 : tie.Need-close-part-requires-2
 close-part-requires-2 c κs = search needs
 
--- src/lib.rt:105:9
 same-length-2 : tie.Need-same-length-2
 same-length-2 c = search needs
 
--- src/lib.rt:105:9
 returns-2 : tie.Need-returns-2
 returns-2 c = prints-cut _ _ _ _ _ _ (omega arith) (omega arith) (c .before .before .close-part2 .ensures)
 
--- src/lib.rt:108:9
 close-part-requires-3 : tie.Need-close-part-requires-3
 close-part-requires-3 c κs = search needs
 
--- src/lib.rt:108:9
 same-length-3 : tie.Need-same-length-3
 same-length-3 c = search needs
 
--- src/lib.rt:108:9
 returns-3 : tie.Need-returns-3
 returns-3 c = prints-cut _ _ _ _ _ _ (omega arith) (omega arith) (c .before .before .close-part3 .ensures)
 
--- src/lib.rt:111:16
 put-lines-requires : tie.Need-put-lines-requires
 put-lines-requires c κs = search needs
 
--- src/lib.rt:113:30
 sub-pair-at : tie.Need-sub-pair-at
 sub-pair-at c = search needs
 
--- src/lib.rt:113:15
 pair-at-requires : tie.Need-pair-at-requires
 pair-at-requires c κs = search needs
 
--- src/lib.rt:97:1
 same-length-4 : tie.Need-same-length-4
 same-length-4 c = search needs
 
--- src/lib.rt:97:1
 returns-4 : tie.Need-returns-4
 returns-4 c = prints-filled _ _ _ _ _ _ (omega arith) (omega arith) (fills _ _ _ _ _ _ (c .before .before .before .put-lines .ensures .0) (c .before .before .before .put-lines .ensures .1) (search needs) (omega arith) (search needs) _ (c .before .before .before .put-lines .kept .0) (c .pair-at .ensures))
 

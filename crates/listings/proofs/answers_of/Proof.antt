@@ -9,91 +9,69 @@ Inv-loop answers n k₀ k = k ≤ 8
 abbrev μ-loop : tie.MeasureT-loop
 μ-loop answers n k₀ k = 8 - k
 
--- src/main.rt:53:5
 loop-holds : tie.Need-loop-holds Inv-loop μ-loop
 loop-holds c = search needs
 
--- src/main.rt:55:13
 returns : tie.Need-returns Inv-loop μ-loop
 returns c = search needs
 
--- src/main.rt:58:21
 mul-answer : tie.Need-mul-answer Inv-loop μ-loop
 mul-answer c = search needs
 
--- src/main.rt:58:13
 mul-answer-2 : tie.Need-mul-answer-2 Inv-loop μ-loop
 mul-answer-2 c = search needs
 
--- src/main.rt:58:13
 element-copy-out-answer : tie.Need-element-copy-out-answer Inv-loop μ-loop
 element-copy-out-answer c = search needs
 
--- src/main.rt:59:21
 mul-answer-3 : tie.Need-mul-answer-3 Inv-loop μ-loop
 mul-answer-3 c = search needs
 
--- src/main.rt:59:21
 add-answer : tie.Need-add-answer Inv-loop μ-loop
 add-answer c = search needs
 
--- src/main.rt:59:13
 mul-answer-4 : tie.Need-mul-answer-4 Inv-loop μ-loop
 mul-answer-4 c = search needs
 
--- src/main.rt:59:13
 element-copy-out-answer-2 : tie.Need-element-copy-out-answer-2 Inv-loop μ-loop
 element-copy-out-answer-2 c = search needs
 
--- src/main.rt:60:21
 mul-answer-5 : tie.Need-mul-answer-5 Inv-loop μ-loop
 mul-answer-5 c = search needs
 
--- src/main.rt:60:21
 add-answer-2 : tie.Need-add-answer-2 Inv-loop μ-loop
 add-answer-2 c = search needs
 
--- src/main.rt:60:13
 mul-answer-6 : tie.Need-mul-answer-6 Inv-loop μ-loop
 mul-answer-6 c = search needs
 
--- src/main.rt:60:13
 element-copy-out-answer-3 : tie.Need-element-copy-out-answer-3 Inv-loop μ-loop
 element-copy-out-answer-3 c = search needs
 
--- src/main.rt:61:21
 mul-answer-7 : tie.Need-mul-answer-7 Inv-loop μ-loop
 mul-answer-7 c = search needs
 
--- src/main.rt:61:21
 add-answer-3 : tie.Need-add-answer-3 Inv-loop μ-loop
 add-answer-3 c = search needs
 
--- src/main.rt:61:13
 mul-answer-8 : tie.Need-mul-answer-8 Inv-loop μ-loop
 mul-answer-8 c = search needs
 
--- src/main.rt:61:13
 element-copy-out-answer-4 : tie.Need-element-copy-out-answer-4 Inv-loop μ-loop
 element-copy-out-answer-4 c = search needs
 
--- src/main.rt:57:9
 answer-requires : tie.Need-answer-requires Inv-loop μ-loop
 answer-requires c κs = search needs
 
--- src/main.rt:63:9
 add-k : tie.Need-add-k Inv-loop μ-loop
 add-k c = search needs
 
--- src/main.rt:53:5
 loop-less : tie.Need-loop-less Inv-loop μ-loop
 loop-less c = search needs
 
--- src/main.rt:53:5
 loop-again : tie.Need-loop-again Inv-loop μ-loop
 loop-again c = search needs
 
--- src/main.rt:51:1
 returns-2 : tie.Need-returns-2 Inv-loop μ-loop
 returns-2 c = search needs
 

@@ -9,83 +9,63 @@ Inv-loop pairs n k₀ t4 k = k ≤ 8
 abbrev μ-loop : tie.MeasureT-loop
 μ-loop pairs n k₀ t4 k = 8 - k
 
--- src/main.rt:70:5
 loop-holds : tie.Need-loop-holds Inv-loop μ-loop
 loop-holds c = search needs
 
--- src/main.rt:72:13
 returns : tie.Need-returns Inv-loop μ-loop
 returns c = search needs
 
--- src/main.rt:74:14
 slice-aggregate-word : tie.Need-slice-aggregate-word Inv-loop μ-loop
 slice-aggregate-word c = search needs
 
--- src/main.rt:74:9
 word-requires : tie.Need-word-requires Inv-loop μ-loop
 word-requires c κs = search needs
 
--- src/main.rt:75:21
 mul-three : tie.Need-mul-three Inv-loop μ-loop
 mul-three c = search needs
 
--- src/main.rt:75:15
 mul-three-2 : tie.Need-mul-three-2 Inv-loop μ-loop
 mul-three-2 c = search needs
 
--- src/main.rt:75:15
 element-copy-out-three : tie.Need-element-copy-out-three Inv-loop μ-loop
 element-copy-out-three c = search needs
 
--- src/main.rt:75:35
 mul-three-3 : tie.Need-mul-three-3 Inv-loop μ-loop
 mul-three-3 c = search needs
 
--- src/main.rt:75:35
 add-three : tie.Need-add-three Inv-loop μ-loop
 add-three c = search needs
 
--- src/main.rt:75:29
 mul-three-4 : tie.Need-mul-three-4 Inv-loop μ-loop
 mul-three-4 c = search needs
 
--- src/main.rt:75:29
 element-copy-out-three-2 : tie.Need-element-copy-out-three-2 Inv-loop μ-loop
 element-copy-out-three-2 c = search needs
 
--- src/main.rt:75:53
 mul-three-5 : tie.Need-mul-three-5 Inv-loop μ-loop
 mul-three-5 c = search needs
 
--- src/main.rt:75:53
 add-three-2 : tie.Need-add-three-2 Inv-loop μ-loop
 add-three-2 c = search needs
 
--- src/main.rt:75:47
 mul-three-6 : tie.Need-mul-three-6 Inv-loop μ-loop
 mul-three-6 c = search needs
 
--- src/main.rt:75:47
 element-copy-out-three-3 : tie.Need-element-copy-out-three-3 Inv-loop μ-loop
 element-copy-out-three-3 c = search needs
 
--- src/main.rt:75:9
 three-requires : tie.Need-three-requires Inv-loop μ-loop
 three-requires c κs = search needs
 
--- src/main.rt:76:9
 add-k : tie.Need-add-k Inv-loop μ-loop
 add-k c = search needs
 
--- src/main.rt:70:5
 loop-less : tie.Need-loop-less Inv-loop μ-loop
 loop-less c = search needs
 
--- src/main.rt:70:5
 loop-again : tie.Need-loop-again Inv-loop μ-loop
 loop-again c = search needs
 
--- src/main.rt:68:1
 returns-2 : tie.Need-returns-2 Inv-loop μ-loop
 returns-2 c = search needs
 

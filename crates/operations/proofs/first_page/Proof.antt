@@ -4,31 +4,24 @@ use borrow.Author.Needs.{needs}
 use Rattle.operations.proofs.first_page.Statement.{statement}
 use Rattle.operations.proofs.first_page.Tie as tie
 
--- src/lib.rt:132:9
 load-requires : tie.Need-load-requires
 load-requires c κs = search needs
 
--- src/lib.rt:134:26
 enum-known-got : tie.Need-enum-known-got
 enum-known-got c = search needs
 
--- src/lib.rt:135:27
 enum-known-got-2 : tie.Need-enum-known-got-2
 enum-known-got-2 c = search needs
 
--- src/lib.rt:135:46
 first-in-requires : tie.Need-first-in-requires
 first-in-requires c κs = small-was _ _ _ _ _ (search needs) (c .before .before .before .before .before .before .load .ensures)
 
--- src/lib.rt:127:1
 returns : tie.Need-returns
 returns c = first-page-down _ _ (refused-was _ _ _ _ _ (search needs) (c .before .before .before .load .ensures)) _ _
 
--- src/lib.rt:127:1
 same-length : tie.Need-same-length
 same-length c = search needs
 
--- src/lib.rt:127:1
 returns-2 : tie.Need-returns-2
 returns-2 c = first-page-accepted _ _ _ _ (accepted-was _ _ _ _ _ (search needs) (c .before .before .before .before .before .before .before .before .before .load .ensures)) _ _ _ (c .before .before .first-in .ensures)
 

@@ -15,35 +15,27 @@ Inv-loop text calls answers₀ pairs₀ m r₀ k₀ answers pairs r k = (k ≤ m
 abbrev μ-loop : tie.MeasureT-loop
 μ-loop text calls answers₀ pairs₀ m r₀ k₀ answers pairs r k = m - k
 
--- src/lib.rt:268:5
 loop-holds : tie.Need-loop-holds Inv-loop μ-loop
 loop-holds c = (omega arith, refl, refl, omega arith, makes-none _ _ _ _ _ _ refl)
 
--- src/lib.rt:271:9
 one-call-requires : tie.Need-one-call-requires Inv-loop μ-loop
 one-call-requires c κs = let n = div-mul-le-self (length (c .before .before .before .before .before .before .before .before .args .calls .now)) 4 in (omega (arith, n), omega (arith, n, c .before .before .before .loop .inv .1), omega (arith, n, c .before .before .before .loop .inv .2, c .before .before .before .loop .inv .3))
 
--- src/lib.rt:272:9
 add-k : tie.Need-add-k Inv-loop μ-loop
 add-k c = search needs
 
--- src/lib.rt:268:5
 loop-less : tie.Need-loop-less Inv-loop μ-loop
 loop-less c = omega arith
 
--- src/lib.rt:268:5
 loop-again : tie.Need-loop-again Inv-loop μ-loop
 loop-again c = (omega arith, (c .before .before .before .before .one-call .kept .1 .1 .1 .1 .0) ∙ c .before .before .before .before .before .before .before .before .loop .inv .1, (c .before .before .before .before .one-call .kept .1 .1 .1 .1 .1 .0) ∙ c .before .before .before .before .before .before .before .before .loop .inv .2, omega (arith, c .before .before .before .before .before .before .before .before .loop .inv .3, one-most _ _ _ _ _ _ _ _ _ _ (c .before .before .before .before .one-call .ensures)), makes-more _ _ _ _ _ _ _ _ _ _ _ _ (c .before .before .before .before .before .before .before .before .loop .inv .4) (c .before .before .before .before .one-call .ensures))
 
--- src/lib.rt:255:1
 same-length : tie.Need-same-length Inv-loop μ-loop
 same-length c = c .before .loop .inv .1
 
--- src/lib.rt:255:1
 same-length-2 : tie.Need-same-length-2 Inv-loop μ-loop
 same-length-2 c = c .before .loop .inv .2
 
--- src/lib.rt:255:1
 returns : tie.Need-returns Inv-loop μ-loop
 returns c = makes-all _ _ _ _ _ _ _ _ _ _ _ (c .before .loop .inv .0) (omega arith) refl (c .before .loop .inv .4)
 

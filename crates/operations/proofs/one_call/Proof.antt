@@ -5,109 +5,83 @@ use borrow.Author.Needs.{needs}
 use Rattle.operations.proofs.one_call.Statement.{statement}
 use Rattle.operations.proofs.one_call.Tie as tie
 
--- src/lib.rt:233:13
 mul-i : tie.Need-mul-i
 mul-i c = search needs
 
--- src/lib.rt:235:22
 add-t12 : tie.Need-add-t12
 add-t12 c = search needs
 
--- src/lib.rt:235:16
 mul-t13 : tie.Need-mul-t13
 mul-t13 c = search needs
 
--- src/lib.rt:235:16
 shared-slice-read-t15 : tie.Need-shared-slice-read-t15
 shared-slice-read-t15 c = search needs
 
--- src/lib.rt:236:21
 add-t16 : tie.Need-add-t16
 add-t16 c = search needs
 
--- src/lib.rt:236:15
 mul-t17 : tie.Need-mul-t17
 mul-t17 c = search needs
 
--- src/lib.rt:236:15
 shared-slice-read-t19 : tie.Need-shared-slice-read-t19
 shared-slice-read-t19 c = search needs
 
--- src/lib.rt:237:23
 add-answer : tie.Need-add-answer
 add-answer c = search needs
 
--- src/lib.rt:237:17
 mul-answer : tie.Need-mul-answer
 mul-answer c = search needs
 
--- src/lib.rt:237:17
 shared-slice-read-answer : tie.Need-shared-slice-read-answer
 shared-slice-read-answer c = search needs
 
--- src/lib.rt:239:26
 mul-answer-2 : tie.Need-mul-answer-2
 mul-answer-2 c = search needs
 
--- src/lib.rt:239:26
 shared-slice-read-answer-2 : tie.Need-shared-slice-read-answer-2
 shared-slice-read-answer-2 c = search needs
 
--- src/lib.rt:239:9
 answer-requires : tie.Need-answer-requires
 answer-requires c κs = search needs
 
--- src/lib.rt:240:5
 put-answer-requires : tie.Need-put-answer-requires
 put-answer-requires c κs = search needs
 
--- src/lib.rt:242:27
 enum-known-a : tie.Need-enum-known-a
 enum-known-a c = search needs
 
--- src/lib.rt:243:13
 put-requires : tie.Need-put-requires
 put-requires c κs = search needs
 
--- src/lib.rt:245:24
 add-t32 : tie.Need-add-t32
 add-t32 c = search needs
 
--- src/lib.rt:249:23
 enum-told : tie.Need-enum-told
 enum-told c = search needs
 
--- src/lib.rt:250:30
 enum-told-2 : tie.Need-enum-told-2
 enum-told-2 c = search needs
 
--- src/lib.rt:221:1
 same-length : tie.Need-same-length
 same-length c = search needs
 
--- src/lib.rt:221:1
 same-length-2 : tie.Need-same-length-2
 same-length-2 c = search needs
 
--- src/lib.rt:221:1
 returns : tie.Need-returns
 unfolding callAt
 returns c = called-found _ _ _ _ _ _ _ _ _ (c .before .before .before .before .before .before .before .before .before .before .before .answer .ensures) (c .before .before .before .before .before .before .before .before .before .put-answer .ensures) _ _ (search needs) (c .before .before .put .ensures)
 
--- src/lib.rt:221:1
 same-length-3 : tie.Need-same-length-3
 same-length-3 c = search needs
 
--- src/lib.rt:221:1
 returns-2 : tie.Need-returns-2
 unfolding callAt
 returns-2 c = called-end _ _ _ _ _ _ _ _ _ (c .before .before .before .before .before .before .answer .ensures) (c .before .before .before .before .put-answer .ensures) _ refl (search needs)
 
--- src/lib.rt:221:1
 same-length-4 : tie.Need-same-length-4
 same-length-4 c = search needs
 
--- src/lib.rt:221:1
 returns-3 : tie.Need-returns-3
 unfolding callAt
 returns-3 c = called-refused _ _ _ _ _ _ _ _ _ (c .before .before .before .before .before .before .answer .ensures) (c .before .before .before .before .put-answer .ensures) (c .enum-told2 .given .0 .0) _ refl (c .enum-told2 .given .1)

@@ -5,39 +5,30 @@ use borrow.Author.Needs.{needs}
 use Rattle.operations.proofs.page_after.Statement.{statement}
 use Rattle.operations.proofs.page_after.Tie as tie
 
--- src/lib.rt:145:9
 load-requires : tie.Need-load-requires
 load-requires c κs = search needs
 
--- src/lib.rt:147:26
 enum-known-got : tie.Need-enum-known-got
 enum-known-got c = search needs
 
--- src/lib.rt:148:27
 enum-known-got-2 : tie.Need-enum-known-got-2
 enum-known-got-2 c = search needs
 
--- src/lib.rt:149:17
 refusal-requires : tie.Need-refusal-requires
 refusal-requires c κs = let k = small-was _ _ (c .before .got2 .given .0 .0) _ _ (search needs) (c .before .before .before .load .ensures) in (omega (arith, k .statements), omega (arith, k .exceptions))
 
--- src/lib.rt:151:17
 returns : tie.Need-returns
 returns c = page-after-refused _ _ _ _ (accepted-was _ _ (c .before .before .before .got2 .given .0 .0) _ _ (search needs) (c .before .before .before .before .before .load .ensures)) _ _ (c .before .refusal .ensures) (search needs) _ _
 
--- src/lib.rt:153:26
 after-in-requires : tie.Need-after-in-requires
 after-in-requires c κs = (small-was _ _ (c .before .before .before .before .before .before .got2 .given .0 .0) _ _ (search needs) (c .before .before .before .before .before .before .before .before .load .ensures), few-taken _ _ _ _ (accepted-was _ _ (c .before .before .before .before .before .before .got2 .given .0 .0) _ _ (search needs) (c .before .before .before .before .before .before .before .before .load .ensures)) _ _ (c .before .before .before .before .refusal .ensures) (search needs))
 
--- src/lib.rt:140:1
 returns-2 : tie.Need-returns-2
 returns-2 c = page-after-down _ _ (refused-was _ _ _ _ _ (search needs) (c .before .before .before .load .ensures)) _ _ _
 
--- src/lib.rt:140:1
 same-length : tie.Need-same-length
 same-length c = search needs
 
--- src/lib.rt:140:1
 returns-3 : tie.Need-returns-3
 returns-3 c = page-after-accepted _ _ _ _ (accepted-was _ _ (c .before .before .before .before .before .before .before .before .before .got2 .given .0 .0) _ _ (search needs) (c .before .before .before .before .before .before .before .before .before .before .before .load .ensures)) _ _ (c .before .before .before .before .before .before .before .refusal .ensures) (search needs) _ _ _ (c .before .before .after-in .ensures)
 

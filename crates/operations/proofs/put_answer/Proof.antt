@@ -3,55 +3,42 @@ use borrow.Author.Needs.{needs}
 use Rattle.operations.proofs.put_answer.Statement.{statement}
 use Rattle.operations.proofs.put_answer.Tie as tie
 
--- src/lib.rt:213:27
 enum-known-a : tie.Need-enum-known-a
 enum-known-a c = search needs
 
--- src/lib.rt:213:33
 put-row-requires : tie.Need-put-row-requires
 put-row-requires c κs = search needs
 
--- src/lib.rt:214:31
 enum-told : tie.Need-enum-told
 enum-told c = search needs
 
--- src/lib.rt:214:23
 put-row-requires-2 : tie.Need-put-row-requires-2
 put-row-requires-2 c κs = search needs
 
--- src/lib.rt:215:24
 enum-known-a-2 : tie.Need-enum-known-a-2
 enum-known-a-2 c = search needs
 
--- src/lib.rt:215:49
 cast-put-row : tie.Need-cast-put-row
 cast-put-row c = search needs
 
--- src/lib.rt:215:30
 put-row-requires-3 : tie.Need-put-row-requires-3
 put-row-requires-3 c κs = search needs
 
--- src/lib.rt:208:1
 same-length : tie.Need-same-length
 same-length c = search needs
 
--- src/lib.rt:208:1
 returns : tie.Need-returns
 returns c = found-put _ _ _ _ _ (search needs) (c .before .before .put-row .ensures)
 
--- src/lib.rt:208:1
 same-length-2 : tie.Need-same-length-2
 same-length-2 c = search needs
 
--- src/lib.rt:208:1
 returns-2 : tie.Need-returns-2
 returns-2 c = end-put _ _ _ _ (search needs) (c .before .before .put-row2 .ensures)
 
--- src/lib.rt:208:1
 same-length-3 : tie.Need-same-length-3
 same-length-3 c = search needs
 
--- src/lib.rt:208:1
 returns-3 : tie.Need-returns-3
 returns-3 c = refused-put _ _ _ _ _ (search needs) (c .before .before .put-row3 .ensures)
 

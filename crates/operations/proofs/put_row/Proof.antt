@@ -6,59 +6,45 @@ use borrow.Author.Needs.{needs}
 use Rattle.operations.proofs.put_row.Statement.{statement}
 use Rattle.operations.proofs.put_row.Tie as tie
 
--- src/lib.rt:200:13
 mul-i : tie.Need-mul-i
 mul-i c = search needs
 
--- src/lib.rt:201:5
 mul-out : tie.Need-mul-out
 mul-out c = search needs
 
--- src/lib.rt:201:5
 slice-write-out : tie.Need-slice-write-out
 slice-write-out c = search needs
 
--- src/lib.rt:202:9
 add-out : tie.Need-add-out
 add-out c = search needs
 
--- src/lib.rt:202:5
 mul-out-2 : tie.Need-mul-out-2
 mul-out-2 c = search needs
 
--- src/lib.rt:202:5
 slice-write-out-2 : tie.Need-slice-write-out-2
 slice-write-out-2 c = simp length-set (omega arith)
 
--- src/lib.rt:203:9
 add-out-2 : tie.Need-add-out-2
 add-out-2 c = search needs
 
--- src/lib.rt:203:5
 mul-out-3 : tie.Need-mul-out-3
 mul-out-3 c = search needs
 
--- src/lib.rt:203:5
 slice-write-out-3 : tie.Need-slice-write-out-3
 slice-write-out-3 c = simp length-set (omega arith)
 
--- src/lib.rt:204:9
 add-out-3 : tie.Need-add-out-3
 add-out-3 c = search needs
 
--- src/lib.rt:204:5
 mul-out-4 : tie.Need-mul-out-4
 mul-out-4 c = search needs
 
--- src/lib.rt:204:5
 slice-write-out-4 : tie.Need-slice-write-out-4
 slice-write-out-4 c = simp length-set (omega arith)
 
--- src/lib.rt:196:1
 same-length : tie.Need-same-length
 same-length c = search needs
 
--- src/lib.rt:196:1
 returns : tie.Need-returns
 returns c = four-put (c .args .out .now) (c .args .k * 4) (c .args .a) (c .args .b) (c .args .c) (c .args .d)
 

@@ -3,27 +3,21 @@ use borrow.Author.Needs.{needs}
 use Rattle.operations.proofs.run.Statement.{statement}
 use Rattle.operations.proofs.run.Tie as tie
 
--- src/lib.rt:305:9
 run-refusal-requires : tie.Need-run-refusal-requires
 run-refusal-requires c κs = search needs
 
--- src/lib.rt:307:9
 returns : tie.Need-returns
 returns c = search needs
 
--- src/lib.rt:309:19
 make-calls-requires : tie.Need-make-calls-requires
 make-calls-requires c κs = room-enough _ _ _ (none-applies _ _ _ _ (c .before .before .before .run-refusal .ensures) (search needs))
 
--- src/lib.rt:296:1
 same-length : tie.Need-same-length
 same-length c = search needs
 
--- src/lib.rt:296:1
 same-length-2 : tie.Need-same-length-2
 same-length-2 c = search needs
 
--- src/lib.rt:296:1
 returns-2 : tie.Need-returns-2
 returns-2 c =
     let e = none-applies _ _ _ _ (c .before .before .before .before .before .before .before .before .run-refusal .ensures) (search needs) in

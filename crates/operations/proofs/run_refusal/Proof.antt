@@ -4,23 +4,18 @@ use borrow.Author.Needs.{needs}
 use Rattle.operations.proofs.run_refusal.Statement.{statement}
 use Rattle.operations.proofs.run_refusal.Tie as tie
 
--- src/lib.rt:283:9
 returns : tie.Need-returns
 returns c = not-whole _ _ _ (search needs)
 
--- src/lib.rt:286:9
 returns-2 : tie.Need-returns-2
 returns-2 c = answers-short _ _ _ (search needs) (search needs)
 
--- src/lib.rt:288:16
 mul-if3 : tie.Need-mul-if3
 mul-if3 c = search needs
 
--- src/lib.rt:289:9
 returns-3 : tie.Need-returns-3
 returns-3 c = pairs-short _ _ _ (search needs) (omega arith) (search needs)
 
--- src/lib.rt:279:1
 returns-4 : tie.Need-returns-4
 returns-4 c = not-short _ _ _ (search needs) (omega arith) (omega arith)
 

@@ -3,27 +3,21 @@ use borrow.Author.Needs.{needs}
 use Rattle.page.proofs.fixed.Statement.{statement}
 use Rattle.page.proofs.fixed.Tie as tie
 
--- src/lib.rt:111:9
 said-requires : tie.Need-said-requires
 said-requires c κs = search needs
 
--- src/lib.rt:112:17
 into-requires : tie.Need-into-requires
 into-requires c κs = search needs
 
--- src/lib.rt:112:49
 about-requires : tie.Need-about-requires
 about-requires c κs = search needs
 
--- src/lib.rt:112:37
 minus-requires : tie.Need-minus-requires
 minus-requires c κs = search needs
 
--- src/lib.rt:112:5
 out-requires : tie.Need-out-requires
 out-requires c κs = search needs
 
--- src/lib.rt:107:1
 returns : tie.Need-returns
 returns c = fixed-keeps _ _ _ _ _ _ _ _ (c .before .before .before .before .said .ensures) (c .before .before .before .into .ensures) (c .before .before .about .ensures) (c .before .minus .ensures) (c .out .ensures)
 

@@ -3,7 +3,6 @@ use Rattle.text.specs.Reading.{start}
 use Rattle.read.proofs.empty.Statement.{statement}
 use Rattle.read.proofs.empty.Tie as tie
 
--- src/lib.rt:181:1
 returns : tie.Need-returns
 unfolding start
 returns c = refl

@@ -3,15 +3,12 @@ use borrow.Author.Needs.{needs}
 use Rattle.read.proofs.is_headless.Statement.{statement}
 use Rattle.read.proofs.is_headless.Tie as tie
 
--- src/lib.rt:105:9
 is-count-requires : tie.Need-is-count-requires
 is-count-requires c κs = search needs
 
--- src/lib.rt:105:9
 returns : tie.Need-returns
 returns c = headed-yes (c .before .before .args .x) _ _ (search needs) (search needs) (search needs)
 
--- src/lib.rt:101:1
 returns-2 : tie.Need-returns-2
 returns-2 c = headed-no (c .before .args .x) _ (search needs)
 

@@ -16,35 +16,27 @@ Inv-loop next b k₀ k = (seek b k (drop k kinds) ≡ kindFor next b)
 abbrev μ-loop : tie.MeasureT-loop
 μ-loop next b k₀ k = none - k
 
--- src/lib.rt:23:5
 loop-holds : tie.Need-loop-holds Inv-loop μ-loop
 loop-holds c = seek-start _ _
 
--- src/lib.rt:24:13
 kind-at-requires : tie.Need-kind-at-requires Inv-loop μ-loop
 kind-at-requires c κs = omega arith
 
--- src/lib.rt:26:13
 returns : tie.Need-returns Inv-loop μ-loop
 returns c = (seek-here _ _ _ (c .before .before .kind-at .result) (omega arith) (search needs) (search needs) (search needs), omega arith)
 
--- src/lib.rt:29:13
 returns-2 : tie.Need-returns-2 Inv-loop μ-loop
 returns-2 c = (seek-stop _ _ (c .before .before .before .before .before .before .loop .k) (c .before .before .before .before .kind-at .result) (omega arith) (search needs) (search needs) (search needs) (not-true _ (search needs)), omega arith)
 
--- src/lib.rt:31:9
 add-k : tie.Need-add-k Inv-loop μ-loop
 add-k c = omega arith
 
--- src/lib.rt:23:5
 loop-less : tie.Need-loop-less Inv-loop μ-loop
 loop-less c = omega arith
 
--- src/lib.rt:23:5
 loop-again : tie.Need-loop-again Inv-loop μ-loop
 loop-again c = seek-next _ _ (c .before .before .before .before .before .before .loop .k) (c .before .before .before .before .kind-at .result) (omega arith) (search needs) (search needs) (search needs) (not-false _ (search needs))
 
--- src/lib.rt:19:1
 returns-3 : tie.Need-returns-3 Inv-loop μ-loop
 returns-3 c = (seek-end _ _ (c .before .loop .k) (omega arith) (search needs), omega arith)
 

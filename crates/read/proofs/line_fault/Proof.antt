@@ -3,27 +3,21 @@ use borrow.Author.Needs.{needs}
 use Rattle.read.proofs.line_fault.Statement.{statement}
 use Rattle.read.proofs.line_fault.Tie as tie
 
--- src/lib.rt:115:9
 returns : tie.Need-returns
 returns c = whole-over _ _ _ _ (search needs)
 
--- src/lib.rt:117:8
 is-headless-requires : tie.Need-is-headless-requires
 is-headless-requires c κs = search needs
 
--- src/lib.rt:118:9
 returns-2 : tie.Need-returns-2
 returns-2 c = whole-headless _ _ _ _ (search needs) (search needs) (c .before .is-headless .result) (search needs) (search needs)
 
--- src/lib.rt:121:9
 returns-3 : tie.Need-returns-3
 returns-3 c = whole-missing _ _ _ _ (search needs) (search needs) (c .before .before .is-headless .result) (search needs) (search needs) (search needs)
 
--- src/lib.rt:124:9
 returns-4 : tie.Need-returns-4
 returns-4 c = whole-miscounted _ _ _ _ (search needs) (search needs) (c .before .before .before .is-headless .result) (search needs) (search needs) (search needs) (search needs)
 
--- src/lib.rt:111:1
 returns-5 : tie.Need-returns-5
 returns-5 c = whole-right _ _ _ _ (search needs) (search needs) (c .before .before .before .is-headless .result) (search needs) (search needs) (search needs) (search needs)
 

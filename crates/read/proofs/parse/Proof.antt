@@ -6,47 +6,37 @@ use borrow.Author.Needs.{needs}
 use Rattle.read.proofs.parse.Statement.{statement}
 use Rattle.read.proofs.parse.Tie as tie
 
--- src/lib.rt:310:9
 refused-requires : tie.Need-refused-requires
 refused-requires c κs = search needs
 
--- src/lib.rt:310:9
 returns : tie.Need-returns
 unfolding longest most bytes kinds
 returns c = parsed-long _ _ _ (c .refused .ensures) (omega arith)
 
--- src/lib.rt:313:9
 refused-requires-2 : tie.Need-refused-requires-2
 refused-requires-2 c κs = search needs
 
--- src/lib.rt:313:9
 returns-2 : tie.Need-returns-2
 unfolding longest most bytes kinds
 returns-2 c = parsed-empty _ _ _ (c .refused2 .ensures) (omega arith) (search needs)
 
--- src/lib.rt:315:13
 sub-if3 : tie.Need-sub-if3
 sub-if3 c = search needs
 
--- src/lib.rt:315:8
 shared-slice-read-if3 : tie.Need-shared-slice-read-if3
 shared-slice-read-if3 c = search needs
 
--- src/lib.rt:316:9
 refused-requires-3 : tie.Need-refused-requires-3
 refused-requires-3 c κs = search needs
 
--- src/lib.rt:316:9
 returns-3 : tie.Need-returns-3
 unfolding longest most bytes kinds
 returns-3 c = parsed-open _ _ _ (c .refused3 .ensures) (omega arith) (search needs) (search needs)
 
--- src/lib.rt:318:5
 read-lines-requires : tie.Need-read-lines-requires
 unfolding longest most bytes kinds
 read-lines-requires c κs = (omega arith, sym (last-is (c .before .before .before .before .before .before .args .text .now) (search needs)) ∙ search needs, omega arith)
 
--- src/lib.rt:306:1
 returns-4 : tie.Need-returns-4
 unfolding longest most bytes kinds
 returns-4 c = parsed-lines _ _ _ (c .read-lines .ensures) (omega arith) (search needs) (search needs)

@@ -14,43 +14,33 @@ Inv-loop t₀ at rows m i₀ t i = (i ≤ m) × (length t ≡ length t₀) × To
 abbrev μ-loop : tie.MeasureT-loop
 μ-loop t₀ at rows m i₀ t i = m - i
 
--- src/lib.rt:327:5
 loop-holds : tie.Need-loop-holds Inv-loop μ-loop
 loop-holds c = (omega arith, refl, put-start _ _ _ _)
 
--- src/lib.rt:328:21
 number-at-requires : tie.Need-number-at-requires Inv-loop μ-loop
 number-at-requires c κs = omega arith
 
--- src/lib.rt:328:11
 add-t10 : tie.Need-add-t10 Inv-loop μ-loop
 add-t10 c = omega arith
 
--- src/lib.rt:328:9
 mul-t11 : tie.Need-mul-t11 Inv-loop μ-loop
 mul-t11 c = search needs
 
--- src/lib.rt:328:9
 slice-set-from-t : tie.Need-slice-set-from-t Inv-loop μ-loop
 slice-set-from-t c = omega arith
 
--- src/lib.rt:329:9
 add-i : tie.Need-add-i Inv-loop μ-loop
 add-i c = omega arith
 
--- src/lib.rt:327:5
 loop-less : tie.Need-loop-less Inv-loop μ-loop
 loop-less c = omega arith
 
--- src/lib.rt:327:5
 loop-again : tie.Need-loop-again Inv-loop μ-loop
 loop-again c = (omega arith, simp length-set (omega arith), put-next _ _ _ _ (c .before .before .before .loop .t) (c .before .before .before .loop .i) (back (c .number-at .result)) (omega arith) (omega arith) (back-same _ (c .number-at .ok) ∙ c .number-at .ensures) (search needs))
 
--- src/lib.rt:322:1
 same-length : tie.Need-same-length Inv-loop μ-loop
 same-length c = search needs
 
--- src/lib.rt:322:1
 returns : tie.Need-returns Inv-loop μ-loop
 returns c = put-end (c .before .before .args .rows .now) _ (c .before .before .args .at) (c .before .before .args .m) _ (c .before .loop .i) (omega arith) (search needs)
 

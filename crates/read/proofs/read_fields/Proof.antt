@@ -16,86 +16,66 @@ Inv-loop text at t₀ to w from n counts rows seen₀ i₀ t seen i = (i ≤ w) 
 abbrev μ-loop : tie.MeasureT-loop
 μ-loop text at t₀ to w from n counts rows seen₀ i₀ t seen i = w - i
 
--- src/lib.rt:82:5
 loop-holds : tie.Need-loop-holds Inv-loop μ-loop
 unfolding noneSeen
 loop-holds c = (omega arith, refl, rest-start _ _ _ _ _ _ _ _ _ (search needs))
 
--- src/lib.rt:83:40
 add-content-at : tie.Need-add-content-at Inv-loop μ-loop
 unfolding contents
 add-content-at c = omega arith
 
--- src/lib.rt:83:13
 content-at-requires : tie.Need-content-at-requires Inv-loop μ-loop
 content-at-requires c κs = omega arith
 
--- src/lib.rt:84:45
 mul-read-number : tie.Need-mul-read-number Inv-loop μ-loop
 mul-read-number c = omega arith
 
--- src/lib.rt:84:40
 add-read-number : tie.Need-add-read-number Inv-loop μ-loop
 add-read-number c = omega arith
 
--- src/lib.rt:84:13
 read-number-requires : tie.Need-read-number-requires Inv-loop μ-loop
 read-number-requires c κs = omega arith
 
--- src/lib.rt:86:25
 enum-known-number : tie.Need-enum-known-number Inv-loop μ-loop
 enum-known-number c = search needs
 
--- src/lib.rt:87:17
 same-length : tie.Need-same-length Inv-loop μ-loop
 same-length c = search needs
 
--- src/lib.rt:87:17
 returns : tie.Need-returns Inv-loop μ-loop
 unfolding fieldsOf
 returns c = rest-wrong (c .before .before .before .before .before .before .before .before .before .args .text .now) (c .before .before .before .before .before .before .before .before .before .args .at) (part (c .before .before .before .before .before .before .before .before .before .args .x .from) (c .before .before .before .before .before .before .before .before .before .args .x .fields)) _ _ _ _ _ _ (c .before .before .before .before .before .before .loop .i) (c .before .before .before .before .before .before .loop .seen) (rw (part-long (c .before .before .before .before .before .before .before .before .before .args .x .from) (c .before .before .before .before .before .before .before .before .before .args .x .fields) (omega arith)) (omega arith)) (search needs) (c .before .before .before .before .content-at .result) (part-at (c .before .before .before .before .before .before .before .before .before .args .x .from) (c .before .before .before .before .before .before .before .before .before .args .x .fields) _ _ (omega arith) (search needs)) (c .before .before .before .read-number .result) (c .before .before .before .read-number .ensures) _ (search needs)
 
--- src/lib.rt:89:24
 enum-known-number-2 : tie.Need-enum-known-number-2 Inv-loop μ-loop
 enum-known-number-2 c = search needs
 
--- src/lib.rt:90:19
 add-v : tie.Need-add-v Inv-loop μ-loop
 add-v c = omega arith
 
--- src/lib.rt:90:17
 mul-v : tie.Need-mul-v Inv-loop μ-loop
 mul-v c = search needs
 
--- src/lib.rt:90:17
 slice-set-from-v : tie.Need-slice-set-from-v Inv-loop μ-loop
 slice-set-from-v c = omega arith
 
--- src/lib.rt:91:51
 array-read-see : tie.Need-array-read-see Inv-loop μ-loop
 array-read-see c = search needs
 
--- src/lib.rt:91:17
 see-requires : tie.Need-see-requires Inv-loop μ-loop
 see-requires c κs = search needs
 
--- src/lib.rt:94:9
 add-i : tie.Need-add-i Inv-loop μ-loop
 add-i c = omega arith
 
--- src/lib.rt:82:5
 loop-less : tie.Need-loop-less Inv-loop μ-loop
 loop-less c = omega arith
 
--- src/lib.rt:82:5
 loop-again : tie.Need-loop-again Inv-loop μ-loop
 loop-again c = (omega arith, simp length-set (omega arith), rest-next (c .before .before .before .before .before .before .before .before .before .before .args .text .now) (c .before .before .before .before .before .before .before .before .before .before .args .at) (part (c .before .before .before .before .before .before .before .before .before .before .args .x .from) (c .before .before .before .before .before .before .before .before .before .before .args .x .fields)) _ _ _ _ _ (c .before .before .before .before .before .before .before .loop .t) (c .before .before .before .before .before .before .before .loop .i) (c .before .before .before .before .before .before .before .loop .seen) (rw (part-long (c .before .before .before .before .before .before .before .before .before .before .args .x .from) (c .before .before .before .before .before .before .before .before .before .before .args .x .fields) (omega arith)) (omega arith)) (search needs) (c .before .before .before .before .before .content-at .result) (part-at (c .before .before .before .before .before .before .before .before .before .before .args .x .from) (c .before .before .before .before .before .before .before .before .before .before .args .x .fields) _ _ (omega arith) (search needs)) (c .before .before .before .before .read-number .result) (c .before .before .before .before .read-number .ensures) (c .before .before .number2 .given .0 .0) _ (search needs) (search needs) (c .see .ensures))
 
--- src/lib.rt:67:1
 same-length-2 : tie.Need-same-length-2 Inv-loop μ-loop
 same-length-2 c = search needs
 
--- src/lib.rt:67:1
 returns-2 : tie.Need-returns-2 Inv-loop μ-loop
 unfolding fieldsOf
 returns-2 c = rest-end (c .before .before .before .before .args .text .now) (c .before .before .before .before .args .at) (part (c .before .before .before .before .args .x .from) (c .before .before .before .before .args .x .fields)) _ _ _ _ _ _ (c .before .loop .i) (c .before .loop .seen) (rw (part-long (c .before .before .before .before .args .x .from) (c .before .before .before .before .args .x .fields) (omega arith)) (omega arith)) (search needs)

@@ -4,91 +4,69 @@ use borrow.Author.Needs.{needs}
 use Rattle.read.proofs.read_line.Statement.{statement}
 use Rattle.read.proofs.read_line.Tie as tie
 
--- src/lib.rt:141:9
 returns : tie.Need-returns
 returns c = line-empty (c .before .before .args .st) _ _ (c .before .before .args .text .now) (c .before .before .args .at) (c .before .before .args .len) _ (search needs)
 
--- src/lib.rt:143:31
 shared-slice-read-kind-for : tie.Need-shared-slice-read-kind-for
 shared-slice-read-kind-for c = search needs
 
--- src/lib.rt:143:9
 kind-for-requires : tie.Need-kind-for-requires
 kind-for-requires c κs = search needs
 
--- src/lib.rt:145:9
 returns-2 : tie.Need-returns-2
 returns-2 c = line-elsewhere (c .before .before .before .before .before .args .text .now) (c .before .before .before .before .before .args .at) (c .before .before .before .before .before .args .len) (c .before .before .before .before .before .args .st) _ _ (c .before .kind-for .result) (search needs) (search needs) (c .before .kind-for .ensures .0) _ (omega arith)
 
--- src/lib.rt:147:9
 kind-at-requires : tie.Need-kind-at-requires
 kind-at-requires c κs = search needs
 
--- src/lib.rt:148:8
 sub-if3 : tie.Need-sub-if3
 sub-if3 c = search needs
 
--- src/lib.rt:148:19
 mul-if3 : tie.Need-mul-if3
 mul-if3 c = omega (arith, kind-narrow (c .before .kind-at .result) (c .before .before .before .kind-for .result) (search needs) (omega arith))
 
--- src/lib.rt:149:9
 returns-3 : tie.Need-returns-3
 returns-3 c = line-long (c .before .before .before .before .before .before .before .before .args .text .now) (c .before .before .before .before .before .before .before .before .args .at) (c .before .before .before .before .before .before .before .before .args .len) (c .before .before .before .before .before .before .before .before .args .st) _ _ (c .before .before .before .before .kind-for .result) (search needs) (search needs) (c .before .before .before .before .kind-for .ensures .0) (c .before .before .kind-at .result) (omega arith) (search needs) _ (search needs)
 
--- src/lib.rt:151:35
 add-read-fields : tie.Need-add-read-fields
 add-read-fields c = search needs
 
--- src/lib.rt:151:9
 read-fields-requires : tie.Need-read-fields-requires
 read-fields-requires c κs = (omega arith, omega (arith, kind-narrow (c .before .before .before .kind-at .result) (c .before .before .before .before .before .kind-for .result) (search needs) (omega arith)), kind-contents (c .before .before .before .kind-at .result) (c .before .before .before .before .before .kind-for .result) (search needs) (omega arith), search needs, search needs, search needs)
 
--- src/lib.rt:153:23
 enum-known-found : tie.Need-enum-known-found
 enum-known-found c = search needs
 
--- src/lib.rt:154:23
 enum-known-found-2 : tie.Need-enum-known-found-2
 enum-known-found-2 c = search needs
 
--- src/lib.rt:156:35
 mul-line-fault : tie.Need-mul-line-fault
 mul-line-fault c = search needs
 
--- src/lib.rt:156:35
 array-read-line-fault : tie.Need-array-read-line-fault
 array-read-line-fault c = search needs
 
--- src/lib.rt:156:46
 number-at-requires : tie.Need-number-at-requires
 number-at-requires c κs = search needs
 
--- src/lib.rt:156:17
 line-fault-requires : tie.Need-line-fault-requires
 line-fault-requires c κs = search needs
 
--- src/lib.rt:158:17
 same-length : tie.Need-same-length
 same-length c = search needs
 
--- src/lib.rt:158:17
 returns-4 : tie.Need-returns-4
 returns-4 c = line-whole (c .before .before .before .before .before .before .before .before .before .before .before .before .before .before .before .before .before .before .before .args .text .now) (c .before .before .before .before .before .before .before .before .before .before .before .before .before .before .before .before .before .before .before .args .at) (c .before .before .before .before .before .before .before .before .before .before .before .before .before .before .before .before .before .before .before .args .len) (c .before .before .before .before .before .before .before .before .before .before .before .before .before .before .before .before .before .before .before .args .st) _ _ (c .before .before .before .before .before .before .before .before .before .before .before .before .before .before .before .kind-for .result) (search needs) (search needs) (c .before .before .before .before .before .before .before .before .before .before .before .before .before .before .before .kind-for .ensures .0) (c .before .before .before .before .before .before .before .before .before .before .before .before .before .kind-at .result) (omega arith) (c .before .before .before .before .before .before .before .before .before .before .before .before .before .kind-at .ensures) (search needs) _ (c .before .before .before .before .before .before .before .before .before .read-fields .result) (c .before .before .before .before .before .before .before .before .before .read-fields .ensures) (c .before .before .before .before .before .before .found2 .given .0 .0) (search needs) (search needs) (c .before .before .number-at .result) (c .before .before .number-at .ensures) (search needs) (c .before .line-fault .result) (c .before .line-fault .ensures) (search needs)
 
--- src/lib.rt:136:1
 same-length-2 : tie.Need-same-length-2
 same-length-2 c = search needs
 
--- src/lib.rt:136:1
 returns-5 : tie.Need-returns-5
 returns-5 c = line-fields (c .before .before .before .before .before .before .before .before .before .before .before .before .before .before .args .text .now) (c .before .before .before .before .before .before .before .before .before .before .before .before .before .before .args .at) (c .before .before .before .before .before .before .before .before .before .before .before .before .before .before .args .len) (c .before .before .before .before .before .before .before .before .before .before .before .before .before .before .args .st) _ _ (c .before .before .before .before .before .before .before .before .before .before .kind-for .result) (search needs) (search needs) (c .before .before .before .before .before .before .before .before .before .before .kind-for .ensures .0) (c .before .before .before .before .before .before .before .before .kind-at .result) (omega arith) (c .before .before .before .before .before .before .before .before .kind-at .ensures) (search needs) _ (c .before .before .before .before .read-fields .result) (c .before .before .before .before .read-fields .ensures) _ (search needs)
 
--- src/lib.rt:136:1
 same-length-3 : tie.Need-same-length-3
 same-length-3 c = search needs
 
--- src/lib.rt:136:1
 returns-6 : tie.Need-returns-6
 returns-6 c = line-right (c .before .before .before .before .before .before .before .before .before .before .before .before .before .before .before .before .before .before .before .args .text .now) (c .before .before .before .before .before .before .before .before .before .before .before .before .before .before .before .before .before .before .before .args .at) (c .before .before .before .before .before .before .before .before .before .before .before .before .before .before .before .before .before .before .before .args .len) (c .before .before .before .before .before .before .before .before .before .before .before .before .before .before .before .before .before .before .before .args .st) _ _ (c .before .before .before .before .before .before .before .before .before .before .before .before .before .before .before .kind-for .result) (search needs) (search needs) (c .before .before .before .before .before .before .before .before .before .before .before .before .before .before .before .kind-for .ensures .0) (c .before .before .before .before .before .before .before .before .before .before .before .before .before .kind-at .result) (omega arith) (c .before .before .before .before .before .before .before .before .before .before .before .before .before .kind-at .ensures) (search needs) _ (c .before .before .before .before .before .before .before .before .before .read-fields .result) (c .before .before .before .before .before .before .before .before .before .read-fields .ensures) (c .before .before .before .before .before .before .found2 .given .0 .0) (search needs) (search needs) (c .before .before .number-at .result) (c .before .before .number-at .ensures) (search needs) (c .before .line-fault .result) (c .before .line-fault .ensures) (search needs)
 

@@ -16,79 +16,60 @@ Inv-loop text t₀ st₀ c₀ to₀ t st c to = Going text t₀ t st c to
 abbrev μ-loop : tie.MeasureT-loop
 μ-loop text t₀ st₀ c₀ to₀ t st c to = length text - c .at
 
--- src/lib.rt:283:9
 empty-requires : tie.Need-empty-requires Inv-loop μ-loop
 empty-requires c κs = search needs
 
--- src/lib.rt:284:9
 first-requires : tie.Need-first-requires Inv-loop μ-loop
 first-requires c κs = search needs
 
--- src/lib.rt:286:5
 loop-holds : tie.Need-loop-holds Inv-loop μ-loop
 loop-holds c = going-start _ _ _ _ (search needs) (search needs)
 
--- src/lib.rt:288:13
 line-length-requires : tie.Need-line-length-requires Inv-loop μ-loop
 line-length-requires c κs = omega arith
 
--- src/lib.rt:289:13
 read-line-requires : tie.Need-read-line-requires Inv-loop μ-loop
 read-line-requires c κs = (c .before .line-length .ensures .1, going-room _ _ _ _ _ _ (c .before .before .before .before .loop .inv) (c .before .before .before .before .before .before .before .before .pre .0) (c .before .before .before .before .before .before .before .before .pre .2), going-n _ _ _ _ _ _ (c .before .before .before .before .loop .inv) (c .before .before .before .before .before .before .before .before .pre .0), going-count _ _ _ _ _ _ (c .before .before .before .before .loop .inv) (c .before .before .before .before .before .before .before .before .pre .0) exception, going-rows _ _ _ _ _ _ (c .before .before .before .before .loop .inv) (c .before .before .before .before .before .before .before .before .pre .0))
 
--- src/lib.rt:291:25
 enum-known-found : tie.Need-enum-known-found Inv-loop μ-loop
 enum-known-found c = search needs
 
--- src/lib.rt:292:17
 refused-requires : tie.Need-refused-requires Inv-loop μ-loop
 refused-requires c κs = search needs
 
--- src/lib.rt:292:17
 same-length : tie.Need-same-length Inv-loop μ-loop
 same-length c = search needs
 
--- src/lib.rt:292:17
 returns : tie.Need-returns Inv-loop μ-loop
 returns c = refused-is _ _ _ _ (c .refused .ensures) ∙ going-bad _ _ _ (c .before .before .before .before .before .read-line .last .1 .1 .1 .1 .0) _ _ _ (c .before .before .before .before .before .before .before .line-length .result) (c .before .before .before .before .before .before .before .before .before .before .loop .inv) (search needs) (search needs) (c .before .before .before .before .before .before .before .line-length .ensures .0) (c .before .before .before .before .before .read-line .result) (c .before .before .before .before .before .read-line .ensures) _ (search needs)
 
--- src/lib.rt:294:24
 enum-known-found-2 : tie.Need-enum-known-found-2 Inv-loop μ-loop
 enum-known-found-2 c = search needs
 
--- src/lib.rt:295:17
 stepped-requires : tie.Need-stepped-requires Inv-loop μ-loop
 stepped-requires c κs = (going-kind _ _ _ (c .before .before .before .before .read-line .last .1 .1 .1 .1 .0) _ _ _ (c .before .before .before .before .before .before .line-length .result) (c .before .before .before .before .before .before .before .before .before .loop .inv) (search needs) (search needs) (c .before .before .before .before .before .before .line-length .ensures .0) (c .before .before .before .before .read-line .result) (c .before .before .before .before .read-line .ensures) _ (c .before .found2 .given .0 .1 .0) (search needs), going-count _ _ _ _ _ _ (c .before .before .before .before .before .before .before .before .before .loop .inv) (c .before .before .before .before .before .before .before .before .before .before .before .before .before .pre .0) _, going-rows _ _ _ _ _ _ (c .before .before .before .before .before .before .before .before .before .loop .inv) (c .before .before .before .before .before .before .before .before .before .before .before .before .before .pre .0))
 
--- src/lib.rt:296:27
 row-width-requires : tie.Need-row-width-requires Inv-loop μ-loop
 row-width-requires c κs = going-kind _ _ _ (c .before .before .before .before .before .read-line .last .1 .1 .1 .1 .0) _ _ _ (c .before .before .before .before .before .before .before .line-length .result) (c .before .before .before .before .before .before .before .before .before .before .loop .inv) (search needs) (search needs) (c .before .before .before .before .before .before .before .line-length .ensures .0) (c .before .before .before .before .before .read-line .result) (c .before .before .before .before .before .read-line .ensures) _ (c .before .before .found2 .given .0 .1 .0) (search needs)
 
--- src/lib.rt:296:22
 add-to : tie.Need-add-to Inv-loop μ-loop
 add-to c = omega (arith, going-to _ _ _ _ _ _ (c .before .before .before .before .before .before .before .before .before .before .before .loop .inv) (c .before .before .before .before .before .before .before .before .before .before .before .before .before .before .before .pre .0), c .row-width .ensures, row-small (c .before .before .before .found2 .given .0 .0) (going-kind _ _ _ (c .before .before .before .before .before .before .read-line .last .1 .1 .1 .1 .0) _ _ _ (c .before .before .before .before .before .before .before .before .line-length .result) (c .before .before .before .before .before .before .before .before .before .before .before .loop .inv) (search needs) (search needs) (c .before .before .before .before .before .before .before .before .line-length .ensures .0) (c .before .before .before .before .before .before .read-line .result) (c .before .before .before .before .before .before .read-line .ensures) (c .before .before .before .found2 .given .0 .0) (c .before .before .before .found2 .given .0 .1 .0) (search needs)))
 
--- src/lib.rt:299:9
 past-requires : tie.Need-past-requires Inv-loop μ-loop
 past-requires c κs = (omega (arith, c .before .before .before .before .before .before .before .before .line-length .ensures .1, c .before .before .before .before .before .before .before .before .before .before .before .before .before .before .before .pre .0, longest-small), going-line _ _ _ _ _ _ (c .before .before .before .before .before .before .before .before .before .before .before .loop .inv) (c .before .before .before .before .before .before .before .before .before .before .before .before .before .before .before .pre .0))
 
--- src/lib.rt:286:5
 loop-less : tie.Need-loop-less Inv-loop μ-loop
 loop-less c = omega (arith, ap (λ (x : Cursor). x .at) (c .past .ensures))
 
--- src/lib.rt:286:5
 loop-again : tie.Need-loop-again Inv-loop μ-loop
 loop-again c = going-next _ _ _ (c .before .before .before .before .before .before .before .read-line .last .1 .1 .1 .1 .0) (c .before .before .before .before .before .before .before .before .before .before .before .before .loop .st) (c .before .before .before .before .before .before .before .before .before .before .before .before .loop .c) (c .before .before .before .before .before .before .before .before .before .before .before .before .loop .to) (c .before .before .before .before .before .before .before .before .before .line-length .result) (c .before .before .before .before .before .before .before .before .before .before .before .before .loop .inv) (search needs) (search needs) (c .before .before .before .before .before .before .before .before .before .line-length .ensures .0) (c .before .before .before .before .before .before .before .read-line .result) (c .before .before .before .before .before .before .before .read-line .ensures) _ _ (search needs) (c .before .before .before .before .before .before .before .before .before .before .before .before .before .before .before .before .pre .2) (c .before .before .before .before .before .before .before .before .before .before .before .before .before .before .before .before .pre .0) _ _ _ (c .before .before .stepped .ensures) (c .before .row-width .ensures) (c .past .ensures)
 
--- src/lib.rt:301:5
 ended-requires : tie.Need-ended-requires Inv-loop μ-loop
 ended-requires c κs = search needs
 
--- src/lib.rt:279:1
 same-length-2 : tie.Need-same-length-2 Inv-loop μ-loop
 same-length-2 c = search needs
 
--- src/lib.rt:279:1
 returns-2 : tie.Need-returns-2 Inv-loop μ-loop
 returns-2 c = going-end _ _ _ _ _ _ _ (c .before .before .before .loop .inv) (omega arith) (c .before .before .before .before .before .before .before .pre .0) (c .before .before .before .before .before .before .before .pre .1) (c .before .before .before .before .before .before .before .pre .2) (c .ended .ensures)
 

@@ -3,39 +3,30 @@ use borrow.Author.Needs.{needs}
 use Rattle.read.proofs.read_number.Statement.{statement}
 use Rattle.read.proofs.read_number.Tie as tie
 
--- src/lib.rt:47:9
 read-field-requires : tie.Need-read-field-requires
 read-field-requires c κs = search needs
 
--- src/lib.rt:49:28
 enum-told : tie.Need-enum-told
 enum-told c = search needs
 
--- src/lib.rt:50:22
 enum-known-field : tie.Need-enum-known-field
 enum-known-field c = search needs
 
--- src/lib.rt:51:17
 check-number-requires : tie.Need-check-number-requires
 check-number-requires c κs = search needs
 
--- src/lib.rt:53:42
 enum-known-checked : tie.Need-enum-known-checked
 enum-known-checked c = search needs
 
--- src/lib.rt:54:42
 enum-told-2 : tie.Need-enum-told-2
 enum-told-2 c = search needs
 
--- src/lib.rt:43:1
 returns : tie.Need-returns
 returns c = number-misspelt _ (c .before .before .read-field .result) _ (search needs) (search needs)
 
--- src/lib.rt:43:1
 returns-2 : tie.Need-returns-2
 returns-2 c = number-outside _ (c .before .before .before .before .before .before .before .read-field .result) _ (c .before .before .before .before .before .field .given .0 .0) (c .before .before .before .check-number .result) (search needs) (search needs) (search needs) (c .before .before .before .check-number .ensures) _ (search needs)
 
--- src/lib.rt:43:1
 returns-3 : tie.Need-returns-3
 returns-3 c = number-inside _ (c .before .before .before .before .before .before .read-field .result) _ (c .before .before .before .before .field .given .0 .0) (c .before .before .check-number .result) (search needs) (search needs) (search needs) (c .before .before .check-number .ensures) (search needs)
 

@@ -3,15 +3,12 @@ use borrow.Author.Needs.{needs}
 use Rattle.read.proofs.row_width.Statement.{statement}
 use Rattle.read.proofs.row_width.Tie as tie
 
--- src/lib.rt:221:9
 kind-at-requires : tie.Need-kind-at-requires
 kind-at-requires c κs = search needs
 
--- src/lib.rt:223:9
 returns : tie.Need-returns
 returns c = width-row _ (c .before .before .args .k) (c .before .kind-at .ensures) (search needs)
 
--- src/lib.rt:217:1
 returns-2 : tie.Need-returns-2
 returns-2 c = width-other (c .before .kind-at .result) (c .before .before .args .k) (c .before .kind-at .ensures) (search needs)
 

@@ -3,43 +3,33 @@ use borrow.Author.Needs.{needs}
 use Rattle.read.proofs.stepped.Statement.{statement}
 use Rattle.read.proofs.stepped.Tie as tie
 
--- src/lib.rt:197:9
 kind-at-requires : tie.Need-kind-at-requires
 kind-at-requires c κs = search needs
 
--- src/lib.rt:199:17
 mul-counts : tie.Need-mul-counts
 mul-counts c = search needs
 
--- src/lib.rt:199:17
 array-read-counts : tie.Need-array-read-counts
 array-read-counts c = search needs
 
--- src/lib.rt:199:17
 add-counts : tie.Need-add-counts
 add-counts c = search needs
 
--- src/lib.rt:199:5
 mul-counts-2 : tie.Need-mul-counts-2
 mul-counts-2 c = search needs
 
--- src/lib.rt:199:5
 array-write-counts : tie.Need-array-write-counts
 array-write-counts c = search needs
 
--- src/lib.rt:205:19
 add-t16 : tie.Need-add-t16
 add-t16 c = search needs
 
--- src/lib.rt:201:9
 returns : tie.Need-returns
 returns c = step-row (c .before .before .before .kind-at .result) (c .before .before .before .before .args .k) (c .before .before .before .kind-at .ensures) (c .before .before .before .before .args .st) _ (search needs)
 
--- src/lib.rt:209:15
 add-t6 : tie.Need-add-t6
 add-t6 c = search needs
 
--- src/lib.rt:193:1
 returns-2 : tie.Need-returns-2
 returns-2 c = step-other (c .before .before .kind-at .result) (c .before .before .before .args .k) (c .before .before .kind-at .ensures) (c .before .before .before .args .st) _ (search needs)
 

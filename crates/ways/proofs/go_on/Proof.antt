@@ -5,23 +5,18 @@ use borrow.Author.Needs.{needs}
 use Rattle.ways.proofs.go_on.Statement.{statement}
 use Rattle.ways.proofs.go_on.Tie as tie
 
--- src/main.rt:23:9
 go-on-requires : tie.Need-go-on-requires
 go-on-requires c κs = search needs
 
--- src/main.rt:24:27
 array-share-prefix-out : tie.Need-array-share-prefix-out
 array-share-prefix-out c = search needs
 
--- src/main.rt:24:27
 slice-aggregate-write-all : tie.Need-slice-aggregate-write-all
 slice-aggregate-write-all c = sym (length-take-le _ _ (c .before .go-on .ensures .fits))
 
--- src/main.rt:24:5
 write-all-requires : tie.Need-write-all-requires
 write-all-requires c κs = search needs
 
--- src/main.rt:18:1
 returns : tie.Need-returns
 returns c = reached _ _ _ _ _ _ _ (c .before .before .before .before .pre) (c .before .before .go-on .ensures)
 

@@ -5,27 +5,21 @@ use borrow.Author.Needs.{needs}
 use Rattle.ways.proofs.print.Statement.{statement}
 use Rattle.ways.proofs.print.Tie as tie
 
--- src/main.rt:46:9
 begin-requires : tie.Need-begin-requires
 begin-requires c κs = search needs
 
--- src/main.rt:48:27
 array-share-prefix-out : tie.Need-array-share-prefix-out
 array-share-prefix-out c = search needs
 
--- src/main.rt:48:27
 slice-aggregate-write-all : tie.Need-slice-aggregate-write-all
 slice-aggregate-write-all c = sym (length-take-le _ _ (c .before .before .begin .ensures .fits))
 
--- src/main.rt:48:5
 write-all-requires : tie.Need-write-all-requires
 write-all-requires c κs = search needs
 
--- src/main.rt:49:5
 rest-requires : tie.Need-rest-requires
 rest-requires c κs = begun-reached _ _ _ _ _ (c .before .before .before .before .before .begin .ensures)
 
--- src/main.rt:42:1
 returns : tie.Need-returns
 returns c = search needs
 

@@ -10,27 +10,21 @@ Inv-loop words ranks s part₀ left₀ part left = Reaches s words ranks left pa
 abbrev μ-loop : tie.MeasureT-loop
 μ-loop words ranks s part₀ left₀ part left = left
 
--- src/main.rt:34:5
 loop-holds : tie.Need-loop-holds Inv-loop μ-loop
 loop-holds c = c .pre
 
--- src/main.rt:35:9
 sub-left : tie.Need-sub-left Inv-loop μ-loop
 sub-left c = let h = c .before .loop .inv .fewer (search needs) in omega arith
 
--- src/main.rt:37:9
 go-on-requires : tie.Need-go-on-requires Inv-loop μ-loop
 go-on-requires c κs = c .before .before .loop .inv .ready (search needs)
 
--- src/main.rt:34:5
 loop-less : tie.Need-loop-less Inv-loop μ-loop
 loop-less c = let h = c .before .before .before .loop .inv .fewer (search needs) in omega arith
 
--- src/main.rt:34:5
 loop-again : tie.Need-loop-again Inv-loop μ-loop
 loop-again c = c .go-on .ensures
 
--- src/main.rt:29:1
 returns : tie.Need-returns Inv-loop μ-loop
 returns c = tt
 
