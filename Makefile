@@ -1,6 +1,7 @@
 # run:  builds `ways`, proofs and all, and runs it on a book: make run BOOK=examples/gown.book
 # test: the gate. It proves every crate from nothing, tries the must-fail edits and runs the programs (rt ci); then it tests what it has just
-#       proved and built: the examples, the collection program, the agreement with brute force and with clingo, the installation.
+#       proved and built: the examples, the collection program, the C header, the agreement with brute force and with clingo, the
+#       installation.
 # install, uninstall: see people.mk.
 SHELL := /bin/bash
 .SHELLFLAGS := -euo pipefail -c
@@ -8,9 +9,9 @@ MAKEFLAGS += --no-print-directory
 
 BOOK ?= examples/gown.book
 LOG := build/ci.log
-PACKAGES := gringo valgrind
+PACKAGES := gringo valgrind g++
 
-.PHONY: run test packages proved library examples collection agreement installed
+.PHONY: run test packages proved library examples collection header agreement installed
 
 run:
 	@mkdir -p build
@@ -21,6 +22,7 @@ run:
 test: packages proved library
 	$(MAKE) examples
 	$(MAKE) collection
+	$(MAKE) header
 	$(MAKE) agreement
 	$(MAKE) installed
 	tail -n 1 $(LOG)
@@ -48,21 +50,33 @@ examples:
 	done; \
 	echo "examples: $$count books print what is stored"
 	tests/books_page target/bin/ways docs/BOOKS.md
+	tests/symptoms target/bin/ways docs/BOOKS.md examples
 
 collection:
 	LIB=target/staticlib/libbantameasel.a collection/test.sh
 
+header:
+	$(MAKE) -C tests header
+
 agreement:
 	$(MAKE) -C tests gate
 
-# The installed header and library build the collection program, and the installed `ways` runs.
+# The installed programs run, the installed header and library build the collection program, and uninstalling leaves no file.
 installed:
 	to=$$(mktemp -d); trap 'rm -rf "$$to"' EXIT; \
 	$(MAKE) install PREFIX="$$to" > /dev/null; \
-	gcc -std=c11 -Wall -Wextra -Werror -I"$$to/include" collection/collection.c -L"$$to/lib" -lbantameasel -o "$$to/collection"; \
+	gcc -std=c11 -Wall -Wextra -Werror -I"$$to/include" collection/*.c -L"$$to/lib" -lbantameasel -o "$$to/built"; \
 	"$$to/bin/ways" < examples/k7.book | cmp - examples/k7.out; \
+	for program in "$$to/bin/collection" "$$to/built"; do \
+	  "$$program" -p "$$to/point" examples/k7.book next | sed -n 's/^ *[0-9]*  A/A/p' | cmp - <(grep A examples/k7.out); \
+	  rm "$$to/point"; \
+	done; \
 	grep -q -- '-lbantameasel' "$$to/lib/pkgconfig/bantameasel.pc"; \
 	test -f "$$to/share/man/man1/ways.1"; \
-	echo "installed: ways runs, and the collection program builds against the header and the library"
+	test -f "$$to/share/man/man1/collection.1"; \
+	rm "$$to/built"; \
+	$(MAKE) uninstall PREFIX="$$to" > /dev/null; \
+	test -z "$$(find "$$to" -type f)"; \
+	echo "installed: ways and collection run, the collection program builds against the header and the library; uninstalled: no file is left"
 
 include people.mk

@@ -11,9 +11,7 @@
 
 #include "bantameasel.h"
 
-enum { MOST_BYTES = 8392, MOST_LINE = 102 };
-
-static uint8_t text[MOST_BYTES + 1];
+static uint8_t text[BANTAMEASEL_MOST_TEXT + 1];
 
 static int refused(uint32_t number, uint64_t line) {
     printf("F%4" PRIu32 "%4" PRIu64 "\n", number, line);
@@ -22,11 +20,10 @@ static int refused(uint32_t number, uint64_t line) {
 
 static int first(size_t length) {
     bantameasel_answer answer = bantameasel_first(text, length);
-    uint8_t line[MOST_LINE];
+    uint8_t line[BANTAMEASEL_MOST_LINE];
     if (answer.refusal != 0) return refused(answer.refusal, answer.line);
     if (answer.found == 0) return puts("E") < 0;
-    bantameasel_length written =
-        bantameasel_line(text, length, answer.taken, answer.held, answer.denied, line, sizeof line);
+    bantameasel_length written = bantameasel_line(text, length, answer.pair, line, sizeof line);
     if (written.refusal != 0) return refused(written.refusal, written.line);
     return fwrite(line, 1, written.length, stdout) != written.length;
 }
@@ -34,7 +31,8 @@ static int first(size_t length) {
 static int judge(size_t length, char **pair) {
     uint64_t number[3];
     for (int place = 0; place < 3; place++) number[place] = strtoull(pair[place], NULL, 10);
-    bantameasel_verdict answer = bantameasel_judge(text, length, number[0], number[1], number[2]);
+    bantameasel_pair asked = {number[0], number[1], number[2]};
+    bantameasel_verdict answer = bantameasel_judge(text, length, asked);
     if (answer.refusal != 0) return refused(answer.refusal, answer.line);
     return printf("verdict %" PRIu32 "\n", answer.verdict) < 0;
 }

@@ -2,11 +2,11 @@
  * collection: shows a book's resolutions one or a page at a time, as a museum's collection program would.
  * It uses the functions of bantameasel.h and nothing else of the engine.
  *
- * The point of a listing is kept between runs in a small text file: one line with the three numbers
- * taken, held and denied of the resolution shown last, or the word "start" for the point before the
- * first pair. Where there is no such file, the listing begins at its start.
+ *   collection.c   the commands
+ *   books.c        a book in memory; every call of the engine
+ *   faults.c       what is wrong with a book that was refused, in words
+ *   points.c       how far a listing was shown, from one run to the next
  */
-#include <errno.h>
 #include <inttypes.h>
 #include <stdbool.h>
 #include <stdint.h>
@@ -14,109 +14,13 @@
 #include <stdlib.h>
 #include <string.h>
 
-#include "bantameasel.h"
+#include "books.h"
+#include "points.h"
 
 enum {
-    FIELD = 4,           /* columns of a field */
-    TAKEN_FIELDS = 12,   /* fields of an A line for the exceptions taken */
-    MARKS = 1 + FIELD * (1 + TAKEN_FIELDS), /* the byte of an A line at which the statements' marks begin */
-    READ_MOST = 65536,   /* a file that fills this is longer than any book: the engine refuses it by 1 */
-    POINT_MOST = 80,     /* longer than any line of a point file */
     PAGE_USUAL = 10,     /* resolutions shown where no count is given */
-    PAGE_MOST = 9999,    /* the most that may be asked for at once */
-    WALK = 256           /* pairs fetched at a time where the listing is walked from its start */
+    PAGE_MOST = 9999     /* the most that may be asked for at once */
 };
-
-/* A book: its file's name, its text, and the number of its statements. */
-typedef struct {
-    const char *name;
-    uint8_t *text;
-    size_t length;
-    uint64_t statements;
-} book;
-
-/* A pair: number i is worth 2^(i-1) in each. */
-typedef struct {
-    uint64_t taken;
-    uint64_t held;
-    uint64_t denied;
-} pair;
-
-/* The point of a listing: before the first pair, or at a pair. */
-typedef struct {
-    bool begun;
-    pair at;
-} point;
-
-/* A listing that is walked from its start: the pairs fetched, how many were handed out of them and in all. */
-typedef struct {
-    const book *of;
-    uint64_t pairs[3 * WALK];
-    uint64_t fetched;
-    uint64_t used;
-    uint64_t place;
-    point reached;
-} walk;
-
-/* ---- words ---- */
-
-/* What a refusal means, in words. */
-static const char *refusal_words(uint32_t refusal)
-{
-    static const char *const words[] = {
-        "nothing was refused",
-        "the text is longer than a book may be",
-        "the text is empty, or its last line does not end with a line feed",
-        "this line may not stand here: the order is one B, all R, all X, all P, one Z, with no empty line and "
-        "nothing after Z",
-        "the line is too long or too short for its letter",
-        "a field is misspelt: it takes 4 columns, a whole number after spaces, with no plus sign and no leading zero",
-        "a number is outside its range",
-        "the edition is not 1",
-        "there are more lines of this kind than a book may have",
-        "an exception needs a head, and this one has 0",
-        "the preference names an exception that the book does not have",
-        "the number in the Z line is not the number of R, X and P lines",
-        "the pair takes an exception that the book does not have",
-        "the pair holds or denies a statement that the book does not have",
-        "the pair both holds and denies a statement",
-        "a lent buffer is too short for the answer",
-        "the number table does not have the length that its counts ask for"
-    };
-    return refusal < sizeof words / sizeof words[0] ? words[refusal] : "a refusal that this program does not know";
-}
-
-/* What a verdict means, in words. */
-static const char *verdict_words(uint32_t verdict)
-{
-    static const char *const words[] = {
-        "this is a resolution",
-        "the statements are no answer set of the plain rules with the exceptions taken",
-        "an exception is taken together with one that outranks it, or outranks itself",
-        "an exception is taken whose body is not satisfied",
-        "it is dominated: some view takes an exception that outranks one taken here",
-        "it takes more than it needs: some view takes only a part of these exceptions"
-    };
-    return verdict < sizeof words / sizeof words[0] ? words[verdict] : "a verdict that this program does not know";
-}
-
-/* Says on standard error what went wrong with a thing; answers false, so that callers can hand it on. */
-static bool fail(const char *thing, const char *words)
-{
-    fprintf(stderr, "collection: %s: %s.\n", thing, words);
-    return false;
-}
-
-/* Says which refusal the engine gave for a thing, and at which line where it is tied to one. */
-static bool refused(const char *thing, uint32_t refusal, uint64_t line)
-{
-    fprintf(stderr, "collection: %s: refusal %" PRIu32, thing, refusal);
-    if (line != 0) {
-        fprintf(stderr, " at line %" PRIu64, line);
-    }
-    fprintf(stderr, ": %s.\n", refusal_words(refusal));
-    return false;
-}
 
 /* Writes out what was printed so far; a full disk or a closed pipe is a failure. */
 static bool printed(void)
@@ -124,28 +28,6 @@ static bool printed(void)
     if (fflush(stdout) != 0 || ferror(stdout)) {
         return fail("standard output", "it could not be written");
     }
-    return true;
-}
-
-/* ---- numbers ---- */
-
-/* Reads a whole number of digits only from *at on, and moves *at past it. */
-static bool read_number(const char **at, uint64_t *number)
-{
-    const char *s = *at;
-    uint64_t sum = 0;
-    for (; *s >= '0' && *s <= '9'; s++) {
-        uint64_t digit = (uint64_t)(*s - '0');
-        if (sum > (UINT64_MAX - digit) / 10) {
-            return false;
-        }
-        sum = 10 * sum + digit;
-    }
-    if (s == *at) {
-        return false;
-    }
-    *at = s;
-    *number = sum;
     return true;
 }
 
@@ -160,62 +42,6 @@ static bool read_count(const char *word, uint64_t most, uint64_t *number)
     return true;
 }
 
-/* ---- the book ---- */
-
-/* Reads the file's bytes, at most as many as show that it is too long. */
-static bool load(const char *name, book *b)
-{
-    FILE *file = fopen(name, "rb");
-    if (file == NULL) {
-        return fail(name, strerror(errno));
-    }
-    b->name = name;
-    b->text = malloc(READ_MOST);
-    if (b->text == NULL) {
-        fclose(file);
-        return fail(name, "there is no memory for the book");
-    }
-    b->length = fread(b->text, 1, READ_MOST, file);
-    bool good = !ferror(file);
-    fclose(file);
-    return good || fail(name, "it could not be read");
-}
-
-/* Has the engine read the text, and keeps the number of statements. As a number takes 4 bytes, a fourth of the text's
-   length is room enough for its table. */
-static bool measure(book *b)
-{
-    size_t room = b->length / FIELD + 1;
-    int32_t *table = malloc(room * sizeof *table);
-    if (table == NULL) {
-        return fail(b->name, "there is no memory for the number table");
-    }
-    bantameasel_book answer = bantameasel_read(b->text, b->length, table, room);
-    free(table);
-    if (answer.refusal != 0) {
-        return refused(b->name, answer.refusal, answer.line);
-    }
-    b->statements = answer.statements;
-    return true;
-}
-
-/* The bytes of an A line of the book, its line feed included. */
-static size_t line_length(const book *b)
-{
-    return (size_t)MARKS + b->statements + 1;
-}
-
-/* Has the engine write the A line of a pair into a buffer of line_length bytes. */
-static bool write_line(const book *b, pair p, uint8_t *line)
-{
-    bantameasel_length answer =
-        bantameasel_line(b->text, b->length, p.taken, p.held, p.denied, line, line_length(b));
-    if (answer.refusal != 0) {
-        return refused(b->name, answer.refusal, answer.line);
-    }
-    return answer.length == line_length(b) || fail(b->name, "the engine's line has another length than the book's");
-}
-
 /* Prints the A line of a pair. */
 static bool print_line(const book *b, pair p)
 {
@@ -228,220 +54,6 @@ static bool print_line(const book *b, pair p)
         fwrite(line, 1, line_length(b), stdout);
     }
     free(line);
-    return good;
-}
-
-/* ---- pages ---- */
-
-/* Pair k of a page. */
-static pair pair_at(const uint64_t *pairs, uint64_t k)
-{
-    pair p = { pairs[3 * k], pairs[3 * k + 1], pairs[3 * k + 2] };
-    return p;
-}
-
-/* Makes p pair k of a page. */
-static void put_pair(uint64_t *pairs, uint64_t k, pair p)
-{
-    pairs[3 * k] = p.taken;
-    pairs[3 * k + 1] = p.held;
-    pairs[3 * k + 2] = p.denied;
-}
-
-static bool same(pair p, pair q)
-{
-    return p.taken == q.taken && p.held == q.held && p.denied == q.denied;
-}
-
-/* Fetches at most room resolutions later than the point, in one search. */
-static bool fetch(const book *b, point from, uint64_t *pairs, size_t room, uint64_t *count)
-{
-    bantameasel_page answer = from.begun
-        ? bantameasel_page_after(b->text, b->length, from.at.taken, from.at.held, from.at.denied, pairs, 3 * room)
-        : bantameasel_first_page(b->text, b->length, pairs, 3 * room);
-    if (answer.refusal != 0) {
-        return refused(b->name, answer.refusal, answer.line);
-    }
-    *count = answer.count;
-    return true;
-}
-
-/* Takes one step of a listing: by First before the first pair, else by After from the point. A resolution found becomes
-   the point; at the End the point stays. */
-static bool step(const book *b, point *at, bool *found)
-{
-    bantameasel_answer answer = at->begun
-        ? bantameasel_after(b->text, b->length, at->at.taken, at->at.held, at->at.denied)
-        : bantameasel_first(b->text, b->length);
-    if (answer.refusal != 0) {
-        return refused(b->name, answer.refusal, answer.line);
-    }
-    *found = answer.found != 0;
-    if (*found) {
-        point next = { true, { answer.taken, answer.held, answer.denied } };
-        *at = next;
-    }
-    return true;
-}
-
-/* Fetches what fetch does, by a step for each resolution. */
-static bool fetch_by_steps(const book *b, point from, uint64_t *pairs, size_t room, uint64_t *count)
-{
-    bool found;
-    for (*count = 0; *count < room; ++*count) {
-        if (!step(b, &from, &found)) {
-            return false;
-        }
-        if (!found) {
-            return true;
-        }
-        put_pair(pairs, *count, from.at);
-    }
-    return true;
-}
-
-static void walk_from_start(walk *w, const book *b)
-{
-    memset(w, 0, sizeof *w);
-    w->of = b;
-}
-
-/* The next resolution of the walk; *found says whether there was one. Its place, from 1, is then w->place. */
-static bool walk_on(walk *w, pair *p, bool *found)
-{
-    if (w->used == w->fetched) {
-        if (!fetch(w->of, w->reached, w->pairs, WALK, &w->fetched)) {
-            return false;
-        }
-        w->used = 0;
-    }
-    *found = w->used < w->fetched;
-    if (*found) {
-        *p = pair_at(w->pairs, w->used);
-        w->reached.begun = true;
-        w->reached.at = *p;
-        w->used++;
-        w->place++;
-    }
-    return true;
-}
-
-/* The place of a resolution in the whole listing, from 1. */
-static bool place_of(const book *b, pair p, uint64_t *place)
-{
-    walk w;
-    pair q;
-    bool found;
-    walk_from_start(&w, b);
-    do {
-        if (!walk_on(&w, &q, &found)) {
-            return false;
-        }
-        if (!found) {
-            return fail(b->name, "the listing from its start does not meet the listing from the point");
-        }
-    } while (!same(p, q));
-    *place = w.place;
-    return true;
-}
-
-/* The resolution at a place of the whole listing, from 1. */
-static bool resolution_at(const book *b, uint64_t place, pair *p)
-{
-    walk w;
-    bool found;
-    walk_from_start(&w, b);
-    do {
-        if (!walk_on(&w, p, &found)) {
-            return false;
-        }
-        if (!found) {
-            fprintf(stderr, "collection: %s: there is no resolution %" PRIu64 "; the book has %" PRIu64 ".\n",
-                    b->name, place, w.place);
-            return false;
-        }
-    } while (w.place != place);
-    return true;
-}
-
-/* ---- the point ---- */
-
-/* Reads three numbers with a space between each two, and nothing more. */
-static bool read_pair(const char *line, pair *p)
-{
-    const char *at = line;
-    return read_number(&at, &p->taken) && *at++ == ' '
-        && read_number(&at, &p->held) && *at++ == ' '
-        && read_number(&at, &p->denied) && strcmp(at, "\n") == 0;
-}
-
-/* Reads the one line of an open point file. */
-static bool read_point_line(FILE *file, const char *name, point *at)
-{
-    char line[POINT_MOST];
-    bool good = fgets(line, sizeof line, file) != NULL && fgetc(file) == EOF && !ferror(file);
-    at->begun = good && strcmp(line, "start\n") != 0;
-    if (!good || (at->begun && !read_pair(line, &at->at))) {
-        return fail(name, "this is not a point: it should hold three numbers on one line, or the word start");
-    }
-    return true;
-}
-
-/* Reads the point that an earlier run wrote down; without such a file it is before the first pair. */
-static bool read_point(const char *name, point *at)
-{
-    memset(at, 0, sizeof *at);
-    FILE *file = fopen(name, "r");
-    if (file == NULL) {
-        return errno == ENOENT || fail(name, strerror(errno));
-    }
-    bool good = read_point_line(file, name, at);
-    fclose(file);
-    return good;
-}
-
-/* Writes the point into a new file of the given name. */
-static bool write_point_file(const char *name, point at)
-{
-    FILE *file = fopen(name, "w");
-    if (file == NULL) {
-        return fail(name, strerror(errno));
-    }
-    int wrote = at.begun
-        ? fprintf(file, "%" PRIu64 " %" PRIu64 " %" PRIu64 "\n", at.at.taken, at.at.held, at.at.denied)
-        : fprintf(file, "start\n");
-    bool closed = fclose(file) == 0;
-    if (wrote > 0 && closed) {
-        return true;
-    }
-    remove(name);
-    return fail(name, "the point could not be written");
-}
-
-/* The two names joined; NULL if there is no memory. */
-static char *joined(const char *name, const char *ending)
-{
-    size_t length = strlen(name) + strlen(ending) + 1;
-    char *both = malloc(length);
-    if (both != NULL) {
-        snprintf(both, length, "%s%s", name, ending);
-    }
-    return both;
-}
-
-/* Writes the point down: first beside the old one, then in its place, so that a failure leaves the old one whole. */
-static bool write_point(const char *name, point at)
-{
-    char *beside = joined(name, ".new");
-    if (beside == NULL) {
-        return fail(name, "there is no memory for its name");
-    }
-    bool good = write_point_file(beside, at);
-    if (good && rename(beside, name) != 0) {
-        good = fail(name, strerror(errno));
-        remove(beside);
-    }
-    free(beside);
     return good;
 }
 
@@ -643,12 +255,7 @@ static bool judge(const book *b, const char *line)
     if (!read_a_line(b, line, length, &p) || !same_line(b, p, line)) {
         return false;
     }
-    bantameasel_verdict answer = bantameasel_judge(b->text, b->length, p.taken, p.held, p.denied);
-    if (answer.refusal != 0) {
-        return refused(b->name, answer.refusal, answer.line);
-    }
-    printf("Verdict %" PRIu32 ": %s.\n", answer.verdict, verdict_words(answer.verdict));
-    return printed();
+    return print_verdict(b, p) && printed();
 }
 
 /* ---- the command line ---- */
@@ -699,10 +306,10 @@ static int run(const char *book_name, const char *point_name, int count, char **
     char *beside = joined(book_name, ".point");
     if (beside == NULL) {
         fail(book_name, "there is no memory for its name");
-    } else if (load(book_name, &b) && measure(&b)) {
+    } else if (open_book(book_name, &b)) {
         status = obey(&b, point_name != NULL ? point_name : beside, count, words);
     }
-    free(b.text);
+    close_book(&b);
     free(beside);
     return status;
 }

@@ -1,9 +1,10 @@
 #!/bin/sh
-# Builds collection.c against a given library and compares what it prints with the stored examples.
+# Builds the collection program against a given library and compares what it prints with the stored examples.
 #
 #   LIB=path/of/libbantameasel.a collection/test.sh
 #
-# CC, VALGRIND, INCLUDE and EXAMPLES may name another compiler, valgrind, header folder and examples folder.
+# CC, VALGRIND, INCLUDE, EXAMPLES and PAGE may name another compiler, valgrind, header folder, examples folder and
+# page about books.
 # It prints what it did and ends with status 1 at the first difference.
 set -eu
 
@@ -13,6 +14,7 @@ CC=${CC:-gcc}
 VALGRIND=${VALGRIND:-valgrind}
 INCLUDE=${INCLUDE:-$here/../include}
 EXAMPLES=${EXAMPLES:-$here/../examples}
+PAGE=${PAGE:-$here/../docs/BOOKS.md}
 work=$(mktemp -d)
 trap 'rm -rf "$work"' EXIT
 trap 'exit 1' HUP INT TERM
@@ -214,17 +216,44 @@ misplaced() {
     done
 }
 
-# damaged NAME WORDS: under valgrind the program refuses the damaged book with these words, and valgrind finds nothing.
+# damaged NAME REFUSAL CAUSE: under valgrind the program refuses the damaged book with these words, and valgrind finds
+# nothing.
 damaged() {
-    for what in next 'pick 1' 'judge A'; do
-        # shellcheck disable=SC2086
-        watched 1 "$work/$1" $what
-        said "$2"
+    name=$1
+    watched 1 "$work/$name" next
+    said "$2"
+    said "$3"
+    refusals=$((refusals + 1))
+}
+
+# pointed LINE FIRST WIDTH: the last message shows this line of the book, and points at so many columns from the first.
+pointed() {
+    LC_ALL=C tr -c ' -~\n' '?' <"$work/$name" | awk -v line="$1" 'NR == line { print "    " $0 }' >"$work/right"
+    awk -v first="$2" -v width="$3" 'BEGIN {
+        printf "    %" first - 1 "s", ""
+        for (c = 0; c < width; c++) printf "^"
+        print "" }' >>"$work/right"
+    sed -n 2,3p "$work/err" >"$work/shown"
+    same "$work/right" "$work/shown" "$name: the columns that are pointed at"
+}
+
+# each_field LINE COUNT: in each of the fields of this line, what is no number and what is out of range is pointed at.
+each_field() {
+    name=field
+    k=0
+    while [ "$k" -lt "$2" ]; do
+        for wrong in '   x' ' 999' '-999'; do
+            sed "$1s/^\(.\{$((1 + 4 * k))\}\)..../\1$wrong/" "$EXAMPLES/gown-ranked.book" >"$work/field"
+            run 1 "$work/field" next
+            said " at line $1: "
+            pointed "$1" "$((2 + 4 * k))" 4
+        done
+        k=$((k + 1))
     done
 }
 
 command -v "$VALGRIND" >/dev/null || fail "valgrind is not installed"
-"$CC" -std=c11 -O2 -g -Wall -Wextra -Werror -pedantic -I"$INCLUDE" "$here/collection.c" "$LIB" -o "$program"
+"$CC" -std=c11 -O2 -g -Wall -Wextra -Werror -pedantic -I"$INCLUDE" "$here"/*.c "$LIB" -o "$program"
 echo "built collection with warnings as errors"
 
 books=0
@@ -315,37 +344,135 @@ same "$work/line" "$work/page" "the page after a point that is no resolution"
 echo "refused files that hold no point, and points of another book; went on from a pair that is no resolution"
 
 gown=$EXAMPLES/gown.book
-: >"$work/empty"
-dd if="$gown" of="$work/cut" bs=1 count=100 2>/dev/null
-sed '$d' "$gown" >"$work/no-z"
-sed '5s/R/r/' "$gown" >"$work/letter"
-sed '5s/ 0$/0/' "$gown" >"$work/short"
-sed '5s/ 0$/ x/' "$gown" >"$work/byte"
-sed '5s/ 0$/ 6/' "$gown" >"$work/range"
-sed '1s/1/2/' "$gown" >"$work/edition"
-sed '18s/-2/ 0/' "$gown" >"$work/headless"
-sed '21{p;p;p;p;p;p;p;p;}' "$gown" >"$work/many"
-sed '18s/5$/6/' "$EXAMPLES/gown-ranked.book" >"$work/missing"
-sed '$s/20/21/' "$gown" >"$work/count"
-cat "$gown" "$gown" >"$work/twice"
+ranked=$EXAMPLES/gown-ranked.book
+refusals=0
+
+# The text as a whole: 1 and 2.
 dd if=/dev/zero of="$work/zeros" bs=1000 count=70 2>/dev/null
+damaged zeros 'refusal 1: ' 'A book has at most 8392 bytes.'
+printf 'PK\003\004' | cat - "$work/zeros" >"$work/archive"
+damaged archive 'refusal 1: ' "a spreadsheet's or a word processor's own"
+: >"$work/empty"
+damaged empty 'refusal 2: ' 'The file is empty.'
+dd if="$gown" of="$work/cut" bs=1 count=100 2>/dev/null
+damaged cut 'refusal 2: ' 'Near column 15 of the last line: the file ends here without a line feed.'
+pointed 4 15 1
+tr '\n' '\r' <"$gown" >"$work/returns"
+damaged returns 'refusal 2: ' 'The file ends with a carriage return.'
+{ printf '\377\376'; iconv -f ASCII -t UTF-16LE "$gown"; } >"$work/low"
+damaged low 'refusal 2: ' 'The file is saved as UTF-16'
+iconv -f ASCII -t UTF-16BE "$gown" >"$work/high"
+damaged high 'refusal 3 at line 1: ' 'The file is saved as UTF-16'
+
+# A line's letter and place: 3.
+{ printf '\357\273\277'; cat "$gown"; } >"$work/mark"
+damaged mark 'refusal 3 at line 1: ' 'The file begins with a byte order mark.'
+sed '$d' "$gown" >"$work/no-z"
+damaged no-z 'refusal 3 at line 22: ' 'The file ends after line 21 without a Z line.'
+sed 1d "$gown" >"$work/no-b"
+damaged no-b 'refusal 3 at line 1: ' 'Near column 1: the first line has to be a B line.'
+pointed 1 1 1
+sed '5s/.*//' "$gown" >"$work/gap"
+damaged gap 'refusal 3 at line 5: ' 'Line 5 is empty.'
+sed '5s/R/r/' "$gown" >"$work/letter"
+damaged letter 'refusal 3 at line 5: ' 'Near column 1: the letter is small; write a capital.'
+pointed 5 1 1
+sed '5s/^/ /' "$gown" >"$work/indented"
+damaged indented 'refusal 3 at line 5: ' 'Near column 1: a space stands before the letter.'
+sed 's/^/"/' "$gown" >"$work/quoted"
+damaged quoted 'refusal 3 at line 1: ' 'Near column 1: a quotation mark'
+sed '5s/.*/\r/' "$gown" >"$work/return"
+damaged return 'refusal 3 at line 5: ' 'the line is empty but for a carriage return.'
+sed '18s/X/R/' "$gown" >"$work/order"
+damaged order 'refusal 3 at line 18: ' 'Near column 1: R may not follow X.'
+cat "$gown" "$gown" >"$work/twice"
+damaged twice 'refusal 3 at line 23: ' 'Near column 1: nothing may follow the Z line.'
 printf 'B   1   1\n\377\000\n' >"$work/bytes"
-damaged empty 'refusal 2: '
-damaged cut 'refusal 2: '
-damaged no-z 'refusal 3 at line 22: '
-damaged letter 'refusal 3 at line 5: '
-damaged short 'refusal 4 at line 5: '
-damaged byte 'refusal 5 at line 5: '
-damaged range 'refusal 6 at line 5: '
-damaged edition 'refusal 7 at line 1: '
-damaged many 'refusal 8 at line 29: '
-damaged headless 'refusal 9 at line 18: '
-damaged missing 'refusal 10 at line 18: '
-damaged count 'refusal 11 at line 22: '
-damaged twice 'refusal 3 at line 23: '
-damaged zeros 'refusal 1: '
-damaged bytes 'refusal 3 at line 2: '
-echo "refused 15 damaged books under valgrind, at least one for each refusal 1 to 11"
+damaged bytes 'refusal 3 at line 2: ' 'Near column 1: no line begins so'
+pointed 2 1 1
+
+# A line's length: 4.
+sed '5s/ 0$/0/' "$gown" >"$work/short"
+damaged short 'refusal 4 at line 5: ' 'The line has 36 columns; a line with the letter R has 37.'
+sed '5s/$/  /' "$gown" >"$work/spaces"
+damaged spaces 'refusal 4 at line 5: ' 'Near column 38: spaces stand after the last field.'
+pointed 5 38 2
+sed 's/$/\r/' "$gown" >"$work/crlf"
+damaged crlf 'refusal 4 at line 1: ' 'Near column 10: this is a carriage return'
+pointed 1 10 1
+sed '5s/   4/\t4/' "$gown" >"$work/tab"
+damaged tab 'refusal 4 at line 5: ' 'Near column 2: this is a tab'
+pointed 5 2 1
+sed 's/  */,/g' "$gown" >"$work/commas"
+damaged commas 'refusal 4 at line 1: ' 'Near column 2: this is a separator'
+sed '5s/-/\xe2\x88\x92/' "$gown" >"$work/minus"
+damaged minus 'refusal 4 at line 5: ' 'Near column 24: this is no ASCII character'
+pointed 5 24 1
+sed '5s/  -4/-1000/' "$gown" >"$work/wide"
+damaged wide 'refusal 4 at line 5: ' 'Near column 26: from here on the numbers do not end'
+pointed 5 26 4
+sed '5s/$/   0/' "$gown" >"$work/long"
+damaged long 'refusal 4 at line 5: ' 'The line has 41 columns; a line with the letter R has 37.'
+
+# A field's spelling: 5.
+spelt() {
+    sed "5s/   0\$/$1/" "$gown" >"$work/spelt"
+    damaged spelt 'refusal 5 at line 5: ' "Near column $2, in the fourth barred entry: $3"
+    pointed 5 34 4
+}
+spelt '   x' 37 'this is no space, minus or digit.'
+spelt '    ' 34 'the field is blank; write 0.'
+spelt '0   ' 34 'the number does not stand at the right of its field.'
+spelt '  00' 34 'the number has a leading zero.'
+spelt '  -0' 34 'zero has no sign.'
+spelt '  +1' 36 'this is a plus sign'
+spelt ' 1.0' 36 'this is a point'
+spelt ' 1 0' 34 'this is not one whole number.'
+spelt '  1-' 34 'this is not one whole number.'
+spelt '  \x961' 36 'this is no ASCII character'
+
+# A field's number: 6, 7, 9, 10, 11; the lines of a kind: 8. The limits are the engine's.
+sed '5s/ 0$/ 6/' "$gown" >"$work/range"
+damaged range 'refusal 6 at line 5: ' 'Near column 34: the fourth barred entry is 6; it has to be from -5 to 5.'
+said 'The number of statements in line 1 is 5.'
+pointed 5 34 4
+sed '1s/ 5/49/' "$gown" >"$work/statements"
+damaged statements 'refusal 6 at line 1: ' 'Near column 6: the number of statements is 49; it has to be from 1 to 48.'
+sed '15s/ 1/13/' "$ranked" >"$work/thirteen"
+damaged thirteen 'refusal 6 at line 15: ' 'the exception that outranks is 13; it has to be from 1 to 12.'
+sed '$s/ 20/245/' "$gown" >"$work/total"
+damaged total 'refusal 6 at line 22: ' 'Near column 2: the number of R, X and P lines is 245; it has to be from 0 to 244.'
+sed '1s/1/2/' "$gown" >"$work/edition"
+damaged edition 'refusal 7 at line 1: ' 'Near column 2: the edition is 2; it has to be 1.'
+pointed 1 2 4
+sed '18s/-2/ 0/' "$gown" >"$work/headless"
+damaged headless 'refusal 9 at line 18: ' 'Near column 2: the head is 0.'
+pointed 18 2 4
+sed '18s/5$/6/' "$ranked" >"$work/missing"
+damaged missing 'refusal 10 at line 18: ' 'Near column 6: the exception that is outranked is 6; the number of X lines is 5.'
+pointed 18 6 4
+sed '$s/20/21/' "$gown" >"$work/count"
+damaged count 'refusal 11 at line 22: ' 'Near column 2: the number of R, X and P lines is given as 21; there are 20.'
+pointed 22 2 4
+awk 'NR == 16 { for (k = 0; k < 186; k++) print } { print }' "$gown" >"$work/rules"
+damaged rules 'refusal 8 at line 202: ' 'This is R line 201; a book has at most 200.'
+sed '21{p;p;p;p;p;p;p;p;}' "$gown" >"$work/many"
+damaged many 'refusal 8 at line 29: ' 'This is X line 13; a book has at most 12.'
+awk 'NR == 15 { for (k = 0; k < 29; k++) print } { print }' "$ranked" >"$work/preferences"
+damaged preferences 'refusal 8 at line 47: ' 'This is P line 33; a book has at most 32.'
+echo "refused $refusals damaged books under valgrind, showed the line, pointed at the column and said the cause"
+
+each_field 1 2
+each_field 2 9
+each_field 10 9
+each_field 15 2
+each_field 19 1
+echo "pointed at each field of a line of each kind"
+
+(cd "$EXAMPLES" && "$program" faulty.book next) >"$work/out" 2>"$work/err" || true
+awk '/^```/ { inside = 0 } /^collection: / { inside = 1 } inside' "$PAGE" >"$work/page"
+same "$work/err" "$work/page" "$PAGE shows another message than the program"
+echo "the page about books shows the program's message"
 
 for words in 'next 1' 'next 1' 'next 2' 'next' 'next 1' 'pick 2' 'from-start' 'next 1'; do
     # shellcheck disable=SC2086

@@ -11,15 +11,29 @@
  *   hard book; no bound on their time is promised.
  * - A slice is a pointer and the number of elements behind it. The elements must be there, aligned for their type, and
  *   no lent buffer may overlap another slice of the same call. A length of 0 is allowed: then nothing is read or
- *   written through the pointer. Do not pass NULL, not even with length 0.
+ *   written through the pointer, and it may be NULL.
  * - Slices that are const are only read. A buffer that you lend is written only as the function says. If the call is
  *   refused, every lent buffer is as it was before the call.
- * - Nothing is kept from one call to the next: the same arguments give the same answer.
- * - Each answer begins with refusal and line. Look at refusal first. If it is 0, the call was not refused, and line is
- *   0. Otherwise it is one of the numbers below, line is the line of the book's text that it is about, counted from 1,
- *   or 0 where it is about no single line, and the fields after line are 0.
+ * - Nothing is kept from one call to the next: the same arguments give the same answer. So any number of threads may
+ *   call at once, with the same text too, as long as no two of them lend the same buffer and none writes what another
+ *   call reads.
+ * - It takes no memory but the stack: less than BANTAMEASEL_MOST_STACK bytes (256 KB). A thread that is given less may
+ *   crash. Read, Write and Line take less than 32 KB.
+ * - Each answer has a refusal and a line. Look at refusal first. If it is 0, the call was not refused, and line is 0.
+ *   Otherwise it is one of the numbers below, line is the line of the book's text that it is about, counted from 1, or
+ *   0 where it is about no single line, and all other fields are 0.
  *
- * THE REFUSALS, IN THE ORDER IN WHICH THEY ARE LOOKED FOR; the first that applies is given.
+ * WHAT STAYS FROM VERSION TO VERSION, AND WHAT DOES NOT
+ *
+ * - Refusals and verdicts keep their numbers. Later versions have more refusals: take any number but 0 for a refusal.
+ * - Structs keep their size, and every field its place. A reserved field is 0 in this version; do not use it, since a
+ *   later version may give it a name and a meaning.
+ * - Limits may grow. The number table may get more numbers before its rows and in them: keep a book as its text, not as
+ *   its table. A pair that was noted for a book goes on to the same resolutions.
+ * - BANTAMEASEL_VERSION is the version of this header, bantameasel_version() that of the library linked. Where the two
+ *   are not the same, the limits below may not be those of the library.
+ *
+ * THE REFUSALS, IN THE ORDER IN WHICH THEY ARE LOOKED FOR; the first that applies is given. The names are below.
  *
  * Of a text:
  *    1  the text is longer than 8,392 bytes (line 0)
@@ -55,6 +69,8 @@
  *
  * A PAIR is three numbers: the exceptions taken, the statements held, the statements denied. Number i is worth 2^(i-1)
  * in each, so exception 1 and statement 1 have the lowest bit. A pair is lawful for a book if none of 12 to 14 applies.
+ * Where a function takes or writes many of them, they are a slice of numbers, three for each pair. An array of the
+ * struct bantameasel_pair is such a slice: see bantameasel_first_pairs and bantameasel_pairs_after.
  *
  * THE ORDER OF PAIRS, in which resolutions are listed: fewer exceptions taken come first; then the smaller number
  * taken; then the lowest-numbered statement that differs decides: absent before held before denied.
@@ -63,8 +79,18 @@
  *
  *     bantameasel_answer a = bantameasel_first(text, length);
  *     while (a.refusal == 0 && a.found) {
- *         show(a.taken, a.held, a.denied);
- *         a = bantameasel_after(text, length, a.taken, a.held, a.denied);
+ *         show(a.pair);
+ *         a = bantameasel_after(text, length, a.pair);
+ *     }
+ *
+ * A LISTING IN PAGES, here of at most 100 resolutions each; it shows the same pairs, and takes less time:
+ *
+ *     bantameasel_pair pairs[100];
+ *     bantameasel_page page = bantameasel_first_pairs(text, length, pairs, 100);
+ *     while (page.refusal == 0 && page.count > 0) {
+ *         for (uint64_t k = 0; k < page.count; k++) show(pairs[k]);
+ *         if (page.count < 100) break;
+ *         page = bantameasel_pairs_after(text, length, pairs[99], pairs, 100);
  *     }
  */
 #ifndef BANTAMEASEL_H
@@ -77,14 +103,71 @@
 extern "C" {
 #endif
 
-/* What Read answers: the refusal and its line, or the four numbers that stand before the table's rows. */
+/* The version of this header: 100 for each whole version and 1 for each part of one, so that 200 is version 2.0. */
+#define BANTAMEASEL_VERSION 200
+
+/* The limits of a book, and what follows from them. */
+#define BANTAMEASEL_MOST_STATEMENTS 48  /* statements, n */
+#define BANTAMEASEL_MOST_PLAIN 200      /* R lines */
+#define BANTAMEASEL_MOST_EXCEPTIONS 12  /* X lines */
+#define BANTAMEASEL_MOST_PREFERENCES 32 /* P lines */
+#define BANTAMEASEL_MOST_TEXT 8392      /* bytes of a text */
+#define BANTAMEASEL_MOST_TABLE 1976     /* numbers of a number table */
+#define BANTAMEASEL_MOST_LINE 102       /* bytes of an A line, its line feed included */
+
+/* Bytes of stack: more than any call takes. */
+#define BANTAMEASEL_MOST_STACK 262144
+
+/* The refusals. What each one means stands above, and bantameasel_refusal_words says it in a few words. */
+enum {
+    BANTAMEASEL_NOT_REFUSED = 0,
+    BANTAMEASEL_REFUSED_TEXT_TOO_LONG = 1,
+    BANTAMEASEL_REFUSED_TEXT_END = 2,
+    BANTAMEASEL_REFUSED_LINE_PLACE = 3,
+    BANTAMEASEL_REFUSED_LINE_LENGTH = 4,
+    BANTAMEASEL_REFUSED_FIELD_MISSPELT = 5,
+    BANTAMEASEL_REFUSED_OUT_OF_RANGE = 6,
+    BANTAMEASEL_REFUSED_EDITION = 7,
+    BANTAMEASEL_REFUSED_TOO_MANY = 8,
+    BANTAMEASEL_REFUSED_NO_HEAD = 9,
+    BANTAMEASEL_REFUSED_PREFERENCE = 10,
+    BANTAMEASEL_REFUSED_TOTAL = 11,
+    BANTAMEASEL_REFUSED_PAIR_TAKEN = 12,
+    BANTAMEASEL_REFUSED_PAIR_STATEMENT = 13,
+    BANTAMEASEL_REFUSED_PAIR_BOTH = 14,
+    BANTAMEASEL_REFUSED_BUFFER_SHORT = 15,
+    BANTAMEASEL_REFUSED_TABLE_LENGTH = 16,
+    BANTAMEASEL_LAST_REFUSAL = 16 /* the highest number of this version */
+};
+
+/* The verdicts of Judge. What each one means stands at bantameasel_verdict. */
+enum {
+    BANTAMEASEL_VERDICT_RESOLUTION = 0,
+    BANTAMEASEL_VERDICT_NO_ANSWER_SET = 1,
+    BANTAMEASEL_VERDICT_OUTRANKED = 2,
+    BANTAMEASEL_VERDICT_NOT_SATISFIED = 3,
+    BANTAMEASEL_VERDICT_DOMINATED = 4,
+    BANTAMEASEL_VERDICT_NOT_LEAST = 5,
+    BANTAMEASEL_LAST_VERDICT = 5 /* the highest number of this version */
+};
+
+/* A pair: number i is worth 2^(i-1) in each. */
+typedef struct {
+    uint64_t taken;  /* exceptions taken */
+    uint64_t held;   /* statements held */
+    uint64_t denied; /* statements denied */
+} bantameasel_pair;
+
+/* What Read answers: the refusal and its line, or what stands before the table's rows. */
 typedef struct {
     uint32_t refusal;     /* 0: not refused */
+    uint32_t edition;     /* 1 */
     uint64_t line;        /* the refusal's line, or 0 */
     uint64_t statements;  /* n, 1 to 48 */
     uint64_t plain;       /* how many R lines, 0 to 200 */
     uint64_t exceptions;  /* how many X lines, 0 to 12 */
     uint64_t preferences; /* how many P lines, 0 to 32 */
+    uint64_t reserved[4]; /* each 0 */
 } bantameasel_book;
 
 /* What Write and Line answer: the refusal and its line, or how many bytes were written. */
@@ -105,18 +188,16 @@ typedef struct {
  */
 typedef struct {
     uint32_t refusal; /* 0: not refused */
-    uint64_t line;    /* the refusal's line, or 0 */
     uint32_t verdict; /* 0 to 5 */
+    uint64_t line;    /* the refusal's line, or 0 */
 } bantameasel_verdict;
 
 /* What First and After answer: the refusal and its line, or a resolution, or the End. */
 typedef struct {
-    uint32_t refusal; /* 0: not refused */
-    uint64_t line;    /* the refusal's line, or 0 */
-    uint32_t found;   /* 1: the pair below is the resolution; 0: End, and the pair below is 0, 0, 0 */
-    uint64_t taken;   /* exceptions taken */
-    uint64_t held;    /* statements held */
-    uint64_t denied;  /* statements denied */
+    uint32_t refusal;      /* 0: not refused */
+    uint32_t found;        /* 1: the pair below is the resolution; 0: End, and the pair below is 0, 0, 0 */
+    uint64_t line;         /* the refusal's line, or 0 */
+    bantameasel_pair pair; /* the resolution */
 } bantameasel_answer;
 
 /* What a page answers: the refusal and its line, or how many pairs were written. */
@@ -126,15 +207,18 @@ typedef struct {
     uint64_t count;   /* the pairs written, three numbers each */
 } bantameasel_page;
 
+/* The version of the library, by the rule of BANTAMEASEL_VERSION. */
+uint32_t bantameasel_version(void);
+
 /*
  * Read: turns the text of a book into its number table.
  *
  * Takes    the text, and a lent table of table_length numbers.
- * Answers  n and the numbers of R, X and P lines.
+ * Answers  the edition, n and the numbers of R, X and P lines.
  * Writes   the number table, from the table's start on: n, the counts of R, X and P, then 9 numbers for each R and X
  *          (head, 4 needed, 4 barred) and 2 for each P, in line order: 4 + 9 * (plain + exceptions) + 2 * preferences
  *          numbers in all. The rest of the table is unchanged. text_length / 4 numbers are always room enough, and
- *          no book needs more than 1,976.
+ *          no book needs more than BANTAMEASEL_MOST_TABLE.
  * Refuses  1 to 11 for the text; then 15 if the table is too short. The table is then unchanged.
  */
 bantameasel_book bantameasel_read(const uint8_t *text, size_t text_length, int32_t *table, size_t table_length);
@@ -145,7 +229,7 @@ bantameasel_book bantameasel_read(const uint8_t *text, size_t text_length, int32
  * Takes    the number table, table_length being exactly its length, and a lent buffer of text_length bytes.
  * Answers  the length of the text.
  * Writes   the text, from the buffer's start on. The bytes past it are unchanged, and no 0 byte is put behind it.
- *          5 * table_length bytes are always room enough, and no book needs more than 8,392.
+ *          5 * table_length bytes are always room enough, and no book needs more than BANTAMEASEL_MOST_TEXT.
  * Refuses  16, 6, 8, 9 or 10 for the table, in the order given above; then 15 if the buffer is too short. The buffer is
  *          then unchanged.
  */
@@ -159,7 +243,7 @@ bantameasel_length bantameasel_write(const int32_t *table, size_t table_length, 
  * Writes   nothing; no buffer is lent.
  * Refuses  1 to 11 for the text; then 12 to 14 for the pair.
  */
-bantameasel_verdict bantameasel_judge(const uint8_t *text, size_t text_length, uint64_t taken, uint64_t held, uint64_t denied);
+bantameasel_verdict bantameasel_judge(const uint8_t *text, size_t text_length, bantameasel_pair pair);
 
 /*
  * First: the first resolution.
@@ -181,7 +265,7 @@ bantameasel_answer bantameasel_first(const uint8_t *text, size_t text_length);
  * Writes   nothing; no buffer is lent.
  * Refuses  1 to 11 for the text; then 12 to 14 for the pair.
  */
-bantameasel_answer bantameasel_after(const uint8_t *text, size_t text_length, uint64_t taken, uint64_t held, uint64_t denied);
+bantameasel_answer bantameasel_after(const uint8_t *text, size_t text_length, bantameasel_pair pair);
 
 /*
  * Line: the A line of a pair, as `ways` prints it.
@@ -190,12 +274,12 @@ bantameasel_answer bantameasel_after(const uint8_t *text, size_t text_length, ui
  * Answers  the length of the line, 54 + n.
  * Writes   the line, from the buffer's start on: the letter A; the count of exceptions taken in 4 columns; 12 fields
  *          of 4 columns with the exceptions taken, ascending, then 0; for each statement '.' (absent), '+' (held) or
- *          '-' (denied); a line feed. The bytes past it are unchanged, and no 0 byte is put behind it. 102 bytes are
- *          room enough for every book.
+ *          '-' (denied); a line feed. The bytes past it are unchanged, and no 0 byte is put behind it.
+ *          BANTAMEASEL_MOST_LINE bytes are room enough for every book.
  * Refuses  1 to 11 for the text; then 12 to 14 for the pair; then 15 if the buffer is too short. The buffer is then
  *          unchanged.
  */
-bantameasel_length bantameasel_line(const uint8_t *text, size_t text_length, uint64_t taken, uint64_t held, uint64_t denied, uint8_t *line, size_t line_length);
+bantameasel_length bantameasel_line(const uint8_t *text, size_t text_length, bantameasel_pair pair, uint8_t *line, size_t line_length);
 
 /*
  * First page: the first resolutions, as many as there is room for. The pairs are those that First and then After, again
@@ -219,7 +303,66 @@ bantameasel_page bantameasel_first_page(const uint8_t *text, size_t text_length,
  * Refuses  1 to 11 for the text; then 12 to 14 for the pair. The slice is then unchanged. A short slice is never
  *          refused.
  */
-bantameasel_page bantameasel_page_after(const uint8_t *text, size_t text_length, uint64_t taken, uint64_t held, uint64_t denied, uint64_t *pairs, size_t pairs_length);
+bantameasel_page bantameasel_page_after(const uint8_t *text, size_t text_length, bantameasel_pair pair, uint64_t *pairs, size_t pairs_length);
+
+/*
+ * The two pages into an array of room pairs. An array of structs of three numbers is a slice of numbers: the three
+ * tests say that the struct has nothing between its numbers and nothing after them.
+ */
+typedef char bantameasel_held_is_second[offsetof(bantameasel_pair, held) == sizeof(uint64_t) ? 1 : -1];
+typedef char bantameasel_denied_is_third[offsetof(bantameasel_pair, denied) == 2 * sizeof(uint64_t) ? 1 : -1];
+typedef char bantameasel_pair_is_three[sizeof(bantameasel_pair) == 3 * sizeof(uint64_t) ? 1 : -1];
+
+static inline bantameasel_page bantameasel_first_pairs(const uint8_t *text, size_t text_length, bantameasel_pair *pairs,
+                                                       size_t room)
+{
+    return bantameasel_first_page(text, text_length, (uint64_t *)pairs, 3 * room);
+}
+
+static inline bantameasel_page bantameasel_pairs_after(const uint8_t *text, size_t text_length, bantameasel_pair pair,
+                                                       bantameasel_pair *pairs, size_t room)
+{
+    return bantameasel_page_after(text, text_length, pair, (uint64_t *)pairs, 3 * room);
+}
+
+/* What a refusal means, in words for the people who write books. */
+static inline const char *bantameasel_refusal_words(uint32_t refusal)
+{
+    switch (refusal) {
+    case BANTAMEASEL_NOT_REFUSED: return "nothing was refused";
+    case BANTAMEASEL_REFUSED_TEXT_TOO_LONG: return "the text is longer than a book may be";
+    case BANTAMEASEL_REFUSED_TEXT_END: return "the text is empty, or its last line does not end with a line feed";
+    case BANTAMEASEL_REFUSED_LINE_PLACE: return "a line with this letter may not stand here, or a line is missing";
+    case BANTAMEASEL_REFUSED_LINE_LENGTH: return "the line is too long or too short for its letter";
+    case BANTAMEASEL_REFUSED_FIELD_MISSPELT: return "a field is misspelt: it takes 4 columns, a whole number after spaces";
+    case BANTAMEASEL_REFUSED_OUT_OF_RANGE: return "a number is outside its range";
+    case BANTAMEASEL_REFUSED_EDITION: return "the edition is one that this version does not know";
+    case BANTAMEASEL_REFUSED_TOO_MANY: return "there are more lines of this kind than a book may have";
+    case BANTAMEASEL_REFUSED_NO_HEAD: return "an exception needs a head, and this one has 0";
+    case BANTAMEASEL_REFUSED_PREFERENCE: return "the preference names an exception that the book does not have";
+    case BANTAMEASEL_REFUSED_TOTAL: return "the number in the Z line is not the number of lines above it, B left out";
+    case BANTAMEASEL_REFUSED_PAIR_TAKEN: return "the pair takes an exception that the book does not have";
+    case BANTAMEASEL_REFUSED_PAIR_STATEMENT: return "the pair holds or denies a statement that the book does not have";
+    case BANTAMEASEL_REFUSED_PAIR_BOTH: return "the pair both holds and denies a statement";
+    case BANTAMEASEL_REFUSED_BUFFER_SHORT: return "the room lent for the answer is too short";
+    case BANTAMEASEL_REFUSED_TABLE_LENGTH: return "the number table has another length than its counts ask for";
+    default: return "a refusal that this version does not know";
+    }
+}
+
+/* What a verdict means, in words for the people who read listings. */
+static inline const char *bantameasel_verdict_words(uint32_t verdict)
+{
+    switch (verdict) {
+    case BANTAMEASEL_VERDICT_RESOLUTION: return "this is a resolution";
+    case BANTAMEASEL_VERDICT_NO_ANSWER_SET: return "the statements are no answer set of the plain rules with the exceptions taken";
+    case BANTAMEASEL_VERDICT_OUTRANKED: return "an exception is taken together with one that outranks it, or outranks itself";
+    case BANTAMEASEL_VERDICT_NOT_SATISFIED: return "an exception is taken whose conditions are not met";
+    case BANTAMEASEL_VERDICT_DOMINATED: return "some view takes an exception that outranks one taken here";
+    case BANTAMEASEL_VERDICT_NOT_LEAST: return "some view takes only a part of the exceptions taken here";
+    default: return "a verdict that this version does not know";
+    }
+}
 
 #ifdef __cplusplus
 }

@@ -58,6 +58,7 @@ impl Book {
 }
 
 /// A pair: number i is worth 2^(i-1) in each of the three.
+#[repr(C)]
 #[derive(Clone, Copy, PartialEq, Eq, Debug)]
 pub struct Pair {
     pub taken: u64,

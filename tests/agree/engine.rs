@@ -6,11 +6,13 @@ use std::fmt::Debug;
 #[repr(C)]
 struct BookAnswer {
     refusal: u32,
+    edition: u32,
     line: u64,
     statements: u64,
     plain: u64,
     exceptions: u64,
     preferences: u64,
+    reserved: [u64; 4],
 }
 
 #[repr(C)]
@@ -23,18 +25,16 @@ struct LengthAnswer {
 #[repr(C)]
 struct VerdictAnswer {
     refusal: u32,
-    line: u64,
     verdict: u32,
+    line: u64,
 }
 
 #[repr(C)]
 struct PairAnswer {
     refusal: u32,
-    line: u64,
     found: u32,
-    taken: u64,
-    held: u64,
-    denied: u64,
+    line: u64,
+    pair: Pair,
 }
 
 #[repr(C)]
@@ -47,15 +47,13 @@ struct PageAnswer {
 extern "C" {
     fn bantameasel_read(text: *const u8, text_length: usize, table: *mut i32, table_length: usize) -> BookAnswer;
     fn bantameasel_write(table: *const i32, table_length: usize, text: *mut u8, text_length: usize) -> LengthAnswer;
-    fn bantameasel_judge(text: *const u8, text_length: usize, taken: u64, held: u64, denied: u64) -> VerdictAnswer;
+    fn bantameasel_judge(text: *const u8, text_length: usize, pair: Pair) -> VerdictAnswer;
     fn bantameasel_first(text: *const u8, text_length: usize) -> PairAnswer;
-    fn bantameasel_after(text: *const u8, text_length: usize, taken: u64, held: u64, denied: u64) -> PairAnswer;
+    fn bantameasel_after(text: *const u8, text_length: usize, pair: Pair) -> PairAnswer;
     fn bantameasel_line(
         text: *const u8,
         text_length: usize,
-        taken: u64,
-        held: u64,
-        denied: u64,
+        pair: Pair,
         line: *mut u8,
         line_length: usize,
     ) -> LengthAnswer;
@@ -63,9 +61,7 @@ extern "C" {
     fn bantameasel_page_after(
         text: *const u8,
         text_length: usize,
-        taken: u64,
-        held: u64,
-        denied: u64,
+        pair: Pair,
         pairs: *mut u64,
         pairs_length: usize,
     ) -> PageAnswer;
@@ -85,19 +81,23 @@ fn unless_refused<T: Default + PartialEq + Debug>(number: u32, line: u64, answer
 
 /// The pair that a call found, or none at End, where the pair's numbers are 0.
 fn found(answer: PairAnswer) -> Result<Option<Pair>, Refusal> {
-    let PairAnswer { refusal, line, found, taken, held, denied } = answer;
-    match unless_refused(refusal, line, (found, taken, held, denied))? {
+    let PairAnswer { refusal, found, line, pair } = answer;
+    match unless_refused(refusal, line, (found, pair.taken, pair.held, pair.denied))? {
         (0, 0, 0, 0) => Ok(None),
         (1, taken, held, denied) => Ok(Some(Pair { taken, held, denied })),
         other => panic!("found and the pair are {other:?}"),
     }
 }
 
-/// Read: the numbers before the table's rows.
+/// Read: the numbers before the table's rows. By the engine's contract the edition is 1 and what is reserved is 0;
+/// anything else stops this program.
 pub fn read(text: &[u8], table: &mut [i32]) -> Result<[u64; 4], Refusal> {
     let answer = unsafe { bantameasel_read(text.as_ptr(), text.len(), table.as_mut_ptr(), table.len()) };
     let shape = [answer.statements, answer.plain, answer.exceptions, answer.preferences];
-    unless_refused(answer.refusal, answer.line, shape)
+    assert_eq!(answer.reserved, [0; 4], "what is reserved");
+    let (edition, shape) = unless_refused(answer.refusal, answer.line, (answer.edition, shape))?;
+    assert_eq!(edition, 1, "the edition of an accepted book");
+    Ok(shape)
 }
 
 /// Write: the text's length.
@@ -108,7 +108,7 @@ pub fn write(table: &[i32], text: &mut [u8]) -> Result<u64, Refusal> {
 
 /// Judge: the verdict.
 pub fn judge(text: &[u8], pair: &Pair) -> Result<u32, Refusal> {
-    let answer = unsafe { bantameasel_judge(text.as_ptr(), text.len(), pair.taken, pair.held, pair.denied) };
+    let answer = unsafe { bantameasel_judge(text.as_ptr(), text.len(), *pair) };
     unless_refused(answer.refusal, answer.line, answer.verdict)
 }
 
@@ -119,14 +119,12 @@ pub fn first(text: &[u8]) -> Result<Option<Pair>, Refusal> {
 
 /// After: the first resolution later than the pair, or none at End.
 pub fn after(text: &[u8], pair: &Pair) -> Result<Option<Pair>, Refusal> {
-    found(unsafe { bantameasel_after(text.as_ptr(), text.len(), pair.taken, pair.held, pair.denied) })
+    found(unsafe { bantameasel_after(text.as_ptr(), text.len(), *pair) })
 }
 
 /// Line: the line's length.
 pub fn line(text: &[u8], pair: &Pair, line: &mut [u8]) -> Result<u64, Refusal> {
-    let (taken, held, denied) = (pair.taken, pair.held, pair.denied);
-    let answer =
-        unsafe { bantameasel_line(text.as_ptr(), text.len(), taken, held, denied, line.as_mut_ptr(), line.len()) };
+    let answer = unsafe { bantameasel_line(text.as_ptr(), text.len(), *pair, line.as_mut_ptr(), line.len()) };
     unless_refused(answer.refusal, answer.line, answer.length)
 }
 
@@ -138,9 +136,6 @@ pub fn first_page(text: &[u8], pairs: &mut [u64]) -> Result<u64, Refusal> {
 
 /// The page after a pair: how many pairs were written.
 pub fn page_after(text: &[u8], pair: &Pair, pairs: &mut [u64]) -> Result<u64, Refusal> {
-    let (taken, held, denied) = (pair.taken, pair.held, pair.denied);
-    let answer = unsafe {
-        bantameasel_page_after(text.as_ptr(), text.len(), taken, held, denied, pairs.as_mut_ptr(), pairs.len())
-    };
+    let answer = unsafe { bantameasel_page_after(text.as_ptr(), text.len(), *pair, pairs.as_mut_ptr(), pairs.len()) };
     unless_refused(answer.refusal, answer.line, answer.count)
 }

@@ -23,7 +23,7 @@
 #undef bantameasel_first_page
 #undef bantameasel_page_after
 
-enum { MOST_TEXT = 8392, MOST_TABLE = 1976, ROW = 9 };
+enum { MOST_TEXT = BANTAMEASEL_MOST_TEXT, MOST_TABLE = BANTAMEASEL_MOST_TABLE, ROW = 9 };
 
 static int fault(const char *name) {
     const char *asked = getenv("FAULT");
@@ -78,8 +78,8 @@ static void change_refusal(uint32_t *number, uint64_t *line, const uint8_t *text
     if (fault("7 comes after 6") && *number == 7 && memcmp(text + 5, "  49", 4) == 0) *number = 6;
 }
 
-static void change_pair_refusal(uint32_t *number, uint64_t held, uint64_t denied) {
-    if (fault("13 comes before 12") && *number == 12 && ((held | denied) >> 48) != 0) *number = 13;
+static void change_pair_refusal(uint32_t *number, bantameasel_pair pair) {
+    if (fault("13 comes before 12") && *number == 12 && ((pair.held | pair.denied) >> 48) != 0) *number = 13;
     if (fault("14 is not looked for") && *number == 14) *number = 0;
 }
 
@@ -95,6 +95,8 @@ bantameasel_book bantameasel_read(const uint8_t *text, size_t text_length, int32
     if (fault("Read writes past the lent slice") && answer.refusal == 15) table[table_length] ^= 1;
     if (fault("Read miscounts") && answer.plain > 0) answer.plain--;
     if (fault("a count stands beside a refusal") && answer.refusal != 0) answer.plain = 1;
+    if (fault("a reserved field is not 0")) answer.reserved[2] = 1;
+    if (fault("an accepted book has edition 0")) answer.edition = 0;
     change_refusal(&answer.refusal, &answer.line, text, text_length);
     return answer;
 }
@@ -110,15 +112,14 @@ bantameasel_length bantameasel_write(const int32_t *table, size_t table_length, 
     return answer;
 }
 
-bantameasel_verdict bantameasel_judge(const uint8_t *text, size_t length, uint64_t taken, uint64_t held,
-                                      uint64_t denied) {
+bantameasel_verdict bantameasel_judge(const uint8_t *text, size_t length, bantameasel_pair pair) {
     const uint8_t *searched = changed(text, &length);
-    bantameasel_verdict answer = true_judge(searched, length, taken, held, denied);
+    bantameasel_verdict answer = true_judge(searched, length, pair);
     if (fault("every pair has verdict 1") && answer.refusal == 0) answer.verdict = 1;
     if (fault("verdict 2 is given after 3") && answer.verdict == 2) answer.verdict = 3;
     if (fault("verdict 4 is never given") && answer.verdict == 4) answer.verdict = 0;
     if (fault("verdict 5 is never given") && answer.verdict == 5) answer.verdict = 0;
-    change_pair_refusal(&answer.refusal, held, denied);
+    change_pair_refusal(&answer.refusal, pair);
     return answer;
 }
 
@@ -131,26 +132,25 @@ bantameasel_answer bantameasel_first(const uint8_t *text, size_t length) {
     return answer;
 }
 
-bantameasel_answer bantameasel_after(const uint8_t *text, size_t length, uint64_t taken, uint64_t held,
-                                     uint64_t denied) {
+bantameasel_answer bantameasel_after(const uint8_t *text, size_t length, bantameasel_pair pair) {
     static int moved;
     const uint8_t *searched = changed(text, &length);
-    bantameasel_answer answer = true_after(searched, length, taken, held, denied);
+    bantameasel_answer answer = true_after(searched, length, pair);
     int over = fault("After passes one over") || (fault("a refused call moves the point") && moved);
-    if (over && answer.found) answer = true_after(searched, length, answer.taken, answer.held, answer.denied);
+    if (over && answer.found) answer = true_after(searched, length, answer.pair);
     moved = answer.refusal != 0;
     if (fault("After repeats its point") && answer.refusal == 0 &&
-        true_judge(searched, length, taken, held, denied).verdict == 0)
-        answer.found = 1, answer.taken = taken, answer.held = held, answer.denied = denied;
-    change_pair_refusal(&answer.refusal, held, denied);
+        true_judge(searched, length, pair).verdict == 0)
+        answer.found = 1, answer.pair = pair;
+    change_pair_refusal(&answer.refusal, pair);
     return answer;
 }
 
-bantameasel_length bantameasel_line(const uint8_t *text, size_t length, uint64_t taken, uint64_t held, uint64_t denied,
-                                    uint8_t *line, size_t line_length) {
-    int swapped = fault("Line's signs are swapped");
+bantameasel_length bantameasel_line(const uint8_t *text, size_t length, bantameasel_pair pair, uint8_t *line,
+                                    size_t line_length) {
+    bantameasel_pair swapped = {pair.taken, pair.denied, pair.held};
     bantameasel_length answer =
-        true_line(text, length, taken, swapped ? denied : held, swapped ? held : denied, line, line_length);
+        true_line(text, length, fault("Line's signs are swapped") ? swapped : pair, line, line_length);
     if (fault("Line writes before a refusal") && answer.refusal != 0 && line_length > 0) line[0] = 'A' ^ line[0];
     if (fault("Line writes past the line") && answer.refusal == 0 && line_length > answer.length)
         line[answer.length] ^= 1;
@@ -179,11 +179,11 @@ bantameasel_page bantameasel_first_page(const uint8_t *text, size_t length, uint
     return answer;
 }
 
-bantameasel_page bantameasel_page_after(const uint8_t *text, size_t length, uint64_t taken, uint64_t held,
-                                        uint64_t denied, uint64_t *pairs, size_t pairs_length) {
+bantameasel_page bantameasel_page_after(const uint8_t *text, size_t length, bantameasel_pair pair, uint64_t *pairs,
+                                        size_t pairs_length) {
     const uint8_t *searched = changed(text, &length);
-    bantameasel_page answer = true_page_after(searched, length, taken, held, denied, pairs, pairs_length);
+    bantameasel_page answer = true_page_after(searched, length, pair, pairs, pairs_length);
     change_page(&answer, pairs, pairs_length);
-    change_pair_refusal(&answer.refusal, held, denied);
+    change_pair_refusal(&answer.refusal, pair);
     return answer;
 }

@@ -32,7 +32,7 @@ pub fn minimal_at(
     }
     let b = bounds::with_sets(root, 0, taken ^ (taken & (1 << e)));
     let t = index::among(index, live, root, b);
-    let a = probe::probe(words, n, ranks, index, t, b);
+    let a = probe::ask(words, n, ranks, index, t, b);
     match a {
         Answer::Found(_) => false,
         Answer::Nothing => true,
@@ -98,7 +98,7 @@ pub fn undominated_at(
     }
     let b = bounds::into(root, bounds::one(bounds::TAKEN, a));
     let t = index::changed(index, root, b);
-    let f = probe::probe(words, n, ranks, index, t, b);
+    let f = probe::ask(words, n, ranks, index, t, b);
     match f {
         Answer::Found(_) => false,
         Answer::Nothing => true,

@@ -16,7 +16,6 @@ use Rattle.sets.specs.declared.Pair.{Pair}
 use Rattle.book.specs.declared.Shape.{Shape}
 use Rattle.text.specs.Reading.{Outcome, readText}
 use Rattle.text.specs.Reading.Outcome.{accepted, refused as unread}
-use Rattle.text.specs.ALines.{aLine}
 use Rattle.meaning.specs.Books.{Book}
 use Rattle.meaning.specs.Meant.{bookOf}
 use Rattle.meaning.specs.Order.{Point, start, at, LawfulPoint, AllLater}
@@ -28,7 +27,7 @@ use Rattle.meaning.proofs.Next.{next-iff}
 use Rattle.meaning.proofs.Pages.{page-is}
 use Rattle.meaning.proofs.Refusals.{lawful-or-refused, refusal-one, lawful-none}
 use Rattle.meaning.proofs.Sorted.{all-later}
-use Rattle.answers.specs.Operations.{Told, told, turned, onText, unlessDown, firstAnswer, afterAnswer, judgeAnswer, firstPage, pageAfter, roomFor, lineAnswer}
+use Rattle.answers.specs.Operations.{Told, told, turned, onText, unlessDown, firstAnswer, afterAnswer, judgeAnswer, firstPage, pageAfter, fieldsIn, lineIn, roomFor, lineAnswer}
 use Rattle.answers.specs.Ways.{mostLines, closing, printed, listed, failed, waysOf}
 use Rattle.answers.specs.Means.{Means, text-refused, pair-refused, not-refused, Judges, Pages, Lines, WaysPrints}
 use Rattle.answers.proofs.Listed.{unless-none, unless-refused}
@@ -115,8 +114,8 @@ unfolding pageAfter
 page-after-means bs p m x = means turned (Pages (m / 3)) bs (at p) (λ b. told (pageFrom b (m / 3) (at p))) (pages-are (m / 3) (at p)) x
 
 -- Line: the pair's line, or 15 where the buffer is shorter.
-lines-are : (m : ℕ) (l : List ℕ) (z : Bool) → ltb m (length l) ≡ z → (b : Book) (p : Pair) → l ≡ aLine (b .statements) p → (y : Told (List ℕ))
-    → Lines m b (at p) y ↔ (y ≡ roomFor m (aLine (b .statements) p))
+lines-are : (m : ℕ) (l : List ℕ) (z : Bool) → ltb m (length l) ≡ z → (b : Book) (p : Pair) → l ≡ lineIn b p → (y : Told (List ℕ))
+    → Lines m b (at p) y ↔ (y ≡ roomFor m (lineIn b p))
 unfolding roomFor pick
 lines-are m l true h b p d (told k) = rw (← d, h) (λ r. absurd (let g = ltb-true m (length l) h in omega (arith, ap length (r .0), r .1)), λ e. absurd (told-not 15 0 k (sym e)))
 lines-are m l true h b p d (turned q line) = rw (← d, h) (λ r. rw (r .0, r .1) refl, λ e. (turned-one q line 15 0 e .0, turned-one q line 15 0 e .1, ltb-true m (length l) h))
@@ -125,7 +124,7 @@ lines-are m l false h b p d (turned q line) = rw (← d, h) (λ r. absurd (let g
 
 pub line-means : (bs : List ℕ) (p : Pair) (m : ℕ) (x : Told (List ℕ)) → (x ≡ lineAnswer bs p m) ↔ Means turned (Lines m) bs (at p) x
 unfolding lineAnswer
-line-means bs p m x = means turned (Lines m) bs (at p) (λ b. roomFor m (aLine (b .statements) p)) (λ b l y. lines-are m (aLine (b .statements) p) (ltb m (length (aLine (b .statements) p))) refl b p refl y) x
+line-means bs p m x = means turned (Lines m) bs (at p) (λ b. roomFor m (lineIn b p)) (λ b l y. lines-are m (lineIn b p) (ltb m (length (lineIn b p))) refl b p refl y) x
 
 -- The first m + 1 are more than m exactly if all are, and are printed as all are.
 more : (m : ℕ) (xs : List Pair) → ltb m (length (take (suc m) xs)) ≡ ltb m (length xs)
@@ -135,7 +134,7 @@ more m xs = go (ltb m (length xs)) refl
     go true e = let h = ltb-true m (length xs) e in rw e (lt-ltb m (length (take (suc m) xs)) (omega (arith, length-take (suc m) xs)))
     go false e = let h = ltb-false m (length xs) e in rw e (le-ltb m (length (take (suc m) xs)) (omega (arith, length-take (suc m) xs)))
 
-front-printed : (b : Book) (all : List Pair) → AllLater b start all → printed mostLines (b .statements) all ≡ listed b mostLines start
+front-printed : (b : Book) (all : List Pair) → AllLater b start all → printed mostLines (fieldsIn b) (b .statements) all ≡ listed b mostLines start
 unfolding listed printed closing
 front-printed b all a =
     let e = page-is b (suc mostLines) start all tt a in

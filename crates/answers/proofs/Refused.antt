@@ -6,17 +6,19 @@ use mathlib.Core.Bool.{Bool, true, false}
 use mathlib.Core.List.{List, [], _∷_}
 use native.Mathlib.Omega.{arith}
 use lib.Dec.{eqb, ltb, leb}
-use borrow.Author.Tests.{ltb-false}
+use borrow.Author.Tests.{ltb-true, ltb-false}
 use lib.IntN.{ℤ}
-use lib.ListN.{length, getD, drop}
+use lib.ListN.{length, getD, drop, List·getD-eq-default}
 use Rattle.logic.specs.Tests.{pick}
+use Rattle.logic.proofs.Tests.{all-at}
+use Rattle.book.proofs.Counts.{many}
 use Rattle.book.specs.declared.Content.{Content}
 use Rattle.book.specs.declared.Content.the-variants.{Edition, Statements, Literal, Exception, Total}
-use Rattle.book.specs.Kinds.{kind, fieldsOf, bytes, none, exception, Range, rangeOf, longest}
+use Rattle.book.specs.Kinds.{kinds, kind, unknown, fieldsOf, bytes, none, exception, Range, rangeOf, longest}
 use Rattle.text.specs.declared.State.{State}
 use Rattle.text.specs.declared.Field.{Field}
 use Rattle.text.specs.declared.Field.the-variants.{Value, Misspelt}
-use Rattle.text.specs.Fields.{firstField}
+use Rattle.text.specs.Fields.{columns, signed, same, misspelling, readColumns, spelt, firstField}
 use Rattle.text.specs.Lines.{Numbers, numbers, fault, andThen, inside, testField, readFields, headless, missing, miscounted, wholeOf, Line, line, wrong, unless, judged, readRest, readKind, kindFor, readLine, lines, toFirst}
 use Rattle.text.specs.Reading.{Outcome, prepend, onLine, readEnd, readLines, step, rowOf, start, lastByte, readText, shapeOf}
 use Rattle.text.specs.Reading.Outcome.{accepted, refused}
@@ -57,22 +59,47 @@ unfolding andThen
 then-faulted v (numbers vs) f = tt
 then-faulted v (fault q) f = f
 
-field-faulted : (f : Field) (r : Range) (ns : Numbers) → Fault (r .fault) → Faulted ns → Faulted (testField f r ns)
+-- What four columns are: a number, or misspelt by a refusal.
+abbrev Spelt : Field → Type 0
+Spelt (Value v) = Unit {0}
+Spelt (Misspelt q) = Fault q
+
+columns-spelt : (neg : Bool) (m : ℕ) (bs : List ℕ) → Spelt (readColumns neg m bs)
+unfolding readColumns
+columns-spelt neg m bs = either-way Spelt (same (columns neg m) bs) (Value (signed neg m)) (Misspelt misspelling) tt (record { low = omega arith; high = omega arith })
+
+first-spelt : (bs : List ℕ) → Spelt (firstField bs)
+unfolding firstField spelt
+first-spelt bs = columns-spelt _ _ _
+
+field-faulted : (f : Field) (r : Range) (ns : Numbers) → Spelt f → Fault (r .fault) → Faulted ns → Faulted (testField f r ns)
 unfolding testField
-field-faulted Misspelt r ns g h = record { low = omega arith; high = omega arith }
-field-faulted (Value v) r ns g h = either-way Faulted (inside r v) (andThen v ns) (fault (r .fault)) (then-faulted v ns h) g
+field-faulted (Misspelt q) r ns s g h = s
+field-faulted (Value v) r ns s g h = either-way Faulted (inside r v) (andThen v ns) (fault (r .fault)) (then-faulted v ns h) g
 
 fields-faulted : (cs : List Content) (n : ℕ) (bs : List ℕ) → Faulted (readFields cs n bs)
 unfolding readFields
 fields-faulted [] n bs = tt
-fields-faulted (c ∷ cs) n bs = field-faulted (firstField bs) (rangeOf c n) (readFields cs n (drop 4 bs)) (range-fault c n) (fields-faulted cs n (drop 4 bs))
+fields-faulted (c ∷ cs) n bs = field-faulted (firstField bs) (rangeOf c n) (readFields cs n (drop 4 bs)) (first-spelt bs) (range-fault c n) (fields-faulted cs n (drop 4 bs))
+
+-- A kind's own refusals have two digits at most.
+kind-refusals : (k : ℕ) → (kind k .over < 100) × (kind k .unfilled < 100)
+unfolding kind kinds unknown
+kind-refusals k = go (ltb k none) refl
+  where
+    go : (b : Bool) → ltb k none ≡ b → (kind k .over < 100) × (kind k .unfilled < 100)
+    go true p = (
+      ltb-true _ _ (all-at (λ (j : ℕ). ltb (kind j .over) 100) none k refl (ltb-true k none p)),
+      ltb-true _ _ (all-at (λ (j : ℕ). ltb (kind j .unfilled) 100) none k refl (ltb-true k none p)),
+    )
+    go false p = let e : kind k ≡ unknown = List·getD-eq-default kinds unknown {n = k} (rw many (ltb-false k none p)) in rw e (omega arith, omega arith)
 
 whole-small : (st : State) (k : ℕ) (vs : List ℤ) → wholeOf st k vs < 100
 unfolding wholeOf
 whole-small st k vs =
     let small : ℕ → Type 0 = λ q. q < 100 in
-    either-way small (leb (kind k .limit) (getD (st .counts) k 0)) 8 _ (omega arith)
-    (either-way small (headless (kind k) vs) 9 _ (omega arith)
+    either-way small (leb (kind k .limit) (getD (st .counts) k 0)) (kind k .over) _ (kind-refusals k .0)
+    (either-way small (headless (kind k) vs) (kind k .unfilled) _ (kind-refusals k .1)
     (either-way small (missing (getD (st .counts) exception 0) (kind k) vs) 10 _ (omega arith)
     (either-way small (miscounted (st .rows) (kind k) vs) 11 0 (omega arith) (omega arith))))
 

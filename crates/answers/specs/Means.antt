@@ -9,12 +9,11 @@ use Rattle.sets.specs.declared.Pair.{Pair}
 use Rattle.book.specs.declared.Shape.{Shape}
 use Rattle.text.specs.Reading.{readText}
 use Rattle.text.specs.Reading.Outcome.{accepted, refused as unread}
-use Rattle.text.specs.ALines.{aLine}
 use Rattle.meaning.specs.Books.{Book, PairRefused}
 use Rattle.meaning.specs.Meant.{bookOf}
 use Rattle.meaning.specs.Resolutions.{Verdict}
 use Rattle.meaning.specs.Order.{Point, start, at, LawfulPoint, AllLater}
-use Rattle.answers.specs.Operations.{Told, told, turned}
+use Rattle.answers.specs.Operations.{Told, told, turned, fieldsIn, lineIn}
 use Rattle.answers.specs.Ways.{mostLines, printed}
 
 -- The answer x of an operation on a text from a point (the pair of Judge and of Line is the point): the text's refusal with its line; then the
@@ -39,9 +38,9 @@ Pages k b from (turned q line) = ⊥
 -- Of Line into a lent buffer of m bytes: the pair's line, or 15 where the buffer is shorter.
 abbrev pub Lines : ℕ → Book → Point → Told (List ℕ) → Type 0
 Lines m b start x = ⊥
-Lines m b (at p) (told l) = (l ≡ aLine (b .statements) p) × (length l ≤ m)
-Lines m b (at p) (turned q line) = (q ≡ 15) × (line ≡ 0) × (m < length (aLine (b .statements) p))
+Lines m b (at p) (told l) = (l ≡ lineIn b p) × (length l ≤ m)
+Lines m b (at p) (turned q line) = (q ≡ 15) × (line ≡ 0) × (m < length (lineIn b p))
 
 -- Of what `ways` prints: all resolutions by Line, no more than 9,999, then E, or M if more remain.
 abbrev pub WaysPrints : Book → Point → List ℕ → Type 0
-WaysPrints b from x = (all : List Pair) × AllLater b from all × (x ≡ printed mostLines (b .statements) all)
+WaysPrints b from x = (all : List Pair) × AllLater b from all × (x ≡ printed mostLines (fieldsIn b) (b .statements) all)

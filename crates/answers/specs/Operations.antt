@@ -10,7 +10,7 @@ use Rattle.sets.specs.declared.Pair.{Pair}
 use Rattle.sets.specs.Pairs.{flat}
 use Rattle.text.specs.Reading.{Outcome, readText, over}
 use Rattle.text.specs.Reading.Outcome.{accepted, refused as unread}
-use Rattle.text.specs.ALines.{aLine}
+use Rattle.text.specs.ALines.{lineFields, aLine}
 use Rattle.meaning.specs.Books.{Book}
 use Rattle.meaning.specs.Meant.{bookOf}
 use Rattle.meaning.specs.Order.{start, at}
@@ -87,12 +87,20 @@ firstPage bs m = onText turned (λ b. told (pageFrom b (m / 3) start)) (readText
 unfoldable pub pageAfter : List ℕ → Pair → ℕ → Told (List Pair)
 pageAfter bs p m = onText turned (λ b. unlessDown turned (pairRefusal b p) (told (pageFrom b (m / 3) (at p)))) (readText bs)
 
+-- How many fields for exceptions the lines of a book have: the book's own number of exceptions says it, not how many a pair takes.
+abbrev pub fieldsIn : Book → ℕ
+fieldsIn b = lineFields (length (b .exceptions))
+
+-- The line of a pair in a book.
+abbrev pub lineIn : Book → Pair → List ℕ
+lineIn b p = aLine (fieldsIn b) (b .statements) p
+
 -- Line, into a lent buffer of m bytes: 15 last.
 unfoldable pub roomFor : ℕ → List ℕ → Told (List ℕ)
 roomFor m l = pick (ltb m (length l)) (turned 15 0) (told l)
 
 unfoldable pub lineAnswer : List ℕ → Pair → ℕ → Told (List ℕ)
-lineAnswer bs p m = onText turned (λ b. unlessDown turned (pairRefusal b p) (roomFor m (aLine (b .statements) p))) (readText bs)
+lineAnswer bs p m = onText turned (λ b. unlessDown turned (pairRefusal b p) (roomFor m (lineIn b p))) (readText bs)
 
 -- ---- lent slices
 -- What an operation leaves in a lent slice: what it was told in front and the rest as it was; after a refusal all of it.

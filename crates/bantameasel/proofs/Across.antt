@@ -26,7 +26,7 @@ use Rattle.meaning.specs.Order.{Point, start, at}
 use Rattle.meaning.specs.Listings.{Answer, found, end, refused, FirstLater}
 use Rattle.bantameasel.specs.declared.PairAnswer.{PairAnswer}
 use Rattle.bantameasel.specs.declared.VerdictAnswer.{VerdictAnswer}
-use Rattle.bantameasel.specs.Across.{bookIn, amountIn, verdictIn, answerIn, verdictFrom, answerFrom, pairOf}
+use Rattle.bantameasel.specs.Across.{bookIn, amountIn, verdictIn, answerIn, verdictFrom, answerFrom}
 
 pub book-is : (r : Reading) (s : Shape) → r ≡ Accepted s → bookIn (Accepted s) ≡ bookIn r
 book-is r s e = rw e refl
@@ -78,7 +78,7 @@ Numbered end = Unit {0}
 Numbered (refused q l) = 0 < q
 
 answer-back : (x : Answer) → Numbered x → answerFrom (answerIn x) ≡ x
-unfolding answerFrom answerIn pick pairOf
+unfolding answerFrom answerIn pick
 answer-back (found p) n = refl
 answer-back end n = refl
 answer-back (refused q l) n = rw (ne-eqb q 0 (λ e. omega arith)) refl

@@ -1,9 +1,10 @@
--- The answers of the operations as a program in C has them: the refusal and its line first, 0 and 0 where there is none; then the answer, or
--- zeros where it was refused.
+-- The answers of the operations as a program in C has them: the refusal and its line, 0 and 0 where there is none; and the answer, or zeros where
+-- it was refused.
 use Prim.Native.Nat.{ℕ}
 use mathlib.Core.Path.{_≡_}
 use mathlib.Core.List.{List, [], _∷_, _++_}
 use lib.Dec.{eqb}
+use lib.ListN.{replicate}
 use Rattle.logic.specs.Tests.{pick}
 use Rattle.sets.specs.declared.Pair.{Pair}
 use Rattle.text.specs.declared.Reading.{Reading}
@@ -17,14 +18,36 @@ use Rattle.bantameasel.specs.declared.Amount.{Amount}
 use Rattle.bantameasel.specs.declared.VerdictAnswer.{VerdictAnswer}
 use Rattle.bantameasel.specs.declared.PairAnswer.{PairAnswer}
 
--- The pair of three numbers.
-unfoldable pub pairOf : ℕ → ℕ → ℕ → Pair
-pairOf t h d = record { taken = t; held = h; denied = d }
+-- The version as one number, 100 for each whole version and 1 for each part of one: 2.0.
+abbrev pub versionNumber : ℕ
+versionNumber = 200
 
--- Of Read: n and the three counts.
+-- The pair beside an answer that has none.
+unfoldable pub noPair : Pair
+noPair = record { taken = 0; held = 0; denied = 0 }
+
+-- Of Read: the edition, n and the three counts. What is reserved is 0.
 unfoldable pub bookIn : Reading → BookAnswer
-bookIn (Accepted s) = record { refusal = 0; line = 0; statements = s .statements; plain = s .plain; exceptions = s .exceptions; preferences = s .preferences }
-bookIn (Refused q) = record { refusal = q .number; line = q .line; statements = 0; plain = 0; exceptions = 0; preferences = 0 }
+bookIn (Accepted s) = record {
+  refusal = 0;
+  edition = 1;
+  line = 0;
+  statements = s .statements;
+  plain = s .plain;
+  exceptions = s .exceptions;
+  preferences = s .preferences;
+  reserved = replicate 4 0;
+}
+bookIn (Refused q) = record {
+  refusal = q .number;
+  edition = 0;
+  line = q .line;
+  statements = 0;
+  plain = 0;
+  exceptions = 0;
+  preferences = 0;
+  reserved = replicate 4 0;
+}
 
 -- Of Write, Line and pages: how many.
 unfoldable pub amountIn : Told ℕ → Amount
@@ -33,21 +56,21 @@ amountIn (turned q l) = record { refusal = q; line = l; amount = 0 }
 
 -- Of Judge: the verdict.
 unfoldable pub verdictIn : Told ℕ → VerdictAnswer
-verdictIn (told k) = record { refusal = 0; line = 0; verdict = k }
-verdictIn (turned q l) = record { refusal = q; line = l; verdict = 0 }
+verdictIn (told k) = record { refusal = 0; verdict = k; line = 0 }
+verdictIn (turned q l) = record { refusal = q; verdict = 0; line = l }
 
 -- Of First and After: found 1 and the pair, or found 0 at the End.
 unfoldable pub answerIn : Answer → PairAnswer
-answerIn (found p) = record { refusal = 0; line = 0; found = 1; taken = p .taken; held = p .held; denied = p .denied }
-answerIn end = record { refusal = 0; line = 0; found = 0; taken = 0; held = 0; denied = 0 }
-answerIn (refused q l) = record { refusal = q; line = l; found = 0; taken = 0; held = 0; denied = 0 }
+answerIn (found p) = record { refusal = 0; found = 1; line = 0; pair = p }
+answerIn end = record { refusal = 0; found = 0; line = 0; pair = noPair }
+answerIn (refused q l) = record { refusal = q; found = 0; line = l; pair = noPair }
 
 -- ---- the way back: what a program in C reads off a struct
 unfoldable pub verdictFrom : VerdictAnswer → Told ℕ
 verdictFrom r = pick (eqb (r .refusal) 0) (told (r .verdict)) (turned (r .refusal) (r .line))
 
 unfoldable pub answerFrom : PairAnswer → Answer
-answerFrom r = pick (eqb (r .refusal) 0) (pick (eqb (r .found) 0) end (found (pairOf (r .taken) (r .held) (r .denied)))) (refused (r .refusal) (r .line))
+answerFrom r = pick (eqb (r .refusal) 0) (pick (eqb (r .found) 0) end (found (r .pair))) (refused (r .refusal) (r .line))
 
 -- The structs rs are what a program in C gets for the calls cs of a listing of the book's text bs, made one after the other from the point: each
 -- call is of its kind at the point; its struct is what the contract of First or of After says of it; the next call finds the point as it is read

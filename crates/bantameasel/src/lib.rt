@@ -1,5 +1,5 @@
-// The operations for programs in C: numbers and slices only across the border. Each answer begins with the refusal, 0 where there is none,
-// and its line; what stands after them is 0 where it was refused.
+// The operations for programs in C: only numbers, structs of numbers and slices go across the border. Each answer has the refusal, 0 where there
+// is none, and its line; all else in it is 0 where it was refused.
 ghost use mathlib.Core.Path.{_≡_};
 ghost use mathlib.Core.List.{List};
 ghost use Prim.Native.Nat.{ℕ};
@@ -11,7 +11,7 @@ ghost use Rattle.meaning.specs.Order.{start, at};
 ghost use Rattle.meaning.specs.Listings.{refused, FirstLater};
 ghost use Rattle.answers.specs.Means.{Means, Judges};
 ghost use Rattle.answers.specs.Operations.{turned, answerOf, verdictOf, countOf, lengthOf, counted, left, firstAnswer, afterAnswer, judgeAnswer, lineAnswer, firstPage, pageAfter};
-ghost use Rattle.bantameasel.specs.Across.{bookIn, amountIn, verdictIn, answerIn, verdictFrom, answerFrom, pairOf};
+ghost use Rattle.bantameasel.specs.Across.{bookIn, amountIn, verdictIn, answerIn, verdictFrom, answerFrom, versionNumber};
 use answers::Found;
 use answers::Judged;
 use answers::Paged;
@@ -19,15 +19,17 @@ use sets::Pair;
 use text::Reading;
 use text::Writing;
 
-// What Read answers: n and the numbers of R, X and P lines.
+// What Read answers: the edition, n and the numbers of R, X and P lines. The reserved numbers are 0: room for counts to come.
 #[repr(C)]
 pub struct BookAnswer {
     pub refusal: u32,
+    pub edition: u32,
     pub line: u64,
     pub statements: u64,
     pub plain: u64,
     pub exceptions: u64,
     pub preferences: u64,
+    pub reserved: [u64; 4],
 }
 
 // What Write, Line and a page answer: how many bytes, how many pairs.
@@ -42,20 +44,24 @@ pub struct Amount {
 #[repr(C)]
 pub struct VerdictAnswer {
     pub refusal: u32,
-    pub line: u64,
     pub verdict: u32,
+    pub line: u64,
 }
 
 // What First and After answer: found 1 and the resolution, or found 0 at the End.
 #[repr(C)]
 pub struct PairAnswer {
     pub refusal: u32,
-    pub line: u64,
     pub found: u32,
-    pub taken: u64,
-    pub held: u64,
-    pub denied: u64,
+    pub line: u64,
+    pub pair: Pair,
 }
+
+// The version as one number, 100 for each whole version and 1 for each part of one: 2.0. include/bantameasel.h and people.mk have it too.
+const VERSION: u32 = 200;
+
+// What stands in the place of counts to come.
+const RESERVED: [u64; 4] = [0; 4];
 
 // ---- the answers as C has them
 
@@ -65,19 +71,23 @@ pub fn book_in(r: Reading) -> BookAnswer
     match r {
         Reading::Accepted(s) => BookAnswer {
             refusal: 0,
+            edition: 1,
             line: 0,
             statements: s.statements as u64,
             plain: s.plain as u64,
             exceptions: s.exceptions as u64,
             preferences: s.preferences as u64,
+            reserved: RESERVED,
         },
         Reading::Refused(q) => BookAnswer {
             refusal: q.number,
+            edition: 0,
             line: q.line as u64,
             statements: 0,
             plain: 0,
             exceptions: 0,
             preferences: 0,
+            reserved: RESERVED,
         },
     }
 }
@@ -122,13 +132,13 @@ pub fn verdict_in(j: Judged) -> VerdictAnswer
     match j {
         Judged::Verdict(verdict) => VerdictAnswer {
             refusal: 0,
-            line: 0,
             verdict,
+            line: 0,
         },
         Judged::Refused(q) => VerdictAnswer {
             refusal: q.number,
-            line: q.line as u64,
             verdict: 0,
+            line: q.line as u64,
         },
     }
 }
@@ -139,32 +149,42 @@ pub fn pair_in(f: Found) -> PairAnswer
     match f {
         Found::Resolution(p) => PairAnswer {
             refusal: 0,
-            line: 0,
             found: 1,
-            taken: p.taken,
-            held: p.held,
-            denied: p.denied,
+            line: 0,
+            pair: p,
         },
         Found::End => PairAnswer {
             refusal: 0,
-            line: 0,
             found: 0,
-            taken: 0,
-            held: 0,
-            denied: 0,
+            line: 0,
+            pair: Pair {
+                taken: 0,
+                held: 0,
+                denied: 0,
+            },
         },
         Found::Refused(q) => PairAnswer {
             refusal: q.number,
-            line: q.line as u64,
             found: 0,
-            taken: 0,
-            held: 0,
-            denied: 0,
+            line: q.line as u64,
+            pair: Pair {
+                taken: 0,
+                held: 0,
+                denied: 0,
+            },
         },
     }
 }
 
 // ---- the operations
+
+// The version of this library.
+#[no_mangle]
+pub extern "C" fn bantameasel_version() -> u32
+    ensures { λ r. ⌜ r ≡ versionNumber ⌝ }
+{
+    VERSION
+}
 
 // Read: the text to the number table in front of the lent slice.
 #[no_mangle]
@@ -186,20 +206,10 @@ pub extern "C" fn bantameasel_write(table: &[i32], text: &mut [u8]) -> Amount
 
 // Judge: the verdict on a pair.
 #[no_mangle]
-pub extern "C" fn bantameasel_judge(
-    text: &[u8],
-    taken: u64,
-    held: u64,
-    denied: u64,
-) -> VerdictAnswer
-    ensures { λ r. ⌜ r ≡ verdictIn (judgeAnswer (now (text .entry)) (pairOf taken held denied)) ⌝ }
-    ensures { λ r. ⌜ Means turned Judges (now (text .entry)) (at (pairOf taken held denied)) (verdictFrom r) ⌝ }
+pub extern "C" fn bantameasel_judge(text: &[u8], p: Pair) -> VerdictAnswer
+    ensures { λ r. ⌜ r ≡ verdictIn (judgeAnswer (now (text .entry)) p) ⌝ }
+    ensures { λ r. ⌜ Means turned Judges (now (text .entry)) (at p) (verdictFrom r) ⌝ }
 {
-    let p = Pair {
-        taken,
-        held,
-        denied,
-    };
     verdict_in(operations::judge(text, p))
 }
 
@@ -214,35 +224,19 @@ pub extern "C" fn bantameasel_first(text: &[u8]) -> PairAnswer
 
 // After: the first resolution later than a pair, or End.
 #[no_mangle]
-pub extern "C" fn bantameasel_after(text: &[u8], taken: u64, held: u64, denied: u64) -> PairAnswer
-    ensures { λ r. ⌜ r ≡ answerIn (afterAnswer (now (text .entry)) (pairOf taken held denied)) ⌝ }
-    ensures { λ r. ⌜ Means refused FirstLater (now (text .entry)) (at (pairOf taken held denied)) (answerFrom r) ⌝ }
+pub extern "C" fn bantameasel_after(text: &[u8], p: Pair) -> PairAnswer
+    ensures { λ r. ⌜ r ≡ answerIn (afterAnswer (now (text .entry)) p) ⌝ }
+    ensures { λ r. ⌜ Means refused FirstLater (now (text .entry)) (at p) (answerFrom r) ⌝ }
 {
-    let p = Pair {
-        taken,
-        held,
-        denied,
-    };
     pair_in(operations::after(text, p))
 }
 
 // Line: the line of a pair in front of the lent slice.
 #[no_mangle]
-pub extern "C" fn bantameasel_line(
-    text: &[u8],
-    taken: u64,
-    held: u64,
-    denied: u64,
-    line: &mut [u8],
-) -> Amount
-    ensures { λ r. ⌜ r ≡ amountIn (counted (lineAnswer (now (text .entry)) (pairOf taken held denied) (length (now (line .entry))))) ⌝ }
-    ensures { λ r. ⌜ now (line .exit) ≡ left (λ (l : List ℕ). l) (now (line .entry)) (lineAnswer (now (text .entry)) (pairOf taken held denied) (length (now (line .entry)))) ⌝ }
+pub extern "C" fn bantameasel_line(text: &[u8], p: Pair, line: &mut [u8]) -> Amount
+    ensures { λ r. ⌜ r ≡ amountIn (counted (lineAnswer (now (text .entry)) p (length (now (line .entry))))) ⌝ }
+    ensures { λ r. ⌜ now (line .exit) ≡ left (λ (l : List ℕ). l) (now (line .entry)) (lineAnswer (now (text .entry)) p (length (now (line .entry)))) ⌝ }
 {
-    let p = Pair {
-        taken,
-        held,
-        denied,
-    };
     length_in(line::line(text, p, line))
 }
 
@@ -257,20 +251,9 @@ pub extern "C" fn bantameasel_first_page(text: &[u8], pairs: &mut [u64]) -> Amou
 
 // A page of the first resolutions later than a pair.
 #[no_mangle]
-pub extern "C" fn bantameasel_page_after(
-    text: &[u8],
-    taken: u64,
-    held: u64,
-    denied: u64,
-    pairs: &mut [u64],
-) -> Amount
-    ensures { λ r. ⌜ r ≡ amountIn (counted (pageAfter (now (text .entry)) (pairOf taken held denied) (length (now (pairs .entry))))) ⌝ }
-    ensures { λ r. ⌜ now (pairs .exit) ≡ left flat (now (pairs .entry)) (pageAfter (now (text .entry)) (pairOf taken held denied) (length (now (pairs .entry)))) ⌝ }
+pub extern "C" fn bantameasel_page_after(text: &[u8], p: Pair, pairs: &mut [u64]) -> Amount
+    ensures { λ r. ⌜ r ≡ amountIn (counted (pageAfter (now (text .entry)) p (length (now (pairs .entry))))) ⌝ }
+    ensures { λ r. ⌜ now (pairs .exit) ≡ left flat (now (pairs .entry)) (pageAfter (now (text .entry)) p (length (now (pairs .entry)))) ⌝ }
 {
-    let p = Pair {
-        taken,
-        held,
-        denied,
-    };
     count_in(operations::page_after(text, p, pairs))
 }

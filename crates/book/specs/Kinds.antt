@@ -1,5 +1,5 @@
 -- The kinds of line (document 01, 'A book and its lines'), a row of data each, and what follows from the rows and the limits.
-use Prim.Native.Nat.{ℕ, _+_, _*_, _/_, _^_}
+use Prim.Native.Nat.{ℕ, _+_, _-_, _*_, _/_, _^_}
 use mathlib.Core.Bool.{true, false}
 use mathlib.Core.List.{List, [], _∷_, _++_}
 use lib.IntN.{ℤ, pos, negℤ}
@@ -10,7 +10,7 @@ use Rattle.book.specs.declared.Content.{Content}
 use Rattle.book.specs.declared.Content.the-variants.{Edition, Statements, Literal, Exception, Total}
 use Rattle.book.specs.Limits as limit
 
--- How many fields an R or X line has: head, needed entries, barred entries; and how many a P line has.
+-- How many fields an R or X line has: head, needed entries, barred entries; and how many a P line has. The most that a line has.
 abbrev pub entriesEach : ℕ
 entriesEach = 4
 
@@ -20,16 +20,27 @@ ruleFields = 1 + entriesEach + entriesEach
 abbrev pub preferenceFields : ℕ
 preferenceFields = 2
 
+abbrev pub widest : ℕ
+widest = ruleFields
+
+-- How many numbers such lines give to the number table.
+abbrev pub ruleNumbers : ℕ
+ruleNumbers = ruleFields
+
+abbrev pub preferenceNumbers : ℕ
+preferenceNumbers = preferenceFields
+
 -- The kinds in the order in which they stand in a text: B, R, X, P, Z. A kind says: its letter, a byte; how many fields it has, and where
--- in the list of contents they begin; how many such lines a book may have; whether its numbers are a row of the number table, which Z
--- counts; whether it needs a head, so that its first number may not be 0.
+-- in the list of contents they begin; how many numbers of the number table it gives; how many such lines a book may have, and the refusal of
+-- one over; whether it is a row of the table, which Z counts; how many of its first fields are heads, how many of these must be filled (not 0),
+-- and the refusal where fewer are; where its count stands in front of the table's rows, n having place 0 (for B and Z, which have no count, 0 too).
 unfoldable pub kinds : List Kind
 kinds =
-    record { letter = 66; fields = 2; from = 0; limit = 1; row = false; headed = false }
-    ∷ record { letter = 82; fields = ruleFields; from = 2; limit = limit.plain; row = true; headed = false }
-    ∷ record { letter = 88; fields = ruleFields; from = 2; limit = limit.exceptions; row = true; headed = true }
-    ∷ record { letter = 80; fields = preferenceFields; from = 11; limit = limit.preferences; row = true; headed = false }
-    ∷ record { letter = 90; fields = 1; from = 13; limit = 1; row = false; headed = false }
+    record { letter = 66; fields = 2; from = 0; numbers = 0; limit = 1; over = 8; row = false; heads = 0; filled = 0; unfilled = 9; count = 0 }
+    ∷ record { letter = 82; fields = ruleFields; from = 2; numbers = ruleNumbers; limit = limit.plain; over = 8; row = true; heads = 1; filled = 0; unfilled = 9; count = 1 }
+    ∷ record { letter = 88; fields = ruleFields; from = 2; numbers = ruleNumbers; limit = limit.exceptions; over = 8; row = true; heads = 1; filled = 1; unfilled = 9; count = 2 }
+    ∷ record { letter = 80; fields = preferenceFields; from = 11; numbers = preferenceNumbers; limit = limit.preferences; over = 8; row = true; heads = 0; filled = 0; unfilled = 9; count = 3 }
+    ∷ record { letter = 90; fields = 1; from = 13; numbers = 0; limit = 1; over = 8; row = false; heads = 0; filled = 0; unfilled = 9; count = 0 }
     ∷ []
 
 -- What the fields hold: those of B; of R and X, head, needed and barred entries; of P; of Z.
@@ -39,6 +50,10 @@ contents = Edition ∷ Statements ∷ (replicate ruleFields Literal ++ (Exceptio
 -- What the fields of a line of the kind hold, left to right.
 unfoldable pub fieldsOf : Kind → List Content
 fieldsOf x = take (x .fields) (drop (x .from) contents)
+
+-- What the numbers hold that such a line gives to the number table: those of its first fields.
+unfoldable pub numbersOf : Kind → List Content
+numbersOf x = take (x .numbers) (drop (x .from) contents)
 
 -- The places of the kinds in that list.
 abbrev pub first : ℕ
@@ -62,7 +77,7 @@ none = 5
 
 -- A line of no kind.
 unfoldable pub unknown : Kind
-unknown = record { letter = 0; fields = 0; from = 0; limit = 0; row = false; headed = false }
+unknown = record { letter = 0; fields = 0; from = 0; numbers = 0; limit = 0; over = 0; row = false; heads = 0; filled = 0; unfilled = 0; count = 0 }
 
 -- The kind at a place.
 unfoldable pub kind : ℕ → Kind
@@ -77,25 +92,28 @@ unfoldable pub most : (Kind → ℕ) → List Kind → ℕ
 most f [] = 0
 most f (x ∷ xs) = x .limit * f x + most f xs
 
--- How many numbers of the number table a line has.
-unfoldable pub width : Kind → ℕ
-width x = pick (x .row) (x .fields) 0
-
 -- The longest text: every line that a book may have.
 unfoldable pub longest : ℕ
 longest = most bytes kinds
 
 -- Room for the numbers of any text as it is read: each takes four bytes, and a line that is refused may have its numbers stored too.
 abbrev pub room : ℕ
-room = longest / 4 + ruleFields
+room = longest / 4 + widest
 
--- The most lines that Z counts.
+-- A line is counted by Z if it is a row of the table. The most lines that Z counts.
+unfoldable pub rowOnce : Kind → ℕ
+rowOnce x = pick (x .row) 1 0
+
 unfoldable pub mostRows : ℕ
-mostRows = most (λ x. pick (x .row) 1 0) kinds
+mostRows = most rowOnce kinds
 
--- The longest number table: n, the three counts, the rows.
+-- How many numbers stand before the rows of a number table: n, and the count of each kind of row.
+abbrev pub front : ℕ
+front = 1 + (none - 2)
+
+-- The longest number table: these numbers, and the rows.
 unfoldable pub longestTable : ℕ
-longestTable = 4 + most width kinds
+longestTable = front + most (λ x. x .numbers) kinds
 
 -- How many sets of exceptions there are.
 abbrev pub setCount : ℕ

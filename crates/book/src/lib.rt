@@ -1,9 +1,10 @@
 // The book as a type: its limits, its kinds of line, the empty book.
 ghost use mathlib.Core.Path.{_≡_};
 ghost use mathlib.Core.Bool.{true, false};
-ghost use Prim.Native.Nat.{_<_};
+ghost use Prim.Native.Nat.{_<_, _≤_};
 ghost use lib.ListN.{length, getD};
-ghost use Rattle.book.specs.Kinds.{kind, none, contents};
+ghost use Rattle.book.specs.Kinds.{kind, none, contents, bytes, rowOnce};
+ghost use Rattle.book.specs.Counts.{allCounts, frontOf, countOf, shapeFrom, startOf, rowNumbers, textBytes, total as totalOf, InLimits};
 ghost use Rattle.book.specs.declared.Content.the-variants.{Edition};
 ghost use Rattle.book.specs.Shapes.{limits as limitsOf, emptyBook};
 
@@ -62,12 +63,19 @@ impl Book {
 
     pub const AT_LAST: usize = 4;
 
-    // The columns of a field, the fields of each kind of line, the bytes of a line beside its fields.
+    // The columns of a field, the fields of rules and of preferences, the most that a line has, the bytes of a line beside its fields.
     pub const COLUMNS: usize = 4;
 
     pub const RULE_FIELDS: usize = 9;
 
     pub const PREFERENCE_FIELDS: usize = 2;
+
+    pub const WIDEST: usize = Book::RULE_FIELDS;
+
+    // How many numbers of the number table a rule and a preference have.
+    pub const RULE_NUMBERS: usize = Book::RULE_FIELDS;
+
+    pub const PREFERENCE_NUMBERS: usize = Book::PREFERENCE_FIELDS;
 
     pub const ENDS: usize = 2;
 
@@ -80,13 +88,13 @@ impl Book {
         + Book::COLUMNS;
 
     // The numbers of a table before its rows; the longest table; room for the numbers of any text as it is read.
-    pub const COUNTS: usize = 4;
+    pub const FRONT: usize = Book::KINDS - 1;
 
-    pub const NUMBERS: usize = Book::COUNTS
-        + Book::RULES * Book::RULE_FIELDS
-        + Book::PREFERENCES * Book::PREFERENCE_FIELDS;
+    pub const NUMBERS: usize = Book::FRONT
+        + Book::RULES * Book::RULE_NUMBERS
+        + Book::PREFERENCES * Book::PREFERENCE_NUMBERS;
 
-    pub const ROOM: usize = Book::TEXT / Book::COLUMNS + Book::RULE_FIELDS;
+    pub const ROOM: usize = Book::TEXT / Book::COLUMNS + Book::WIDEST;
 
     // The sets of exceptions.
     pub const SETS: usize = 1 << Book::EXCEPTIONS;
@@ -133,15 +141,22 @@ pub enum Content {
     Total,
 }
 
-// A kind of line as a row of data: its letter, how many fields it has and where their contents begin in CONTENTS,
-// how many such lines a book may have, whether it is a row of the number table, whether it needs a head.
+// A kind of line as a row of data: its letter, how many fields it has and where their contents begin in CONTENTS, how many
+// numbers of the number table it gives, how many such lines a book may have and the refusal of one over, whether it is a row
+// of the table, how many of its first fields are heads, how many of these must be filled and the refusal where fewer are,
+// and where its count stands in front of the table's rows.
 pub struct Kind {
     pub letter: u8,
     pub fields: usize,
     pub from: usize,
+    pub numbers: usize,
     pub limit: usize,
+    pub over: u32,
     pub row: bool,
-    pub headed: bool,
+    pub heads: usize,
+    pub filled: usize,
+    pub unfilled: u32,
+    pub count: usize,
 }
 
 const CONTENTS: [Content; 14] = [
@@ -166,41 +181,66 @@ const KINDS: [Kind; Book::KINDS] = [
         letter: b'B',
         fields: 2,
         from: 0,
+        numbers: 0,
         limit: 1,
+        over: 8,
         row: false,
-        headed: false,
+        heads: 0,
+        filled: 0,
+        unfilled: 9,
+        count: 0,
     },
     Kind {
         letter: b'R',
         fields: Book::RULE_FIELDS,
         from: 2,
+        numbers: Book::RULE_NUMBERS,
         limit: Book::PLAIN,
+        over: 8,
         row: true,
-        headed: false,
+        heads: 1,
+        filled: 0,
+        unfilled: 9,
+        count: 1,
     },
     Kind {
         letter: b'X',
         fields: Book::RULE_FIELDS,
         from: 2,
+        numbers: Book::RULE_NUMBERS,
         limit: Book::EXCEPTIONS,
+        over: 8,
         row: true,
-        headed: true,
+        heads: 1,
+        filled: 1,
+        unfilled: 9,
+        count: 2,
     },
     Kind {
         letter: b'P',
         fields: Book::PREFERENCE_FIELDS,
         from: 11,
+        numbers: Book::PREFERENCE_NUMBERS,
         limit: Book::PREFERENCES,
+        over: 8,
         row: true,
-        headed: false,
+        heads: 0,
+        filled: 0,
+        unfilled: 9,
+        count: 3,
     },
     Kind {
         letter: b'Z',
         fields: 1,
         from: 13,
+        numbers: 0,
         limit: 1,
+        over: 8,
         row: false,
-        headed: false,
+        heads: 0,
+        filled: 0,
+        unfilled: 9,
+        count: 0,
     },
 ];
 
@@ -212,10 +252,144 @@ pub fn kind_at(k: usize) -> Kind
     KINDS[k]
 }
 
+// The letter of the kind at place k; whether it is a row of the number table; how many numbers of the table it gives.
+pub fn letter_at(k: usize) -> u8
+    requires { ⌜ k < none ⌝ }
+    ensures { λ r. ⌜ r ≡ kind k .letter ⌝ }
+{
+    let x = kind_at(k);
+    x.letter
+}
+
+pub fn is_row(k: usize) -> bool
+    requires { ⌜ k < none ⌝ }
+    ensures { λ r. ⌜ r ≡ kind k .row ⌝ }
+{
+    let x = kind_at(k);
+    x.row
+}
+
+pub fn numbers_at(k: usize) -> usize
+    requires { ⌜ k < none ⌝ }
+    ensures { λ r. ⌜ r ≡ kind k .numbers ⌝ }
+{
+    let x = kind_at(k);
+    x.numbers
+}
+
+// The bytes of a line of the kind at place k, with its line feed.
+pub fn line_bytes(k: usize) -> usize
+    requires { ⌜ k < none ⌝ }
+    ensures { λ r. ⌜ r ≡ bytes (kind k) ⌝ }
+{
+    let x = kind_at(k);
+    Book::ENDS + Book::COLUMNS * x.fields
+}
+
+// 1 for a kind that is a row of the number table, else 0.
+pub fn row_once(k: usize) -> usize
+    requires { ⌜ k < none ⌝ }
+    ensures { λ r. ⌜ r ≡ rowOnce (kind k) ⌝ }
+{
+    let x = kind_at(k);
+    if x.row {
+        return 1;
+    }
+    0
+}
+
 // What stands at a place of the list of contents: field i of kind x stands at x.from + i.
 pub fn content_at(place: usize) -> Content
     requires { ⌜ place < length contents ⌝ }
     ensures { λ r. ⌜ r ≡ getD contents place Edition ⌝ }
 {
     CONTENTS[place]
+}
+
+// ---- counts
+
+// How many lines of each kind a book of this shape has, in the order of a text: one B, the rows, one Z.
+pub fn counts_of(s: Shape) -> [usize; Book::KINDS]
+    ensures { λ r. ⌜ r ≡ allCounts s ⌝ }
+{
+    [1, s.plain, s.exceptions, s.preferences, 1]
+}
+
+// The numbers before the rows of a number table: n, and the counts of the kinds of rows in their own order.
+pub fn front_of(s: Shape) -> [usize; Book::FRONT]
+    ensures { λ r. ⌜ r ≡ frontOf s ⌝ }
+{
+    [s.statements, s.plain, s.exceptions, s.preferences]
+}
+
+// The shape of n statements and so many lines of each kind.
+pub fn shape_from(n: usize, counts: [usize; Book::KINDS]) -> Shape
+    ensures { λ r. ⌜ r ≡ shapeFrom n counts ⌝ }
+{
+    Shape {
+        statements: n,
+        plain: counts[Book::AT_PLAIN],
+        exceptions: counts[Book::AT_EXCEPTION],
+        preferences: counts[Book::AT_PREFERENCE],
+    }
+}
+
+// How many lines of the kind at place k a book of this shape has.
+pub fn count_of(s: Shape, k: usize) -> usize
+    requires { ⌜ k < none ⌝ }
+    ensures { λ r. ⌜ r ≡ countOf s k ⌝ }
+{
+    let counts = counts_of(s);
+    counts[k]
+}
+
+// Where the rows of the kind at place k begin among the numbers of the rows.
+pub fn start_of(s: Shape, k: usize) -> usize
+    requires { ⌜ (k ≤ none) × InLimits s ⌝ }
+    ensures { λ r. ⌜ r ≡ startOf s k ⌝ }
+{
+    let mut i = 0;
+    let mut n = 0;
+    while i < k {
+        let x = kind_at(i);
+        n = n + count_of(s, i) * x.numbers;
+        i += 1;
+    }
+    n
+}
+
+// How many numbers the rows of a book of this shape have.
+pub fn row_numbers(s: Shape) -> usize
+    requires { ⌜ InLimits s ⌝ }
+    ensures { λ r. ⌜ r ≡ rowNumbers s ⌝ }
+{
+    start_of(s, Book::KINDS)
+}
+
+// How many rows a book of this shape has.
+pub fn total(s: Shape) -> usize
+    requires { ⌜ InLimits s ⌝ }
+    ensures { λ r. ⌜ r ≡ totalOf s ⌝ }
+{
+    let mut i = 0;
+    let mut n = 0;
+    while i < Book::KINDS {
+        n = n + count_of(s, i) * row_once(i);
+        i += 1;
+    }
+    n
+}
+
+// How many bytes the text of a book of this shape has.
+pub fn text_bytes(s: Shape) -> usize
+    requires { ⌜ InLimits s ⌝ }
+    ensures { λ r. ⌜ r ≡ textBytes s ⌝ }
+{
+    let mut i = 0;
+    let mut n = 0;
+    while i < Book::KINDS {
+        n = n + count_of(s, i) * line_bytes(i);
+        i += 1;
+    }
+    n
 }

@@ -1,4 +1,4 @@
--- What it is that a step on bounds is sound (ALGORITHM.md, section 1): no view within them is lost.
+-- What it is that a step on bounds is sound (docs/SEARCH.md): no view within them is lost.
 -- Bounds whose lower end is not within the upper have nothing in them, so they say that there is no view.
 use Prim.Native.Nat.{ℕ}
 use mathlib.Core.Path.{_≡_}
@@ -37,7 +37,7 @@ withSets root lo hi = record {
   hi = record { taken = bitAnd (root .hi .taken) hi; held = root .hi .held; denied = root .hi .denied };
 }
 
--- What follows are the properties P of a view that the steps use, each by a fact of ALGORITHM.md.
+-- What follows are the properties P of a view that the steps use; the letters are those of the six facts in docs/SEARCH.md.
 -- The pair meets the rule and satisfies its body; it meets the rule and does not.
 pub record Firing (r : Masks) (v : Pair) : Type 0 where
   pub meets : Meets r v

@@ -1,4 +1,5 @@
 // Sound steps on bounds: no view within them is lost. In which order steps are taken, no proof depends on.
+// The letters behind the comments are those of the facts and steps in docs/SEARCH.md.
 ghost use mathlib.Core.Path.{_≡_};
 ghost use Prim.Native.Nat.{_*_, _<_, _≤_};
 ghost use lib.ListN.{length};

@@ -11,6 +11,7 @@ use lib.Seq.{sets}
 use Rattle.sets.specs.declared.Pair.{Pair}
 use Rattle.sets.specs.Pairs.{flat}
 use Rattle.book.specs.declared.Shape.{Shape}
+use Rattle.book.proofs.Counts.{exceptions-in}
 use Rattle.text.specs.Reading.{over}
 use Rattle.text.proofs.Lent.{over-sets}
 use Rattle.masks.specs.declared.Bounds.{Bounds}
@@ -56,7 +57,7 @@ module _ (b : Book) (from : Point) (o o′ : List ℕ) (r k : ℕ) (ek : k ≡ l
 module _ (s : Shape) (ws ranks : List ℕ) (root : Bounds) (q : Task) (i : RootIs s ws ranks root) (er : q .rules ≡ ruleCount s) (es : q .statements ≡ s .statements) where
   serves : (rows : List ℤ) → Loaded s rows ws ranks → Serves (bookOf s rows) ws ranks root q
   unfolding bookOf
-  serves rows l = record { rooted = rw er (i .rooted rows l); statements = es; few = rw (exceptions-count s rows) (l .exceptions) }
+  serves rows l = record { rooted = rw er (i .rooted rows l); statements = es; few = rw (exceptions-count s rows) (exceptions-in s (l .limits)) }
 
   module _ (o o′ : List ℕ) (r : ℕ) (em : q .room ≡ length o / 3) where
     pub first-is : FirstPage ws ranks root q o o′ r → PageIs s ws ranks start o o′ r

@@ -1,5 +1,5 @@
 -- A book as it is prepared for the search, and what is answered of it.
-use Prim.Native.Nat.{ℕ, _/_, _≤_}
+use Prim.Native.Nat.{ℕ, _/_}
 use mathlib.Core.Path.{_≡_}
 use mathlib.Core.List.{List}
 use lib.IntN.{ℤ}
@@ -7,7 +7,7 @@ use lib.ListN.{length}
 use Rattle.sets.specs.declared.Pair.{Pair}
 use Rattle.sets.specs.Pairs.{flat}
 use Rattle.book.specs.declared.Shape.{Shape}
-use Rattle.book.specs.Limits as limit
+use Rattle.book.specs.Counts.{InLimits}
 use Rattle.text.specs.Reading.{over}
 use Rattle.meaning.specs.Books.{Lawful}
 use Rattle.meaning.specs.Meant.{bookOf}
@@ -20,19 +20,11 @@ use Rattle.bridge.specs.Packed.{Packs}
 use Rattle.bridge.specs.Ranks.{RanksOf}
 use Rattle.bridge.specs.Rows.{ruleCount}
 
--- The words and the ranks are those of the book of this shape with these rows, which is within the limits.
+-- The words and the ranks are those of the book of this shape with these rows, which is in the limits.
 pub record Loaded (s : Shape) (rows : List ℤ) (ws ranks : List ℕ) : Type 0 where
   pub packs : Packs (bookOf s rows) ws (ruleCount s)
   pub ranked : RanksOf (bookOf s rows) ranks
-  pub statements : s .statements ≤ limit.statements
-  pub plain : s .plain ≤ limit.plain
-  pub exceptions : s .exceptions ≤ limit.exceptions
-
--- The shape is within the limits, as far as the search counts on it.
-pub record Small (s : Shape) : Type 0 where
-  pub statements : s .statements ≤ limit.statements
-  pub plain : s .plain ≤ limit.plain
-  pub exceptions : s .exceptions ≤ limit.exceptions
+  pub limits : InLimits s
 
 -- The verdict on a lawful pair.
 pub record VerdictIs (s : Shape) (ws ranks : List ℕ) (p : Pair) (r : ℕ) : Type 0 where

@@ -1,9 +1,10 @@
 // A prepared book: the verdict on a pair, and the pages of its resolutions.
 ghost use Prim.Native.Nat.{_+_, _<_};
 ghost use Rattle.book.specs.Kinds.{setCount};
+ghost use Rattle.book.specs.Counts.{InLimits};
 ghost use Rattle.meaning.specs.Order.{start, at as atPair};
 ghost use Rattle.queue.specs.Chains.{Chains};
-ghost use Rattle.engine.specs.Loaded.{Small, RootIs, VerdictIs, PageIs};
+ghost use Rattle.engine.specs.Loaded.{RootIs, VerdictIs, PageIs};
 use book::Book;
 use book::Shape;
 use masks::Bounds;
@@ -20,7 +21,7 @@ pub type Ranks = [u64; Book::EXCEPTIONS];
 
 // The bounds of the book's views, where every search begins.
 pub fn root_of(words: &Words, ranks: &Ranks, index: &Index, s: Shape) -> Bounds
-    requires { ⌜ Small s × Chains (now words) (s .plain + s .exceptions) (now index) ⌝ }
+    requires { ⌜ InLimits s × Chains (now words) (s .plain + s .exceptions) (now index) ⌝ }
     ensures { λ r. ⌜ RootIs s (now (words .entry)) (now (ranks .entry)) r ⌝ }
 {
     let n = s.plain + s.exceptions;
@@ -31,7 +32,7 @@ pub fn root_of(words: &Words, ranks: &Ranks, index: &Index, s: Shape) -> Bounds
 
 // The verdict on a lawful pair of a prepared book.
 pub fn verdict_in(words: &Words, ranks: &Ranks, s: Shape, p: Pair) -> u32
-    requires { ⌜ Small s ⌝ }
+    requires { ⌜ InLimits s ⌝ }
     ensures { λ r. ⌜ VerdictIs s (now (words .entry)) (now (ranks .entry)) p r ⌝ }
 {
     let n = s.plain + s.exceptions;
@@ -43,7 +44,7 @@ pub fn verdict_in(words: &Words, ranks: &Ranks, s: Shape, p: Pair) -> u32
 
 // The first resolutions of a prepared book, as many as the lent slice has room for.
 pub fn first_in(words: &Words, ranks: &Ranks, s: Shape, out: &mut [u64]) -> usize
-    requires { ⌜ Small s ⌝ }
+    requires { ⌜ InLimits s ⌝ }
     ensures { λ r. ⌜ PageIs s (now (words .entry)) (now (ranks .entry)) start (now (out .entry)) (now (out .exit)) r ⌝ }
 {
     let rules = s.plain + s.exceptions;
@@ -65,7 +66,7 @@ pub fn first_in(words: &Words, ranks: &Ranks, s: Shape, out: &mut [u64]) -> usiz
 
 // The first resolutions later than a pair that is lawful in the prepared book.
 pub fn after_in(words: &Words, ranks: &Ranks, s: Shape, p: Pair, out: &mut [u64]) -> usize
-    requires { ⌜ Small s × (p .taken < setCount) ⌝ }
+    requires { ⌜ InLimits s × (p .taken < setCount) ⌝ }
     ensures { λ r. ⌜ PageIs s (now (words .entry)) (now (ranks .entry)) (atPair p) (now (out .entry)) (now (out .exit)) r ⌝ }
 {
     let rules = s.plain + s.exceptions;

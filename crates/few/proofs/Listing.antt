@@ -3,7 +3,7 @@ use mathlib.Core.Path.{_≡_, sym, ap, _∙_}
 use mathlib.Core.List.{List}
 use mathlib.Core.Logic.{inl, inr, ⊎-elim}
 use Prim.Native.Nat.{ℕ, zero, suc, _+_, _-_, _*_, _<_, _≤_}
-use native.Mathlib.Nat.{zero-add}
+use native.Mathlib.Nat.{zero-add, le-refl}
 use native.Mathlib.Omega.{arith}
 use lib.ListN.{length, take}
 use lib.Seq.{sets, sets-eq, take-all, take-length, length-take-le}
@@ -17,6 +17,10 @@ use Rattle.bounds.specs.Sound.{In}
 use Rattle.page.specs.declared.Task.{Task}
 use Rattle.page.specs.Pages.{pairAt, pairsIn, Page}
 use Rattle.page.proofs.Pages.{flat-length, pairs-front}
+use Rattle.probe.specs.declared.Answer.{Answer}
+use Rattle.probe.specs.declared.Answer.the-variants.{Found, Nothing}
+use Rattle.probe.specs.Probes.{Probed}
+use Rattle.few.specs.declared.Place.{Place}
 use Rattle.few.specs.Few.{Stock, Gathered, Collected, PutSorted, AllListed}
 
 -- ---- the pairs of a store
@@ -44,12 +48,25 @@ stored cap o o′ ys k h l p =
     let g = sets-eq (flat ys) o 0 (omega (arith, flat-length ys)) in
     rw (f, g) (pairs-front k ys _ (omega arith) ∙ ap (λ (j : ℕ). take j ys) (sym m) ∙ take-length ys)
 
-pub collected-is : (ws : List ℕ) (n : ℕ) (ranks : List ℕ) (b : Bounds) (cap : ℕ) (s s′ : List ℕ) (r : ℕ) → cap * 3 ≤ length s → Gathered ws n ranks b cap 0 s s′ r → Collected ws n ranks b cap s′ r
-collected-is ws n ranks b cap s s′ r h g = record {
-  few = g .few;
-  some = g .some;
-  whole = λ l. let w = g .whole l in rw (stored cap s s′ (w .0) r h l (w .1)) (w .2);
-}
+module _ (ws : List ℕ) (n : ℕ) (ranks : List ℕ) (b : Bounds) (cap : ℕ) (s s′ : List ℕ) (fuel : ℕ) (r : Place) (g : Gathered ws n ranks b cap 0 fuel s s′ r) where
+  pub collected-is : cap * 3 ≤ length s → (r .fuel ≡ 0 → ⊥) → Collected ws n ranks b cap s′ (r .at)
+  collected-is h f = record {
+    few = g .few;
+    some = g .some;
+    whole = λ l. let w = g .whole (omega arith) l in rw (stored cap s s′ (w .0) (r .at) h l (w .1)) (w .2);
+  }
+
+  -- The store counts as full: there is a view.
+  pub collected-full : (r .at ≡ 0 → ⊥) → Collected ws n ranks b cap s′ cap
+  collected-full h = record { few = le-refl cap; some = λ l. g .some (omega arith); whole = λ l. absurd (omega arith) }
+
+module _ {ws : List ℕ} {n : ℕ} {ranks : List ℕ} {b : Bounds} {a : Answer} (q : Probed ws n ranks b a) (cap : ℕ) (s : List ℕ) where
+  pub collected-found : (v : Pair) → a ≡ Found v → Collected ws n ranks b cap s cap
+  collected-found v e = record { few = le-refl cap; some = λ l. let f = q .found v e in (v, f .0, f .1); whole = λ l. absurd (omega arith) }
+
+  pub collected-nothing : a ≡ Nothing → Collected ws n ranks b cap s 0
+  unfolding pairsIn
+  collected-nothing e = record { few = omega arith; some = λ l. absurd (omega arith); whole = λ l. record { only = λ v m. absurd m; all = λ v y i. q .none e v y i } }
 
 -- ---- the page
 pub store-listed : (ws ranks : List ℕ) (q : Task) (b : Bounds) (store : List ℕ) (k at : ℕ) (o o′ : List ℕ) (r : ℕ) → PutSorted store k (q .room) at o o′ r → AllListed ws ranks q b store k at o o′ r

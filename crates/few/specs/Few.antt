@@ -12,6 +12,7 @@ use Rattle.masks.specs.Views.{MaskView}
 use Rattle.bounds.specs.Sound.{In}
 use Rattle.meaning.specs.Order.{Before, Ascending}
 use Rattle.page.specs.declared.Task.{Task}
+use Rattle.few.specs.declared.Place.{Place}
 use Rattle.page.specs.Pages.{pairAt, pairsIn, Page}
 
 -- How many views the store has room for.
@@ -24,11 +25,13 @@ pub record Stock (ws : List ℕ) (n : ℕ) (ranks : List ℕ) (b : Bounds) (ys :
   pub only : (v : Pair) → Among v ys → MaskView ws n ranks v × In b v
   pub all : (v : Pair) → MaskView ws n ranks v → In b v → Among v ys
 
--- A view is found where the place moves. Where the store is not full up to `cap`, it has all views within the bounds from place k on.
-pub record Gathered (ws : List ℕ) (n : ℕ) (ranks : List ℕ) (b : Bounds) (cap k : ℕ) (o o′ : List ℕ) (r : ℕ) : Type 0 where
-  pub few : r ≤ cap
-  pub some : k < r → (v : Pair) × MaskView ws n ranks v × In b v
-  pub whole : r < cap → (ys : List Pair) × Page cap k o o′ ys r × Stock ws n ranks b ys
+-- A view is found where the place moves. Where fuel is left and the store is not full up to `cap`, it has all views within the bounds from
+-- place k on.
+pub record Gathered (ws : List ℕ) (n : ℕ) (ranks : List ℕ) (b : Bounds) (cap k fuel : ℕ) (o o′ : List ℕ) (r : Place) : Type 0 where
+  pub few : r .at ≤ cap
+  pub less : r .fuel ≤ fuel
+  pub some : k < r .at → (v : Pair) × MaskView ws n ranks v × In b v
+  pub whole : 0 < r .fuel → r .at < cap → (ys : List Pair) × Page cap k o o′ ys (r .at) × Stock ws n ranks b ys
 
 -- The same of a store that is filled from its start: the first r pairs are the views, if there are fewer than `cap`.
 pub record Collected (ws : List ℕ) (n : ℕ) (ranks : List ℕ) (b : Bounds) (cap : ℕ) (store : List ℕ) (r : ℕ) : Type 0 where

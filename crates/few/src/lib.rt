@@ -9,6 +9,7 @@ ghost use Rattle.page.specs.Pages.{pairAt, Fits, Listed};
 ghost use Rattle.few.specs.Few.{most, Gathered, Collected, Sooner, Follows, Leads, FirstOf, PutSorted, AllListed};
 use masks::Bounds;
 use page::Task;
+use probe::Answer;
 use probe::Node;
 use queue::Rest;
 use queue::index;
@@ -37,8 +38,14 @@ pub fn limit(room: usize, after: bool) -> usize
     MOST
 }
 
-// Puts the views within the bounds b into the store from place k on, as the search finds them, up to place `cap`. Answers the place after them;
-// w is what is to be done before the bounds are at rest.
+// How far the store is filled, and how many nodes may still be visited.
+pub struct Place {
+    pub at: usize,
+    pub fuel: u64,
+}
+
+// Puts the views within the bounds b into the store from a place on, as the search finds them, up to place `cap` or until the fuel is used up.
+// Answers the place after them and the fuel that is left; w is what is to be done before the bounds are at rest.
 pub fn gather(
     words: &[u64],
     n: usize,
@@ -48,25 +55,40 @@ pub fn gather(
     b: Bounds,
     store: &mut [u64],
     cap: usize,
-    k: usize,
-) -> usize
-    requires { ⌜ (n * 8 ≤ length (now words)) × (length (now ranks) ≤ 64) × Chains (now words) n (now index) × (cap * 3 ≤ length (now store)) × (k ≤ cap) ⌝ }
-    ensures { λ r. ⌜ Gathered (now (words .entry)) n (now (ranks .entry)) b cap k (now (store .entry)) (now (store .exit)) r ⌝ }
+    place: Place,
+) -> Place
+    requires { ⌜ (n * 8 ≤ length (now words)) × (length (now ranks) ≤ 64) × Chains (now words) n (now index) × (cap * 3 ≤ length (now store)) × (place .at ≤ cap) ⌝ }
+    ensures { λ r. ⌜ Gathered (now (words .entry)) n (now (ranks .entry)) b cap (place .at) (place .fuel) (now (store .entry)) (now (store .exit)) r ⌝ }
 {
+    let k = place.at;
     if cap <= k {
-        return k;
+        return place;
     }
+    if place.fuel == 0 {
+        return place;
+    }
+    let fuel = place.fuel - 1;
     let x = probe::visit(words, n, ranks, index, w, b);
     match x {
         Node::View(v) => {
             page::put(store, k, v);
-            k + 1
+            Place { at: k + 1, fuel }
         }
-        Node::Empty => k,
+        Node::Empty => Place { at: k, fuel },
         Node::Open(c, m, live) => {
             let o = bounds::out(c, m);
             let t = index::among(index, live, c, o);
-            let j = gather(words, n, ranks, index, t, o, store, cap, k);
+            let j = gather(
+                words,
+                n,
+                ranks,
+                index,
+                t,
+                o,
+                store,
+                cap,
+                Place { at: k, fuel },
+            );
             let p = bounds::into(c, m);
             let t = index::among(index, live, c, p);
             gather(words, n, ranks, index, t, p, store, cap, j)
@@ -74,7 +96,14 @@ pub fn gather(
     }
 }
 
-// Puts the views within bounds at rest into the store, up to `cap` of them. Answers how many.
+// How many views the store has, and how many nodes were visited for that.
+pub struct Stored {
+    pub count: usize,
+    pub visited: u64,
+}
+
+// Puts the views within bounds at rest into the store, up to `cap` of them. Answers how many. Where the search for all of them has used up its
+// fuel, the store counts as full if there is any view: one that was found, or that a search from shaved bounds finds.
 pub fn collect(
     words: &[u64],
     n: usize,
@@ -83,12 +112,44 @@ pub fn collect(
     rest: Rest,
     store: &mut [u64],
     cap: usize,
-) -> usize
+    fuel: u64,
+) -> Stored
     requires { ⌜ (n * 8 ≤ length (now words)) × (length (now ranks) ≤ 64) × Chains (now words) n (now index) × (cap * 3 ≤ length (now store)) ⌝ }
-    ensures { λ r. ⌜ Collected (now (words .entry)) n (now (ranks .entry)) (rest .bounds) cap (now (store .exit)) r ⌝ }
+    ensures { λ r. ⌜ Collected (now (words .entry)) n (now (ranks .entry)) (rest .bounds) cap (now (store .exit)) (r .count) ⌝ }
 {
     let w = waiting::none(rest.live);
-    gather(words, n, ranks, index, w, rest.bounds, store, cap, 0)
+    let r = gather(
+        words,
+        n,
+        ranks,
+        index,
+        w,
+        rest.bounds,
+        store,
+        cap,
+        Place { at: 0, fuel },
+    );
+    let visited = fuel - r.fuel;
+    if r.fuel != 0 {
+        return Stored {
+            count: r.at,
+            visited,
+        };
+    }
+    if r.at != 0 {
+        return Stored {
+            count: cap,
+            visited,
+        };
+    }
+    let a = probe::probe_shaved(words, n, ranks, index, w, rest.bounds);
+    match a {
+        Answer::Found(_) => Stored {
+            count: cap,
+            visited,
+        },
+        Answer::Nothing => Stored { count: 0, visited },
+    }
 }
 
 // The pair a comes before b, if both take the same exceptions: the lowest statement that differs decides.

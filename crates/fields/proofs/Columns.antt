@@ -18,7 +18,7 @@ use borrow.Author.Needs.{sfits-of}
 use borrow.Author.Tests.{eq-eqb, ne-eqb, lt-ltb, le-ltb, le-leb, lt-leb, ltb-true, ltb-false}
 use Rattle.logic.specs.Tests.{both, either, pick}
 use Rattle.text.specs.declared.Field.the-variants.{Value, Misspelt}
-use Rattle.text.specs.Fields.{columnOf, columns, digitOf, sizeOf, minusIn, signed, same, readColumns, spelt, firstField}
+use Rattle.text.specs.Fields.{columnOf, columns, digitOf, sizeOf, minusIn, signed, same, readColumns, spelt, firstField, misspelling}
 use Rattle.text.specs.Lines.{between}
 
 module _ (b : ℕ) where
@@ -132,7 +132,7 @@ module _ (a b c d m : ℕ) (neg t : Bool) (em : m ≡ sizeOf a b c d) (en : neg 
   unfolding readColumns pick
   is-spelt v e f = sym (spelt-is ∙ rw (← et, e, f))
 
-  pub is-misspelt : t ≡ false → Misspelt ≡ spelt a b c d
+  pub is-misspelt : t ≡ false → Misspelt misspelling ≡ spelt a b c d
   unfolding readColumns pick
   is-misspelt e = sym (spelt-is ∙ rw (← et, e))
 

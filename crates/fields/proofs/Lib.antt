@@ -1,3 +1,4 @@
 pub mod Columns
 pub mod Numbers
 pub mod Puts
+pub mod Filled

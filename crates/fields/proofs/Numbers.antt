@@ -15,7 +15,7 @@ use Rattle.logic.specs.Tests.{both, either, pick}
 use Rattle.book.specs.declared.Content.{Content}
 use Rattle.book.specs.declared.Content.the-variants.{Edition, Statements, Literal, Exception, Total}
 use Rattle.book.specs.Limits as limit
-use Rattle.book.specs.Kinds.{Range, rangeOf, kinds, most, mostRows}
+use Rattle.book.specs.Kinds.{Range, rangeOf, kinds, most, rowOnce, mostRows}
 use Rattle.text.specs.Lines.{inside, between}
 use Rattle.text.specs.Reading.{toNat}
 use Rattle.fields.specs.declared.Checked.{Checked}
@@ -89,7 +89,7 @@ unfolding rangeOf
 exception-range n = refl
 
 pub total-range : (n : ℕ) → range (pos 0) (toZ w32 (limit.plain + limit.exceptions + limit.preferences)) 6 ≡ rangeOf Total n
-unfolding rangeOf mostRows most kinds pick
+unfolding rangeOf mostRows most kinds rowOnce pick
 total-range n = refl
 
 -- ---- counts

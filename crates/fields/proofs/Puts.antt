@@ -1,10 +1,8 @@
--- Fields and numbers stored into a lent buffer: one lemma a return.
--- The loop over numbers: what is left to put, from here, gives the final buffer.
+-- Fields and numbers stored into a lent buffer: one lemma a return, and the fields of a run of numbers as pieces.
 use mathlib.Core.Path.{_≡_, refl, ap, _∙_}
 use mathlib.Core.Bool.{Bool, true, false}
-use mathlib.Core.List.{List, _∷_}
-use Prim.Native.Nat.{ℕ, zero, suc, _+_, _-_, _*_, _<_, _≤_}
-use native.Mathlib.Nat.{add-zero}
+use mathlib.Core.List.{List}
+use Prim.Native.Nat.{ℕ, zero, suc, _+_, _<_, _≤_}
 use native.Mathlib.Omega.{arith}
 use lib.IntN.{ℤ, pos, negsuc, _-ℤ_, natAbs}
 use lib.Signed.{mag, ltZ}
@@ -15,9 +13,8 @@ use mir.Val.{SFits}
 use mir.Facts.{toZ-ofZ}
 use borrow.Author.Needs.{sfits-of}
 use borrow.Author.Tests.{ltb-true}
-use Rattle.logic.proofs.Stores.{sets-append}
+use Rattle.logic.proofs.Stores.{pieces}
 use Rattle.text.specs.Fields.{columnOf, columns, written, writtenAll}
-use Rattle.text.proofs.Fields.{field-length}
 use Rattle.fields.specs.Short.{isShort, allShort}
 use Rattle.fields.proofs.Columns.{back, back-same}
 
@@ -52,31 +49,14 @@ plus-is (pos m) h e = (m, back-same (pos m) (omega arith), h, refl)
 plus-is (negsuc m) h e = absurd (let z : true ≡ false = rw (back-same (negsuc m) (omega arith)) at e in let y : _≡_ {A = ℕ} 0 1 = cc in omega arith)
 
 -- ---- a run of fields
-first-of : (t : List ℤ) (from w : ℕ) → 0 < w → from + w ≤ length t → take w (drop from t) ≡ getD t from (pos 0) ∷ take (w - 1) (drop (suc from) t)
-first-of t from zero h g = absurd (omega arith)
-first-of t from (suc w) h g = let e : suc w - 1 ≡ w = omega arith in rw (drop-cons t from (pos 0) (omega arith), e)
+-- The field of number from + i of a slice.
+abbrev pub fieldAt : List ℤ → ℕ → ℕ → List ℕ
+fieldAt t from i = written (getD t (from + i) (pos 0))
 
-module _ (t : List ℤ) (l₀ : List ℕ) (at from w : ℕ) where
-  -- what is left, from number i on
-  unfoldable pub ToPut : List ℕ → ℕ → Type 0
-  ToPut l i = sets l (at + i * 4) (writtenAll (take (w - i) (drop (from + i) t))) ≡ sets l₀ at (writtenAll (take w (drop from t)))
-
-  pub put-start : ToPut l₀ 0
-  unfolding ToPut
-  put-start = let a : at + 0 * 4 ≡ at = omega arith in let b : w - 0 ≡ w = omega arith in rw (a, b, add-zero from)
-
-  pub put-next : (l m : List ℕ) (i : ℕ) (v : ℤ) → i < w → from + w ≤ length t → v ≡ getD t (from + i) (pos 0) → m ≡ sets l (at + i * 4) (written v) → ToPut l i → ToPut m (i + 1)
-  unfolding ToPut writtenAll
-  put-next l m i v h g ev em inv =
-      let a : at + (i + 1) * 4 ≡ at + i * 4 + length (written v) = omega (arith, field-length v) in
-      let b : w - (i + 1) ≡ w - i - 1 = omega arith in
-      let c : from + (i + 1) ≡ suc (from + i) = omega arith in
-      rw (a, b, c, em, ← sets-append (written v) (writtenAll (take (w - i - 1) (drop (suc (from + i)) t))) l (at + i * 4), ev)
-      (rw (first-of t (from + i) (w - i) (omega arith) (omega arith)) at inv)
-
-  pub put-end : (l : List ℕ) (i : ℕ) → w ≤ i → ToPut l i → l ≡ sets l₀ at (writtenAll (take w (drop from t)))
-  unfolding ToPut writtenAll
-  put-end l i h inv = let b : w - i ≡ 0 = omega arith in rw b at inv
+pub fields-are : (t : List ℤ) (from w k i : ℕ) → k ≡ from + i → k + w ≤ length t → writtenAll (take w (drop k t)) ≡ pieces (fieldAt t from) i w
+unfolding writtenAll pieces
+fields-are t from zero k i e h = refl
+fields-are t from (suc w) k i e h = rw (drop-cons t k (pos 0) (omega arith), fields-are t from w (suc k) (suc i) (omega arith) (omega arith), e)
 
 pub minus-put : (v : ℤ) (l m : List ℕ) (at : ℕ) → isShort v → ltZ (back v) (pos 0) ≡ true → m ≡ sets l at (columns true (natAbs (back (pos 0 -ℤ back v)))) → m ≡ sets l at (written v)
 minus-put v l m at h e r =

@@ -8,14 +8,13 @@ ghost use lib.Seq.{sets};
 ghost use lib.Signed.{leZ};
 ghost use Rattle.book.specs.Kinds.{rangeOf};
 ghost use Rattle.text.specs.Fields.{digitOf, columnOf, columns, minusIn, signed, sizeOf, same, spelt, firstField, written, writtenAll};
-ghost use Rattle.text.specs.Lines.{between};
+ghost use Rattle.text.specs.Lines.{between, filledIn, headless};
 ghost use Rattle.text.specs.Reading.{toNat};
-ghost use Rattle.text.specs.Accepted.{rowNumbers};
 ghost use Rattle.fields.specs.Checks.{numberIs, range, seeOf};
 ghost use Rattle.fields.specs.Short.{isShort, allShort};
 use book::Book;
 use book::Content;
-use book::Shape;
+use book::Kind;
 use text::Field;
 
 // ---- four columns read
@@ -109,7 +108,7 @@ pub fn spell(a: u8, b: u8, c: u8, d: u8) -> Field
     if columns_are(neg, m, a, b, c, d) {
         return Field::Value(to_signed(neg, m));
     }
-    Field::Misspelt
+    Field::Misspelt(5)
 }
 
 // The field that starts at a place of the text.
@@ -226,6 +225,33 @@ pub fn see(s: Seen, content: Content, exceptions: usize, rows: usize, v: i32) ->
     }
 }
 
+// How many of w numbers of a slice, from a place on, are filled: not 0.
+pub fn filled_in(t: &[i32], from: usize, w: usize) -> usize
+    requires { ⌜ from + w ≤ length (now t) ⌝ }
+    ensures { λ r. ⌜ r ≡ filledIn (take w (drop from (now (t .entry)))) ⌝ }
+{
+    let mut i = w;
+    let mut n = 0;
+    while i > 0 {
+        i -= 1;
+        if !is_count(number_at(t, from + i), 0) {
+            n += 1;
+        }
+    }
+    n
+}
+
+// A line of kind x, its numbers in a slice from a place on, has fewer heads filled than it must have.
+pub fn is_headless(t: &[i32], from: usize, x: Kind) -> bool
+    requires { ⌜ from + x .heads ≤ length (now t) ⌝ }
+    ensures { λ r. ⌜ r ≡ headless x (drop from (now (t .entry))) ⌝ }
+{
+    if x.filled == 0 {
+        return false;
+    }
+    filled_in(t, from, x.heads) < x.filled
+}
+
 // The number at a place of a slice.
 pub fn number_at(t: &[i32], k: usize) -> i32
     requires { ⌜ k < length (now t) ⌝ }
@@ -270,14 +296,4 @@ pub fn put_numbers(buf: &mut [u8], at: usize, t: &[i32], from: usize, w: usize)
         put_number(buf, at + i * 4, v);
         i += 1;
     }
-}
-
-// ---- the rows of a book
-
-// How many numbers the rows of a book of this shape have.
-pub fn row_numbers(s: Shape) -> usize
-    requires { ⌜ (s .plain < 1000000) × (s .exceptions < 1000000) × (s .preferences < 1000000) ⌝ }
-    ensures { λ r. ⌜ r ≡ rowNumbers s ⌝ }
-{
-    (s.plain + s.exceptions) * Book::RULE_FIELDS + s.preferences * Book::PREFERENCE_FIELDS
 }

@@ -1,4 +1,4 @@
--- The two lines that document 01 prints for K7, computed from the definition: "A   1   1   0 .. 0+.+" and "A   1   2   0 .. 0.+.".
+-- The two lines that document 01 prints for K7, a book of 2 exceptions, computed from the definition: "A   1   1   0 .. 0+.+" and "A   1   2   0 .. 0.+.".
 use mathlib.Core.Path.{_≡_, refl}
 use mathlib.Core.List.{List, [], _∷_, _++_}
 use Prim.Native.Nat.{ℕ}
@@ -6,7 +6,7 @@ use lib.ListN.{replicate}
 use Rattle.logic.specs.Tests.{both, either, pick, keep, consIf, concatMap}
 use Rattle.sets.specs.Sets.{member, sizeTo, size}
 use Rattle.text.specs.Fields.{columnOf, columns, written, writtenAll}
-use Rattle.text.specs.ALines.{from, takenFields, mark, aLine}
+use Rattle.text.specs.ALines.{from, lineFields, takenFields, mark, aLine}
 
 -- Three spaces before a digit.
 abbrev digit : ℕ → List ℕ
@@ -16,10 +16,10 @@ digit d = 32 ∷ 32 ∷ 32 ∷ d ∷ []
 abbrev printed : ℕ → List ℕ → List ℕ
 printed d marks = 65 ∷ (digit 49 ++ (digit d ++ (concatMap digit (replicate 11 48) ++ (marks ++ (10 ∷ [])))))
 
-first-line : aLine 3 (record { taken = 1; held = 5; denied = 0 }) ≡ printed 49 (43 ∷ 46 ∷ 43 ∷ [])
-unfolding aLine writtenAll written columns columnOf both either pick size sizeTo takenFields keep consIf from member mark concatMap
+first-line : aLine (lineFields 2) 3 (record { taken = 1; held = 5; denied = 0 }) ≡ printed 49 (43 ∷ 46 ∷ 43 ∷ [])
+unfolding aLine writtenAll written columns columnOf both either pick size sizeTo lineFields takenFields keep consIf from member mark concatMap
 first-line = refl
 
-second-line : aLine 3 (record { taken = 2; held = 2; denied = 0 }) ≡ printed 50 (46 ∷ 43 ∷ 46 ∷ [])
-unfolding aLine writtenAll written columns columnOf both either pick size sizeTo takenFields keep consIf from member mark concatMap
+second-line : aLine (lineFields 2) 3 (record { taken = 2; held = 2; denied = 0 }) ≡ printed 50 (46 ∷ 43 ∷ 46 ∷ [])
+unfolding aLine writtenAll written columns columnOf both either pick size sizeTo lineFields takenFields keep consIf from member mark concatMap
 second-line = refl

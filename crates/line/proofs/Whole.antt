@@ -17,15 +17,16 @@ use Rattle.text.specs.declared.Writing.{Writing}
 use Rattle.text.specs.declared.Writing.the-variants.{Written, Refused as NotWritten}
 use Rattle.text.specs.Reading.{readText, over}
 use Rattle.text.specs.Reading.Outcome.{accepted, refused}
-use Rattle.text.specs.Accepted.{rowNumbers}
-use Rattle.text.specs.ALines.{aLine}
+use Rattle.book.specs.Counts.{rowNumbers}
+use Rattle.book.proofs.Counts.{exceptions-in}
+use Rattle.text.specs.ALines.{lineFields, aLine}
 use Rattle.text.proofs.Lent.{over-sets}
 use Rattle.read.specs.Storing.{outcomeOf}
 use Rattle.read.specs.Parsing.{Parsing}
 use Rattle.meaning.specs.Meant.{bookOf}
 use Rattle.meaning.specs.Twins.Verdicts.{pairRefusal}
 use Rattle.meaning.proofs.Meant.{exceptions-count}
-use Rattle.answers.specs.Operations.{Told, told, turned, lengthOf, counted, onText, unlessDown, roomFor, lineAnswer, left}
+use Rattle.answers.specs.Operations.{Told, told, turned, lengthOf, counted, onText, unlessDown, lineIn, roomFor, lineAnswer, left}
 use Rattle.answers.proofs.Listed.{unless-other, unless-none}
 use Rattle.lawful.specs.Refusals.{Refuses}
 use Rattle.line.specs.Parts.{lineBytes}
@@ -34,10 +35,10 @@ use Rattle.line.proofs.PutLaws.{line-length}
 
 -- ---- the book of an accepted text
 pub few-statements : (bs : List ℕ) (r : Reading) (rows : List ℤ) (s : Shape) → Parsing bs r rows → r ≡ Accepted s → s .statements < 64
-few-statements bs r rows s g e = omega (arith, g .facts s e .statements)
+few-statements bs r rows s g e = omega (arith, g .facts s e .limits .statements)
 
 pub few-exceptions : (bs : List ℕ) (r : Reading) (rows : List ℤ) (s : Shape) → Parsing bs r rows → r ≡ Accepted s → s .exceptions < 64
-few-exceptions bs r rows s g e = omega (arith, g .facts s e .exceptions)
+few-exceptions bs r rows s g e = omega (arith, exceptions-in s (g .facts s e .limits))
 
 -- ---- refusals
 -- A refusal that is the definition's leaves the slice as it was.
@@ -64,27 +65,35 @@ module _ (bs : List ℕ) (r : Reading) (rows : List ℤ) (g : Parsing bs r rows)
       unfolding bookOf
       same = c .refusal (bookOf s (take (rowNumbers s) rows)) refl (exceptions-count s (take (rowNumbers s) rows))
 
-      answer-is : lineAnswer bs p (length l) ≡ unlessDown turned k (roomFor (length l) (aLine (s .statements) p))
-      unfolding lineAnswer onText bookOf
-      answer-is = rw read-is (ap (λ (j : ℕ). unlessDown turned j (roomFor (length l) (aLine (s .statements) p))) (sym same))
+      -- The line of the pair in the book that was read.
+      here : List ℕ
+      here = lineIn (bookOf s (take (rowNumbers s) rows)) p
+
+      answer-is : lineAnswer bs p (length l) ≡ unlessDown turned k (roomFor (length l) here)
+      unfolding lineAnswer onText here
+      answer-is = rw read-is (ap (λ (j : ℕ). unlessDown turned j (roomFor (length l) (lineIn (bookOf s (take (rowNumbers s) rows)) p))) (sym same))
 
       pub line-unlawful : (k ≡ 0 → ⊥) → Met bs p l (NotWritten (record { number = k; line = 0 })) l
-      line-unlawful n = turned-met bs p l (record { number = k; line = 0 }) (answer-is ∙ unless-other turned k (roomFor (length l) (aLine (s .statements) p)) n)
+      line-unlawful n = turned-met bs p l (record { number = k; line = 0 }) (answer-is ∙ unless-other turned k (roomFor (length l) here) n)
 
-      module _ (z : k ≡ 0) where
-        room-is : lineAnswer bs p (length l) ≡ roomFor (length l) (aLine (s .statements) p)
-        room-is = answer-is ∙ unless-none turned k (roomFor (length l) (aLine (s .statements) p)) z
+      module _ (z : k ≡ 0) (w : ℕ) (ew : w ≡ lineFields (s .exceptions)) where
+        here-is : here ≡ aLine w (s .statements) p
+        unfolding here bookOf
+        here-is = rw ew (ap (λ (x : ℕ). aLine (lineFields x) (s .statements) p) (exceptions-count s (take (rowNumbers s) rows)))
 
-        pub line-short : length l < lineBytes (s .statements) → Met bs p l (NotWritten (record { number = 15; line = 0 })) l
+        room-is : lineAnswer bs p (length l) ≡ roomFor (length l) (aLine w (s .statements) p)
+        room-is = rw (← here-is) (answer-is ∙ unless-none turned k (roomFor (length l) here) z)
+
+        pub line-short : (m : ℕ) → m ≡ lineBytes w (s .statements) → length l < m → Met bs p l (NotWritten (record { number = 15; line = 0 })) l
         unfolding roomFor pick
-        line-short h = turned-met bs p l (record { number = 15; line = 0 }) (room-is ∙ rw (lt-ltb (length l) (length (aLine (s .statements) p)) (omega (arith, line-length (s .statements) p))))
+        line-short m em h = turned-met bs p l (record { number = 15; line = 0 }) (room-is ∙ rw (lt-ltb (length l) (length (aLine w (s .statements) p)) (omega (arith, line-length w (s .statements) p))))
 
-        pub line-whole : (m : List ℕ) → lineBytes (s .statements) ≤ length l → m ≡ sets l 0 (aLine (s .statements) p) → Met bs p l (Written (lineBytes (s .statements))) m
+        pub line-whole : (m : ℕ) (l′ : List ℕ) → m ≡ lineBytes w (s .statements) → m ≤ length l → l′ ≡ sets l 0 (aLine w (s .statements) p) → Met bs p l (Written m) l′
         unfolding roomFor pick
-        line-whole m h em =
-            let f = line-length (s .statements) p in
-            told-met bs p l m (aLine (s .statements) p) (lineBytes (s .statements))
-            (room-is ∙ rw (le-ltb (length l) (length (aLine (s .statements) p)) (omega (arith, f)))) (sym f) (em ∙ over-sets l (aLine (s .statements) p) (omega (arith, f)))
+        line-whole m l′ em h e =
+            let f = line-length w (s .statements) p in
+            told-met bs p l l′ (aLine w (s .statements) p) m
+            (room-is ∙ rw (le-ltb (length l) (length (aLine w (s .statements) p)) (omega (arith, f)))) (em ∙ sym f) (e ∙ over-sets l (aLine w (s .statements) p) (omega (arith, f)))
 
 -- ---- the part that holds the line
 pub length-written : (w : Writing) (k : ℕ) → w ≡ Written k → k ≡ partLength (lengthOf w)

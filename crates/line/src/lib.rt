@@ -4,8 +4,8 @@ ghost use mathlib.Core.List.{map};
 ghost use Prim.Native.Nat.{_+_, _*_, _<_, _≤_};
 ghost use lib.ListN.{length, replicate};
 ghost use lib.Seq.{sets};
-ghost use Rattle.book.specs.Limits.{exceptions};
-ghost use Rattle.text.specs.ALines.{from, takenFields, mark as markOf, aLine};
+ghost use Rattle.book.specs.Limits as limit;
+ghost use Rattle.text.specs.ALines.{from, lineFields, takenFields, mark as markOf, aLine};
 ghost use Rattle.answers.specs.Operations.{lengthOf, lineAnswer};
 ghost use Rattle.line.specs.Parts.{fieldsOf, takenOf, lineBytes};
 ghost use Rattle.line.specs.Promise.{Met, partOf, partLength};
@@ -15,23 +15,38 @@ use text::Reading;
 use text::Refusal;
 use text::Writing;
 
-// Where the fields of the exceptions begin in a line, and where the marks do.
+// Where the fields of the exceptions begin in a line.
 const AT_TAKEN: usize = 1 + Book::COLUMNS;
 
-const AT_MARKS: usize = AT_TAKEN + Book::EXCEPTIONS * Book::COLUMNS;
+// ---- how long a line is
+
+// How many fields for exceptions a line has in a book with so many exceptions.
+pub fn line_fields(exceptions: usize) -> usize
+    ensures { λ r. ⌜ (r ≡ lineFields exceptions) × (r ≤ limit.exceptions) ⌝ }
+{
+    Book::EXCEPTIONS
+}
+
+// The bytes of a line with w fields for exceptions in a book of n statements, its line feed too.
+pub fn line_bytes(w: usize, n: usize) -> usize
+    requires { ⌜ (w ≤ 64) × (n ≤ 64) ⌝ }
+    ensures { λ r. ⌜ r ≡ lineBytes w n ⌝ }
+{
+    AT_TAKEN + w * Book::COLUMNS + n + 1
+}
 
 // ---- the fields
 
-// The fields of the exceptions taken, ascending, at a place of a buffer; how many there are.
-pub fn put_members(buf: &mut [u8], at: usize, taken: u64) -> usize
-    requires { ⌜ at + exceptions * 4 ≤ length (now buf) ⌝ }
-    ensures { λ r. ⌜ (now (buf .exit) ≡ sets (now (buf .entry)) at (fieldsOf (takenOf taken))) × (r ≡ length (takenOf taken)) ⌝ }
+// The fields of the exceptions taken of the first w, ascending, at a place of a buffer; how many there are.
+pub fn put_members(buf: &mut [u8], at: usize, w: usize, taken: u64) -> usize
+    requires { ⌜ (w ≤ 64) × (at + w * 4 ≤ length (now buf)) ⌝ }
+    ensures { λ r. ⌜ (now (buf .exit) ≡ sets (now (buf .entry)) at (fieldsOf (takenOf w taken))) × (r ≡ length (takenOf w taken)) × (r ≤ w) ⌝ }
 {
     let mut k = 0;
-    let mut i = 1;
-    while i <= Book::EXCEPTIONS {
-        if sets::member(i as u64, taken) {
-            fields::put_columns(buf, at + k * Book::COLUMNS, false, i as u32);
+    let mut i = 0;
+    while i < w {
+        if sets::member((i + 1) as u64, taken) {
+            fields::put_columns(buf, at + k * Book::COLUMNS, false, (i + 1) as u32);
             k += 1;
         }
         i += 1;
@@ -51,13 +66,13 @@ pub fn put_zeros(buf: &mut [u8], at: usize, w: usize)
     }
 }
 
-// The fields of the exceptions taken, then of 0, as many as a book may have exceptions, at a place of a buffer.
-pub fn put_taken(buf: &mut [u8], at: usize, taken: u64)
-    requires { ⌜ at + exceptions * 4 ≤ length (now buf) ⌝ }
-    ensures { λ r. ⌜ now (buf .exit) ≡ sets (now (buf .entry)) at (fieldsOf (takenFields taken)) ⌝ }
+// The fields of the exceptions taken of the first w, then of 0, w in all, at a place of a buffer.
+pub fn put_taken(buf: &mut [u8], at: usize, w: usize, taken: u64)
+    requires { ⌜ (w ≤ 64) × (at + w * 4 ≤ length (now buf)) ⌝ }
+    ensures { λ r. ⌜ now (buf .exit) ≡ sets (now (buf .entry)) at (fieldsOf (takenFields w taken)) ⌝ }
 {
-    let k = put_members(buf, at, taken);
-    put_zeros(buf, at + k * Book::COLUMNS, Book::EXCEPTIONS - k);
+    let k = put_members(buf, at, w, taken);
+    put_zeros(buf, at + k * Book::COLUMNS, w - k);
 }
 
 // ---- the marks
@@ -90,16 +105,17 @@ pub fn put_marks(buf: &mut [u8], at: usize, n: usize, p: Pair)
 
 // ---- the line
 
-// The line of a pair in a book of n statements, its line feed too, at a place of a buffer.
-pub fn put_line(buf: &mut [u8], at: usize, n: usize, p: Pair)
-    requires { ⌜ (n ≤ 64) × (at + lineBytes n ≤ length (now buf)) ⌝ }
-    ensures { λ r. ⌜ now (buf .exit) ≡ sets (now (buf .entry)) at (aLine n p) ⌝ }
+// The line of a pair in a book of n statements, with w fields for exceptions, its line feed too, at a place of a buffer.
+pub fn put_line(buf: &mut [u8], at: usize, w: usize, n: usize, p: Pair)
+    requires { ⌜ (w ≤ 64) × (n ≤ 64) × (at + lineBytes w n ≤ length (now buf)) ⌝ }
+    ensures { λ r. ⌜ now (buf .exit) ≡ sets (now (buf .entry)) at (aLine w n p) ⌝ }
 {
+    let marks = at + AT_TAKEN + w * Book::COLUMNS;
     buf[at] = b'A';
     fields::put_columns(buf, at + 1, false, sets::size(p.taken));
-    put_taken(buf, at + AT_TAKEN, p.taken);
-    put_marks(buf, at + AT_MARKS, n, p);
-    buf[at + AT_MARKS + n] = b'\n';
+    put_taken(buf, at + AT_TAKEN, w, p.taken);
+    put_marks(buf, marks, n, p);
+    buf[marks + n] = b'\n';
 }
 
 // Line: the line of a lawful pair in front of the lent buffer. It answers the line's length, or the refusal of the text, then of the
@@ -116,14 +132,15 @@ pub fn line(text: &[u8], p: Pair, buf: &mut [u8]) -> Writing
             if k != 0 {
                 return Writing::Refused(Refusal { number: k, line: 0 });
             }
-            let m = AT_MARKS + s.statements + 1;
+            let w = line_fields(s.exceptions);
+            let m = line_bytes(w, s.statements);
             if buf.len() < m {
                 return Writing::Refused(Refusal {
                     number: 15,
                     line: 0,
                 });
             }
-            put_line(buf, 0, s.statements, p);
+            put_line(buf, 0, w, s.statements, p);
             Writing::Written(m)
         }
     }

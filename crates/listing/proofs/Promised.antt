@@ -13,18 +13,20 @@ use lib.Seq.{sets}
 use Rattle.logic.proofs.Decide.{clash}
 use Rattle.sets.specs.declared.Pair.{Pair}
 use Rattle.sets.proofs.Digits.{lt-or-le}
+use Rattle.book.proofs.Counts.{exceptions-in}
 use Rattle.book.specs.declared.Shape.{Shape}
 use Rattle.book.specs.Limits as limit
 use Rattle.book.specs.Kinds.{setCount, longest, most, bytes, kinds}
 use Rattle.text.specs.declared.Refusal.{Refusal}
 use Rattle.text.specs.Fields.{written, writtenAll, columns}
+use Rattle.text.specs.ALines.{lineFields}
 use Rattle.text.specs.Reading.{readText}
 use Rattle.text.specs.Reading.Outcome.{accepted, refused}
 use Rattle.meaning.specs.Meant.{bookOf}
 use Rattle.meaning.specs.Order.{Point, start, at, LawfulPoint}
 use Rattle.meaning.specs.Twins.Next.{pageFrom}
 use Rattle.meaning.proofs.Meant.{exceptions-count}
-use Rattle.answers.specs.Operations.{onText}
+use Rattle.answers.specs.Operations.{onText, fieldsIn}
 use Rattle.answers.specs.Ways.{linesOf, mostLines, failed, waysOf}
 use Rattle.answers.proofs.Refused.{text-short}
 use Rattle.line.specs.Parts.{lineBytes}
@@ -34,37 +36,37 @@ use Rattle.page.specs.Pages.{pairAt, pairsIn}
 use Rattle.listing.specs.Parts.{partLines, longestLine, partBytes, Closes, Fills, Prints, Lists, Prepared, Ready, Begins}
 use Rattle.listing.proofs.Pages.{lastPoint, page-lawful, last-point}
 use Rattle.listing.proofs.Printed.{front-is}
-use Rattle.listing.proofs.Listed.{front-listed, ended-listed, cut-listed, at-most, statements-same, page-count, page-few, page-pairs, page-all, lines-shown, closed-shown}
+use Rattle.listing.proofs.Listed.{front-listed, ended-listed, cut-listed, at-most, statements-same, fields-same, page-count, page-few, page-pairs, page-all, lines-shown, closed-shown}
 
 -- ---- a page in lines
-module _ (n : ℕ) (ns : List ℕ) (k : ℕ) (out out₁ : List ℕ) (i : ℕ) (e : out₁ ≡ sets out 0 (linesOf n (pairsIn ns 0 k))) (ei : i ≡ k * lineBytes n)
-    (hn : n ≤ limit.statements) (hk : k ≤ partLines) (ho : length out ≡ partBytes) where
+module _ (w n : ℕ) (ns : List ℕ) (k : ℕ) (out out₁ : List ℕ) (i : ℕ) (e : out₁ ≡ sets out 0 (linesOf w n (pairsIn ns 0 k))) (ei : i ≡ k * lineBytes w n)
+    (hw : w ≤ limit.exceptions) (hn : n ≤ limit.statements) (hk : k ≤ partLines) (ho : length out ≡ partBytes) where
   room : i ≤ partLines * longestLine
-  room = rw ei (at-most k partLines n hk hn)
+  room = rw ei (at-most k partLines w n hk hw hn)
 
-  pub closes : (x : ℕ) (out₂ : List ℕ) (p : Pair) → out₂ ≡ sets out₁ i (x ∷ 10 ∷ []) → length out₂ ≡ length out → Closes n ns k x out₂ (record { bytes = i + 2; full = false; last = p })
+  pub closes : (x : ℕ) (out₂ : List ℕ) (p : Pair) → out₂ ≡ sets out₁ i (x ∷ 10 ∷ []) → length out₂ ≡ length out → Closes w n ns k x out₂ (record { bytes = i + 2; full = false; last = p })
   closes x out₂ p g h = record {
     fits = let r = room in omega arith;
     not-full = refl;
-    is = closed-shown n ns k out out₁ i e ei x out₂ g (let r = room in omega arith);
+    is = closed-shown w n ns k out out₁ i e ei x out₂ g (let r = room in omega arith);
   }
 
-  pub fills : (p : Pair) → length out₁ ≡ length out → p ≡ pairAt ns (partLines - 1) → Fills n ns k out₁ (record { bytes = i; full = true; last = p })
+  pub fills : (p : Pair) → length out₁ ≡ length out → p ≡ pairAt ns (partLines - 1) → Fills w n ns k out₁ (record { bytes = i; full = true; last = p })
   fills p h ep = record {
     fits = let r = room in omega arith;
     is-full = refl;
     last = ep;
-    is = lines-shown n ns k out out₁ i e ei (let r = room in omega arith);
+    is = lines-shown w n ns k out out₁ i e ei (let r = room in omega arith);
   }
 
-module _ (n : ℕ) (ns : List ℕ) (k m : ℕ) (o : List ℕ) (r : Part) where
-  pub prints-ended : k < partLines → k ≤ m → Closes n ns k 69 o r → Prints n ns k m o r
+module _ (w n : ℕ) (ns : List ℕ) (k m : ℕ) (o : List ℕ) (r : Part) where
+  pub prints-ended : k < partLines → k ≤ m → Closes w n ns k 69 o r → Prints w n ns k m o r
   prints-ended h g c = record { ended = λ _ _. c; cut = λ a _. absurd (omega arith); filled = λ a _. absurd (omega arith) }
 
-  pub prints-cut : m < k → m < partLines → Closes n ns m 77 o r → Prints n ns k m o r
+  pub prints-cut : m < k → m < partLines → Closes w n ns m 77 o r → Prints w n ns k m o r
   prints-cut h g c = record { ended = λ _ d. absurd (omega arith); cut = λ _ _. c; filled = λ _ d. absurd (omega arith) }
 
-  pub prints-filled : partLines ≤ k → partLines ≤ m → Fills n ns partLines o r → Prints n ns k m o r
+  pub prints-filled : partLines ≤ k → partLines ≤ m → Fills w n ns partLines o r → Prints w n ns k m o r
   prints-filled h g f = record { ended = λ a _. absurd (omega arith); cut = λ _ d. absurd (omega arith); filled = λ e _. rw e f }
 
   -- Which of the three a page is.
@@ -81,13 +83,13 @@ module _ (s : Shape) (ws ranks : List ℕ) (from : Point) (m : ℕ) (o o′ : Li
   pub part-few : (rows : List ℤ) → Loaded s rows ws ranks → LawfulPoint (bookOf s rows) from → k ≤ partLines
   part-few rows d l = page-few s ws ranks from partLines o o′ k room-is f rows d l
 
-  module _ (out : List ℕ) (r : Part) (p : Prints (s .statements) o′ k m out r) (few : k ≤ partLines) where
+  module _ (w : ℕ) (ew : w ≡ lineFields (s .exceptions)) (out : List ℕ) (r : Part) (p : Prints w (s .statements) o′ k m out r) (few : k ≤ partLines) where
     module _ (rows : List ℤ) (d : Loaded s rows ws ranks) (l : LawfulPoint (bookOf s rows) from) where
       count : k ≡ length (pageFrom (bookOf s rows) partLines from)
       count = page-count s ws ranks from partLines o o′ k room-is f rows d l
 
-      pairs-all : linesOf (s .statements) (pairsIn o′ 0 k) ≡ linesOf (bookOf s rows .statements) (pageFrom (bookOf s rows) partLines from)
-      pairs-all = rw (page-all s ws ranks from partLines o o′ k room-is f rows d l, statements-same s rows) refl
+      pairs-all : linesOf w (s .statements) (pairsIn o′ 0 k) ≡ linesOf (fieldsIn (bookOf s rows)) (bookOf s rows .statements) (pageFrom (bookOf s rows) partLines from)
+      pairs-all = rw (page-all s ws ranks from partLines o o′ k room-is f rows d l, statements-same s rows, fields-same s rows, ew) refl
 
     ended : k < partLines → k ≤ m → Lists s ws ranks from m out r
     ended h g = let c = p .ended h g in record {
@@ -103,7 +105,7 @@ module _ (s : Shape) (ws ranks : List ℕ) (from : Point) (m : ℕ) (o o′ : Li
       fits = c .fits;
       fewer = λ t. absurd (clash (sym (c .not-full) ∙ t));
       whole = λ rows d l t.
-          let q : linesOf (s .statements) (pairsIn o′ 0 m) ≡ linesOf (bookOf s rows .statements) (take m (pageFrom (bookOf s rows) partLines from)) = rw (page-pairs s ws ranks from partLines o o′ k room-is f rows d l m (omega arith), statements-same s rows) refl in
+          let q : linesOf w (s .statements) (pairsIn o′ 0 m) ≡ linesOf (fieldsIn (bookOf s rows)) (bookOf s rows .statements) (take m (pageFrom (bookOf s rows) partLines from)) = rw (page-pairs s ws ranks from partLines o o′ k room-is f rows d l m (omega arith), statements-same s rows, fields-same s rows, ew) refl in
           c .is ∙ ap (λ (x : List ℕ). x ++ (77 ∷ 10 ∷ [])) q ∙ cut-listed (bookOf s rows) partLines m from (let e = count rows d l in omega arith);
       lawful = λ rows d l t. absurd (clash (sym (c .not-full) ∙ t));
       front = λ rows d l t. absurd (clash (sym (c .not-full) ∙ t));
@@ -122,11 +124,11 @@ module _ (s : Shape) (ws ranks : List ℕ) (from : Point) (m : ℕ) (o o′ : Li
         leads rows d l = ap (lastPoint from) (sym (rw h at (page-all s ws ranks from partLines o o′ k room-is f rows d l))) ∙ last-point (partLines - 1) 0 from o′ ∙ ap at (sym (p .filled h g .last))
 
     pub lists : Lists s ws ranks from m out r
-    lists = ⊎-elim (λ a. ended (a .0) (a .1)) (λ a. ⊎-elim (λ c. cut (c .0) (c .1)) (λ c. filled (c .0) (c .1)) a) (three-ways (s .statements) o′ k m out r few)
+    lists = ⊎-elim (λ a. ended (a .0) (a .1)) (λ a. ⊎-elim (λ c. cut (c .0) (c .1)) (λ c. filled (c .0) (c .1)) a) (three-ways w (s .statements) o′ k m out r few)
 
 pub few-taken : (s : Shape) (ws ranks : List ℕ) (p : Pair) → Ready s ws ranks p → p .taken < setCount
 few-taken s ws ranks p d =
-    let h : length (bookOf s (d .rows) .exceptions) ≤ limit.exceptions = rw (exceptions-count s (d .rows)) (d .loaded .exceptions) in
+    let h : length (bookOf s (d .rows) .exceptions) ≤ limit.exceptions = rw (exceptions-count s (d .rows)) (exceptions-in s (d .loaded .limits)) in
     lt-of-lt-of-le (d .lawful .exceptions) (pow-mono h)
 
 -- ---- from the text

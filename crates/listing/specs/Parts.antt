@@ -24,7 +24,7 @@ partLines = 1024
 
 -- The bytes of the longest line, of the closing line, and those that a part may need: so many of the longest lines, and the closing line.
 abbrev pub longestLine : ℕ
-longestLine = lineBytes limit.statements
+longestLine = lineBytes limit.exceptions limit.statements
 
 abbrev pub closingBytes : ℕ
 closingBytes = 2
@@ -34,23 +34,23 @@ partBytes = partLines * longestLine + closingBytes
 
 -- ---- a page in lines
 -- The lines of the first k pairs and a closing line with this letter.
-pub record Closes (n : ℕ) (ns : List ℕ) (k letter : ℕ) (o′ : List ℕ) (r : Part) : Type 0 where
+pub record Closes (w n : ℕ) (ns : List ℕ) (k letter : ℕ) (o′ : List ℕ) (r : Part) : Type 0 where
   pub fits : r .bytes ≤ length o′
   pub not-full : r .full ≡ false
-  pub is : take (r .bytes) o′ ≡ linesOf n (pairsIn ns 0 k) ++ (letter ∷ 10 ∷ [])
+  pub is : take (r .bytes) o′ ≡ linesOf w n (pairsIn ns 0 k) ++ (letter ∷ 10 ∷ [])
 
 -- The lines of all k pairs, and the last of them.
-pub record Fills (n : ℕ) (ns : List ℕ) (k : ℕ) (o′ : List ℕ) (r : Part) : Type 0 where
+pub record Fills (w n : ℕ) (ns : List ℕ) (k : ℕ) (o′ : List ℕ) (r : Part) : Type 0 where
   pub fits : r .bytes ≤ length o′
   pub is-full : r .full ≡ true
   pub last : r .last ≡ pairAt ns (partLines - 1)
-  pub is : take (r .bytes) o′ ≡ linesOf n (pairsIn ns 0 k)
+  pub is : take (r .bytes) o′ ≡ linesOf w n (pairsIn ns 0 k)
 
 -- A page of k pairs where m lines are left: `E` where that is all, `M` where it is more than may be printed, else the listing goes on.
-pub record Prints (n : ℕ) (ns : List ℕ) (k m : ℕ) (o′ : List ℕ) (r : Part) : Type 0 where
-  pub ended : k < partLines → k ≤ m → Closes n ns k 69 o′ r
-  pub cut : m < k → m < partLines → Closes n ns m 77 o′ r
-  pub filled : k ≡ partLines → partLines ≤ m → Fills n ns k o′ r
+pub record Prints (w n : ℕ) (ns : List ℕ) (k m : ℕ) (o′ : List ℕ) (r : Part) : Type 0 where
+  pub ended : k < partLines → k ≤ m → Closes w n ns k 69 o′ r
+  pub cut : m < k → m < partLines → Closes w n ns m 77 o′ r
+  pub filled : k ≡ partLines → partLines ≤ m → Fills w n ns k o′ r
 
 -- ---- of a book
 -- The words and ranks are those of some book of this shape, and the pair is lawful in it.

@@ -31,18 +31,18 @@ pub const CLOSING: usize = 2;
 // Room for a part.
 pub type Text = [u8; PART * LONGEST + CLOSING];
 
-// The lines of the first k pairs of a page, in front of a buffer; how many bytes they have.
-pub fn put_lines(out: &mut [u8], n: usize, pairs: &[u64], k: usize) -> usize
-    requires { ⌜ (n ≤ limit.statements) × (k * 3 ≤ length (now pairs)) × (k * lineBytes n ≤ length (now out)) ⌝ }
-    ensures { λ r. ⌜ (now (out .exit) ≡ sets (now (out .entry)) 0 (linesOf n (pairsIn (now (pairs .entry)) 0 k))) × (r ≡ k * lineBytes n) ⌝ }
+// The lines of the first k pairs of a page, with w fields for exceptions, in front of a buffer; how many bytes they have.
+pub fn put_lines(out: &mut [u8], w: usize, n: usize, pairs: &[u64], k: usize) -> usize
+    requires { ⌜ (w ≤ limit.exceptions) × (n ≤ limit.statements) × (k * 3 ≤ length (now pairs)) × (k * lineBytes w n ≤ length (now out)) ⌝ }
+    ensures { λ r. ⌜ (now (out .exit) ≡ sets (now (out .entry)) 0 (linesOf w n (pairsIn (now (pairs .entry)) 0 k))) × (r ≡ k * lineBytes w n) ⌝ }
 {
-    let w = LONGEST - Book::STATEMENTS + n;
+    let bytes = line::line_bytes(w, n);
     let mut i = 0;
     let mut at = 0;
     while i < k {
         let p = page::pair_at(pairs, i);
-        line::put_line(out, at, n, p);
-        at = at + w;
+        line::put_line(out, at, w, n, p);
+        at = at + bytes;
         i += 1;
     }
     at
@@ -65,11 +65,11 @@ pub struct Part {
 }
 
 // The first k pairs of a page in lines, and a closing line: no part follows.
-pub fn close_part(out: &mut [u8], n: usize, pairs: &[u64], k: usize, letter: u8) -> Part
-    requires { ⌜ (n ≤ limit.statements) × (k ≤ partLines) × (k * 3 ≤ length (now pairs)) × (length (now out) ≡ partBytes) ⌝ }
-    ensures { λ r. ⌜ Closes n (now (pairs .entry)) k letter (now (out .exit)) r ⌝ }
+pub fn close_part(out: &mut [u8], w: usize, n: usize, pairs: &[u64], k: usize, letter: u8) -> Part
+    requires { ⌜ (w ≤ limit.exceptions) × (n ≤ limit.statements) × (k ≤ partLines) × (k * 3 ≤ length (now pairs)) × (length (now out) ≡ partBytes) ⌝ }
+    ensures { λ r. ⌜ Closes w n (now (pairs .entry)) k letter (now (out .exit)) r ⌝ }
 {
-    let at = put_lines(out, n, pairs, k);
+    let at = put_lines(out, w, n, pairs, k);
     put_closing(out, at, letter);
     Part {
         bytes: at + CLOSING,
@@ -83,21 +83,21 @@ pub fn close_part(out: &mut [u8], n: usize, pairs: &[u64], k: usize, letter: u8)
 }
 
 // The lines of a page of k pairs, where m lines are left to be printed: the closing line too, unless the page is full and more may come.
-pub fn put_part(out: &mut [u8], n: usize, pairs: &[u64], k: usize, m: usize) -> Part
-    requires { ⌜ (n ≤ limit.statements) × (k ≤ partLines) × (length (now pairs) ≡ partLines * 3) × (length (now out) ≡ partBytes) ⌝ }
-    ensures { λ r. ⌜ Prints n (now (pairs .entry)) k m (now (out .exit)) r ⌝ }
+pub fn put_part(out: &mut [u8], w: usize, n: usize, pairs: &[u64], k: usize, m: usize) -> Part
+    requires { ⌜ (w ≤ limit.exceptions) × (n ≤ limit.statements) × (k ≤ partLines) × (length (now pairs) ≡ partLines * 3) × (length (now out) ≡ partBytes) ⌝ }
+    ensures { λ r. ⌜ Prints w n (now (pairs .entry)) k m (now (out .exit)) r ⌝ }
 {
     if k < PART {
         if k <= m {
-            return close_part(out, n, pairs, k, b'E');
+            return close_part(out, w, n, pairs, k, b'E');
         }
-        return close_part(out, n, pairs, m, b'M');
+        return close_part(out, w, n, pairs, m, b'M');
     }
     if m < PART {
-        return close_part(out, n, pairs, m, b'M');
+        return close_part(out, w, n, pairs, m, b'M');
     }
     Part {
-        bytes: put_lines(out, n, pairs, PART),
+        bytes: put_lines(out, w, n, pairs, PART),
         full: true,
         last: page::pair_at(pairs, PART - 1),
     }
@@ -108,9 +108,10 @@ pub fn opening(words: &Words, ranks: &Ranks, s: Shape, out: &mut Text) -> Part
     requires { ⌜ Prepared s (now words) (now ranks) ⌝ }
     ensures { λ r. ⌜ Lists s (now (words .entry)) (now (ranks .entry)) start mostLines (now (out .exit)) r ⌝ }
 {
+    let w = line::line_fields(s.exceptions);
     let mut pairs = [0u64; PART * 3];
     let k = engine::first_in(words, ranks, s, &mut pairs);
-    put_part(out, s.statements, &pairs, k, MOST)
+    put_part(out, w, s.statements, &pairs, k, MOST)
 }
 
 // The part after a pair, where m lines are left to be printed.
@@ -118,9 +119,10 @@ pub fn go_on(words: &Words, ranks: &Ranks, s: Shape, p: Pair, m: usize, out: &mu
     requires { ⌜ Ready s (now words) (now ranks) p ⌝ }
     ensures { λ r. ⌜ Lists s (now (words .entry)) (now (ranks .entry)) (at p) m (now (out .exit)) r ⌝ }
 {
+    let w = line::line_fields(s.exceptions);
     let mut pairs = [0u64; PART * 3];
     let k = engine::after_in(words, ranks, s, p, &mut pairs);
-    put_part(out, s.statements, &pairs, k, m)
+    put_part(out, w, s.statements, &pairs, k, m)
 }
 
 // The line of a refusal.

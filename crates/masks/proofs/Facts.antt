@@ -1,4 +1,4 @@
--- What the search needs to know of a view (ALGORITHM.md, facts (a) to (f)): (a), (b), (c), (e), (f) are fields of MaskView; here are (d) and the bound by a closure.
+-- What the search needs to know of a view (docs/SEARCH.md, facts (a) to (f)): (a), (b), (c), (e), (f) are fields of MaskView; here are (d) and the bound by a closure.
 -- Both are its field `least` at a well chosen closed pair: the view without an unsupported set, and what the view shares with a closure.
 use mathlib.Core.Path.{_≡_}
 use mathlib.Core.List.{List}

@@ -1,4 +1,4 @@
--- Each test of specs/Verdicts decides its definition.
+-- Each test of specs/Twins/Verdicts decides its definition.
 use mathlib.Core.Path.{_≡_, refl, sym, ap, _∙_}
 use mathlib.Core.Bool.{Bool, true, false, not}
 use mathlib.Core.List.{List, _++_}

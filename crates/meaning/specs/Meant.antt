@@ -1,11 +1,13 @@
 -- The book that the rows of a number table stand for (document 01, 'A book and its lines'): R rows, then X rows, then P rows.
-use Prim.Native.Nat.{ℕ, zero, suc, _+_, _*_}
+use Prim.Native.Nat.{ℕ, zero, suc, _+_}
 use mathlib.Core.List.{List, [], _∷_, _++_}
 use lib.IntN.{ℤ, negsuc}
 use lib.IntN as Z
 use lib.ListN.{getD}
 use Rattle.book.specs.declared.Shape.{Shape}
-use Rattle.book.specs.Kinds.{entriesEach, ruleFields, preferenceFields}
+use Rattle.book.specs.Kinds as kind
+use Rattle.book.specs.Kinds.{entriesEach, ruleNumbers, preferenceNumbers}
+use Rattle.book.specs.Counts.{startOf}
 use Rattle.meaning.specs.Literals.{Literal, pos, neg}
 use Rattle.meaning.specs.Rules.{Head, none, gives, Rule}
 use Rattle.meaning.specs.Books.{Book}
@@ -43,18 +45,18 @@ ruleAt t k = record { head = headOf (at t k); body = record { needed = entriesAt
 -- The rules of m rows from k on.
 unfoldable pub rulesAt : List ℤ → ℕ → ℕ → List Rule
 rulesAt t k zero = []
-rulesAt t k (suc m) = ruleAt t k ∷ rulesAt t (k + ruleFields) m
+rulesAt t k (suc m) = ruleAt t k ∷ rulesAt t (k + ruleNumbers) m
 
 -- The preferences of m rows from k on: exception a before b.
 unfoldable pub preferencesAt : List ℤ → ℕ → ℕ → List (ℕ × ℕ)
 preferencesAt t k zero = []
-preferencesAt t k (suc m) = (number (at t k), number (at t (k + 1))) ∷ preferencesAt t (k + preferenceFields) m
+preferencesAt t k (suc m) = (number (at t k), number (at t (k + 1))) ∷ preferencesAt t (k + preferenceNumbers) m
 
 -- The book of this shape with these rows.
 unfoldable pub bookOf : Shape → List ℤ → Book
 bookOf s t = record {
   statements = s .statements;
-  plain = rulesAt t 0 (s .plain);
-  exceptions = rulesAt t (s .plain * ruleFields) (s .exceptions);
-  preferences = preferencesAt t ((s .plain + s .exceptions) * ruleFields) (s .preferences);
+  plain = rulesAt t (startOf s kind.plain) (s .plain);
+  exceptions = rulesAt t (startOf s kind.exception) (s .exceptions);
+  preferences = preferencesAt t (startOf s kind.preference) (s .preferences);
 }

@@ -1,4 +1,4 @@
--- Preferences (source 000, Definition 4).
+-- Preferences (source 000, named in Published, Definition 4).
 use Prim.Native.Nat.{ℕ}
 use mathlib.Core.List.{List}
 use Rattle.logic.specs.Lists.{Among}

@@ -1,4 +1,4 @@
--- The published form of a resolution: source 000, Definition 7, and source 003, Definition 2.8.
+-- The published form of a resolution: source 000 (M. Balduccini, CR-MODELS: An Inference Engine for CR-Prolog), Definition 7, and source 003 (the same, Computing Answer Sets of CR-Prolog Programs, 2006), Definition 2.8.
 use Rattle.sets.specs.Sets.{ProperSubset}
 use Rattle.sets.specs.declared.Pair.{Pair}
 use Rattle.meaning.specs.Books.{Book}

@@ -1,4 +1,4 @@
--- Resolutions and verdicts (source 000, Definition 7; source 003, Definition 2.8).
+-- Resolutions and verdicts (sources in Published: 000, Definition 7; 003, Definition 2.8).
 use Prim.Native.Nat.{ℕ}
 use Rattle.sets.specs.Sets.{ProperSubset}
 use Rattle.sets.specs.declared.Pair.{Pair}

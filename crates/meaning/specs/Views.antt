@@ -1,4 +1,4 @@
--- Views and domination (source 000, Definitions 5 and 6).
+-- Views and domination (source 000, named in Published, Definitions 5 and 6).
 use Prim.Native.Nat.{ℕ}
 use mathlib.Core.Bool.{true}
 use mathlib.Core.Path.{_≡_}

@@ -9,6 +9,7 @@ use lib.Pow.{pow-mono}
 use Rattle.sets.specs.declared.Pair.{Pair}
 use Rattle.sets.specs.Pairs.{flat}
 use Rattle.book.specs.declared.Shape.{Shape}
+use Rattle.book.proofs.Counts.{exceptions-in}
 use Rattle.book.specs.Limits as limit
 use Rattle.book.specs.Kinds.{setCount}
 use Rattle.text.specs.declared.Refusal.{Refusal}
@@ -98,7 +99,7 @@ module _ (bs : List ℕ) (s : Shape) (ws ranks : List ℕ) (d : (rows : List ℤ
     lawful-was e = none-lawful (bookOf s (d .0)) p (sym same ∙ e)
 
     pub few-taken : k ≡ 0 → p .taken < setCount
-    few-taken e = let h : length (bookOf s (d .0) .exceptions) ≤ limit.exceptions = rw (exceptions-count s (d .0)) (d .2 .exceptions) in lt-of-lt-of-le (lawful-was e .exceptions) (pow-mono h)
+    few-taken e = let h : length (bookOf s (d .0) .exceptions) ≤ limit.exceptions = rw (exceptions-count s (d .0)) (exceptions-in s (d .2 .limits)) in lt-of-lt-of-le (lawful-was e .exceptions) (pow-mono h)
 
     pub after-refused : (k ≡ 0 → ⊥) → answerOf (Refused (record { number = k; line = 0 })) ≡ afterAnswer bs p
     unfolding answerOf afterAnswer onText

@@ -1,40 +1,62 @@
 -- A parsed text is loaded: an accepted book's facts are what packing its rules and its preferences ask of its rows.
-use mathlib.Core.Path.{_≡_, sym}
+use mathlib.Core.Path.{_≡_, refl, sym}
+use mathlib.Core.Bool.{Bool, true, false}
 use mathlib.Core.List.{List}
-use Prim.Native.Nat.{ℕ, _+_, _*_}
+use Prim.Native.Nat.{ℕ, _+_, _-_, _*_, _<_, _≤_}
 use native.Mathlib.Omega.{arith}
-use lib.IntN.{ℤ}
-use lib.ListN.{take}
+use lib.Dec.{ltb}
+use lib.IntN.{ℤ, natAbs}
+use lib.ListN.{length, take, length-take}
+use lib.Seq.{length-take-le}
+use borrow.Author.Tests.{ltb-true, ltb-false}
 use Rattle.book.specs.declared.Shape.{Shape}
-use Rattle.book.specs.Kinds.{ruleFields, preferenceFields}
+use Rattle.book.specs.Kinds.{plain, exception, preference, ruleNumbers, preferenceNumbers}
+use Rattle.book.specs.Counts.{countsOf, allCounts, countOf, startOf, rowNumbers, InLimits}
 use Rattle.text.specs.declared.Refusal.{Refusal}
 use Rattle.text.specs.declared.Reading.{Reading}
 use Rattle.text.specs.declared.Reading.the-variants.{Accepted, Refused}
 use Rattle.text.specs.Reading.{readText}
 use Rattle.text.specs.Reading.Outcome.{accepted, refused}
-use Rattle.text.specs.Accepted.{ruleNumbers, rowNumbers, Accepted as Facts}
+use Rattle.text.specs.Accepted.{Accepted as Facts}
+use Rattle.text.proofs.Facts.{plain-rules, exception-rules, entry-small, preference-named}
 use Rattle.read.specs.Storing.{outcomeOf}
 use Rattle.read.specs.Parsing.{Parsing}
-use Rattle.meaning.specs.Meant.{number}
-use Rattle.bridge.specs.Rows.{RowsLawful}
-use Rattle.engine.specs.Loaded.{Loaded, Small}
+use Rattle.meaning.specs.Meant.{at, number, bookOf}
+use Rattle.bridge.specs.Packed.{Packs}
+use Rattle.bridge.specs.Ranks.{Names, RanksOf}
+use Rattle.bridge.specs.Rows.{ruleStart, ruleCount, RowsLawful}
+use Rattle.bridge.proofs.Rows.{start-plain, start-late}
+use Rattle.engine.specs.Loaded.{Loaded}
 use Rattle.operations.specs.Loads.{Loads, Filled}
 
 -- The facts of an accepted book, row by row.
+entries-lawful : (s : Shape) (ws : List ℤ) → Facts s ws → (k : ℕ) → k < ruleCount s → (i : ℕ) → i < ruleNumbers → natAbs (at ws (ruleStart s k + i)) ≤ s .statements
+unfolding countOf allCounts countsOf
+entries-lawful s ws f k h i l = go (ltb k (s .plain)) refl
+  where
+    go : (b : Bool) → ltb k (s .plain) ≡ b → natAbs (at ws (ruleStart s k + i)) ≤ s .statements
+    go true p = let z = ltb-true k (s .plain) p in rw (start-plain (s .plain) (startOf s plain) (startOf s exception) k z) (entry-small s ws f plain plain-rules k i z l)
+    go false p =
+        let z = ltb-false k (s .plain) p in
+        rw (start-late (s .plain) (startOf s plain) (startOf s exception) k z) (entry-small s ws f exception exception-rules (k - s .plain) i (omega arith) l)
+
+names-lawful : (s : Shape) (ws : List ℤ) → Facts s ws → (k : ℕ) → k < s .preferences → (i : ℕ) → i < preferenceNumbers → Names (s .exceptions) (number (at ws (startOf s preference + k * preferenceNumbers + i)))
+unfolding number countOf allCounts countsOf
+names-lawful s ws f k h i l = let n = preference-named s ws f k i h l in rw (n .is) (record { from-one = n .low; most = n .high })
+
 pub lawful-rows : (s : Shape) (ws : List ℤ) → Facts s ws → RowsLawful s ws
-unfolding number
-lawful-rows s ws f = record {
-  statements = f .statements;
-  plain = f .plain;
-  exceptions = f .exceptions;
-  preferences = f .preferences;
-  room = rw (f .size) (omega arith);
-  entries = λ k h i l. f .entries (k * ruleFields + i) (omega arith);
-  names = λ k h i l.
-      let n = f .named (k * preferenceFields + i) (omega arith) in
-      let e : ruleNumbers s + k * preferenceFields + i ≡ ruleNumbers s + (k * preferenceFields + i) = omega arith in
-      rw (e, n .is) (record { from-one = n .low; most = n .high });
-}
+lawful-rows s ws f = record { limits = f .limits; room = rw (f .size) (omega arith); entries = entries-lawful s ws f; names = names-lawful s ws f }
+
+-- The same of the front of a slice that has them.
+module _ (s : Shape) (rows : List ℤ) (m : ℕ) (e : m ≡ rowNumbers s) (f : Facts s (take (rowNumbers s) rows)) where
+  pub front-long : m ≡ length (take m rows)
+  front-long = sym (length-take-le m rows (omega (arith, e, f .size, length-take (rowNumbers s) rows)))
+
+  pub front-lawful : RowsLawful s (take m rows)
+  front-lawful = rw e (lawful-rows s (take (rowNumbers s) rows) f)
+
+  pub front-filled : (ws ranks : List ℕ) → Packs (bookOf s (take m rows)) ws (ruleCount s) → RanksOf (bookOf s (take m rows)) ranks → Filled s (take (rowNumbers s) rows) ws ranks
+  front-filled ws ranks p k = record { packs = rw e at p; ranked = rw e at k }
 
 module _ (bs : List ℕ) (r : Reading) (l : List ℤ) (p : Parsing bs r l) where
   pub loads-refused : (q : Refusal) → r ≡ Refused q → (ws ranks : List ℕ) → Loads bs (Refused q) ws ranks
@@ -45,7 +67,7 @@ module _ (bs : List ℕ) (r : Reading) (l : List ℤ) (p : Parsing bs r l) where
   unfolding Loads outcomeOf
   loads-accepted s e ws ranks k =
       let f = p .facts s e in
-      (take (rowNumbers s) l, sym (rw e at (p .is)), record { packs = k .packs; ranked = k .ranked; statements = f .statements; plain = f .plain; exceptions = f .exceptions })
+      (take (rowNumbers s) l, sym (rw e at (p .is)), record { packs = k .packs; ranked = k .ranked; limits = f .limits })
 
 -- What a loaded text was.
 pub refused-was : (bs : List ℕ) (r : Reading) (q : Refusal) (ws ranks : List ℕ) → r ≡ Refused q → Loads bs r ws ranks → readText bs ≡ refused (q .number) (q .line)
@@ -56,5 +78,5 @@ pub accepted-was : (bs : List ℕ) (r : Reading) (s : Shape) (ws ranks : List �
 unfolding Loads
 accepted-was bs r s ws ranks e l = rw e at l
 
-pub small-was : (bs : List ℕ) (r : Reading) (s : Shape) (ws ranks : List ℕ) → r ≡ Accepted s → Loads bs r ws ranks → Small s
-small-was bs r s ws ranks e l = let k = accepted-was bs r s ws ranks e l .2 in record { statements = k .statements; plain = k .plain; exceptions = k .exceptions }
+pub small-was : (bs : List ℕ) (r : Reading) (s : Shape) (ws ranks : List ℕ) → r ≡ Accepted s → Loads bs r ws ranks → InLimits s
+small-was bs r s ws ranks e l = accepted-was bs r s ws ranks e l .2 .limits

@@ -4,7 +4,8 @@ ghost use mathlib.Core.List.{[], _∷_};
 ghost use Prim.Native.Nat.{_+_, _*_, _/_, _≤_};
 ghost use lib.ListN.{length, take};
 ghost use lib.Seq.{sets};
-ghost use Rattle.text.specs.Accepted.{rowNumbers, Accepted as Facts};
+ghost use Rattle.book.specs.Counts.{rowNumbers};
+ghost use Rattle.text.specs.Accepted.{Accepted as Facts};
 ghost use Rattle.meaning.specs.Order.{start, at};
 ghost use Rattle.meaning.specs.Listings.{refused, FirstLater, answered};
 ghost use Rattle.answers.specs.Operations.{turned, answerOf, verdictOf, firstAnswer, afterAnswer, judgeAnswer, firstPage, pageAfter, PageMet, asks};
@@ -27,7 +28,7 @@ pub fn fill(s: Shape, rows: &[i32], words: &mut Words, ranks: &mut Ranks)
     requires { ⌜ Facts s (take (rowNumbers s) (now rows)) ⌝ }
     ensures { λ _. ⌜ Filled s (take (rowNumbers s) (now (rows .entry))) (now (words .exit)) (now (ranks .exit)) ⌝ }
 {
-    let m = (s.plain + s.exceptions) * Book::RULE_FIELDS + s.preferences * Book::PREFERENCE_FIELDS;
+    let m = book::row_numbers(s);
     prepare::pack(s, &rows[..m], words);
     prepare::rank(s, &rows[..m], ranks);
 }

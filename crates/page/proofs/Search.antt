@@ -23,7 +23,7 @@ use Rattle.page.specs.declared.Branch.{Branch}
 use Rattle.page.specs.declared.Branch.the-variants.{Cut, Open}
 use Rattle.page.specs.Orders.{bare, given, tried, allFrom, passes, listFrom}
 use Rattle.sets.specs.Pairs.{flat}
-use Rattle.page.specs.Pages.{Tests, Fits, Ready, Settled, passing, triedFrom, Tried, branchFrom, BranchReady, Child, Branched, Listed}
+use Rattle.page.specs.Pages.{Tests, Fits, Ready, Settled, passing, triedFrom, Tried, branchFrom, TriedOne, BranchReady, Child, Branched, Listed}
 use Rattle.page.proofs.Pages.{page-none, page-full, page-append, page-one}
 use Rattle.page.proofs.General.{keep-append}
 
@@ -105,31 +105,39 @@ module _ (ws ranks : List ℕ) (q : Task) (left v : ℕ) (d : Node) (n : v ≡ 0
     tests-rest : Tests ws (q .rules) ranks (triedFrom q left (v - 1) d) g
     tests-rest = record { right = λ u m. t .right u (rw tried-split (among-right u (branchFrom q left (3 - v) d) (triedFrom q left (v - 1) d) m)) }
 
-module _ (ws ranks : List ℕ) (q : Task) (left v : ℕ) (d : Node) (at : ℕ) (o : List ℕ) (rd : Ready ws ranks o q left at) where
-  pub try-none : v ≡ 0 → Tried ws ranks q (left - 1) v d at o o at
-  unfolding tried keep
-  try-none e = rw e (record { most = rd .fits .place; page = λ h g tg. page-none (q .room) at o })
+-- One value: the page is full, the branch is cut, or it goes on from a child.
+module _ (ws ranks : List ℕ) (q : Task) (left w : ℕ) (d : Node) (at : ℕ) (o : List ℕ) (rd : Ready ws ranks o q left at) where
+  pub one-full : q .room ≤ at → TriedOne ws ranks q (left - 1) w d at o o at
+  one-full l = record { most = rd .fits .place; page = λ h g tg. page-full (q .room) at o _ l }
 
-  pub try-full : q .room ≤ at → Tried ws ranks q (left - 1) v d at o o at
-  try-full l = record { most = rd .fits .place; page = λ h g tg. page-full (q .room) at o _ l }
+  module _ (b : Branch) (br : Branched ws ranks q (left - 1) w d b) where
+    pub one-cut : b ≡ Cut → TriedOne ws ranks q (left - 1) w d at o o at
+    one-cut e = record { most = rd .fits .place; page = λ h g tg. rw (br .cut e h g tg) (page-none (q .room) at o) }
 
-  module _ (n : v ≡ 0 → ⊥) (b : Branch) (br : Branched ws ranks q (left - 1) (3 - v) d b) where
-    pub try-cut : b ≡ Cut → (o′ : List ℕ) (r : ℕ) → Tried ws ranks q (left - 1) (v - 1) d at o o′ r → Tried ws ranks q (left - 1) v d at o o′ r
-    try-cut e o′ r t = record {
-      most = t .most;
-      page = λ h g tg. rw (tried-passing ws ranks q (left - 1) v d n g, br .cut e h g (tests-branch ws ranks q (left - 1) v d n g tg))
-          (t .page h g (tests-rest ws ranks q (left - 1) v d n g tg));
-    }
-
-    pub try-open : (c : Node) → b ≡ Open c → (o′ o″ : List ℕ) (r r′ : ℕ) → Settled ws ranks q (left - 1) c at o o′ r → Tried ws ranks q (left - 1) (v - 1) d r o′ o″ r′ → Tried ws ranks q (left - 1) v d at o o″ r′
-    try-open c e o′ o″ r r′ s t = record {
-      most = t .most;
+    pub one-open : (c : Node) → b ≡ Open c → (o′ : List ℕ) (r : ℕ) → Settled ws ranks q (left - 1) c at o o′ r → TriedOne ws ranks q (left - 1) w d at o o′ r
+    one-open c e o′ r s = record {
+      most = s .most;
       page = λ h g tg.
-          let k : Child ws ranks q (left - 1) (3 - v) d c = br .opened c e in
-          let u : Tests ws (q .rules) ranks (branchFrom q (left - 1) (3 - v) d) g = tests-branch ws ranks q (left - 1) v d n g tg in
-          rw (tried-passing ws ranks q (left - 1) v d n g, k .same g)
-          (page-append (q .room) at r r′ o o′ o″ _ _ (s .page (k .covers h) g (rw (k .pair) u)) (t .page h g (tests-rest ws ranks q (left - 1) v d n g tg)));
+          let k : Child ws ranks q (left - 1) w d c = br .opened c e in
+          rw (k .same g) (s .page (k .covers h) g (rw (k .pair) tg));
     }
+
+-- The last v values: the first of them and the others, or the last alone.
+module _ (ws ranks : List ℕ) (q : Task) (left : ℕ) (d : Node) (at : ℕ) (o : List ℕ) where
+  pub try-one : (v : ℕ) → (v ≡ 0 → ⊥) → (r r′ : ℕ) (o′ o″ : List ℕ) → TriedOne ws ranks q left (3 - v) d at o o′ r → Tried ws ranks q left (v - 1) d r o′ o″ r′
+      → Tried ws ranks q left v d at o o″ r′
+  try-one v n r r′ o′ o″ s t = record {
+    most = t .most;
+    page = λ h g tg. rw (tried-passing ws ranks q left v d n g)
+        (page-append (q .room) at r r′ o o′ o″ _ _ (s .page h g (tests-branch ws ranks q left v d n g tg)) (t .page h g (tests-rest ws ranks q left v d n g tg)));
+  }
+
+  try-none : (r : ℕ) (o′ : List ℕ) → r ≤ q .room → Tried ws ranks q left 0 d r o′ o′ r
+  unfolding tried keep
+  try-none r o′ l = record { most = l; page = λ h g tg. page-none (q .room) r o′ }
+
+  pub try-last : (v : ℕ) → v ≡ 1 → (r : ℕ) (o′ : List ℕ) → TriedOne ws ranks q left 2 d at o o′ r → Tried ws ranks q left v d at o o′ r
+  try-last v e r o′ s = rw e (try-one 1 (λ z. omega arith) r r o′ o′ s (try-none r o′ (s .most)))
 
 -- ---- the whole search
 module _ (ws ranks : List ℕ) (q : Task) (taken : ℕ) (b : Bounds) (t : Bool) (at : ℕ) (o : List ℕ) where

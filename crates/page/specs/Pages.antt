@@ -102,6 +102,12 @@ pub record Tried (ws ranks : List ℕ) (q : Task) (left v : ℕ) (d : Node) (at 
 abbrev pub branchFrom : Task → ℕ → ℕ → Node → List Pair
 branchFrom q left w d = allFrom (q .statements) left (given (d .pair) (q .statements - left) w)
 
+-- Trying this value: the page of the views among those pairs.
+pub record TriedOne (ws ranks : List ℕ) (q : Task) (left w : ℕ) (d : Node) (at : ℕ) (o o′ : List ℕ) (r : ℕ) : Type 0 where
+  pub most : r ≤ q .room
+  pub page : Covered ws ranks q (suc left) d → (g : Pair → Bool) → Tests ws (q .rules) ranks (branchFrom q left w d) g
+      → Page (q .room) at o o′ (passing g q (suc left) d (branchFrom q left w d)) r
+
 -- What a branch needs: the statement is one of the book's, the value one of three.
 pub record BranchReady (ws ranks : List ℕ) (q : Task) (left w : ℕ) : Type 0 where
   pub suits : Suits ws ranks q

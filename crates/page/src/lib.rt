@@ -12,7 +12,7 @@ ghost use Rattle.probe.specs.declared.Answer.the-variants.{Nothing};
 ghost use Rattle.meaning.specs.Order.{value as valueOf};
 ghost use Rattle.page.specs.Orders.{about as aboutOf, said as saidOf, given as givenOf};
 ghost use Rattle.sets.specs.Pairs.{flat};
-ghost use Rattle.page.specs.Pages.{pairAt, Giving, ViewGiving, Barren, Fits, BranchReady, Ready, Settled, Tried, Branched, Listed};
+ghost use Rattle.page.specs.Pages.{pairAt, Giving, ViewGiving, Barren, Fits, BranchReady, Ready, Settled, Tried, TriedOne, Branched, Listed};
 use masks::Bounds;
 use probe::Answer;
 use queue::Rest;
@@ -199,7 +199,7 @@ pub fn glimpse(
     if sets::within(b.lo, hint) && sets::within(hint, b.hi) {
         return Answer::Found(hint);
     }
-    probe::probe(words, n, ranks, index, waiting::none(live), b)
+    probe::ask(words, n, ranks, index, waiting::none(live), b)
 }
 
 // The branch of a value at a statement that `left` others follow: cut if it comes before the point, forced conclusions clash,
@@ -341,34 +341,53 @@ pub fn values(
     out: &mut [u64],
     place: Place,
 ) -> Place
-    requires { ⌜ (Ready (now words) (now ranks) (now out) task left (place .at)) × (0 < left) × (rest ≤ 3) × Chains (now words) (task .rules) (now index) ⌝ }
+    requires { ⌜ (Ready (now words) (now ranks) (now out) task left (place .at)) × (0 < left) × (0 < rest) × (rest ≤ 3) × Chains (now words) (task .rules) (now index) ⌝ }
     ensures { λ r. ⌜ Tried (now (words .entry)) (now (ranks .entry)) task (left - 1) rest node (place .at) (now (out .entry)) (now (out .exit)) (r .at) ⌝ }
 {
-    if rest == 0 {
-        return place;
+    if rest == 1 {
+        return try_value(words, ranks, index, task, left, DENIED, node, out, place);
     }
-    if task.room <= place.at {
-        return place;
-    }
-    let b = branch_of(
+    let r = try_value(
         words,
         ranks,
         index,
         task,
-        left - 1,
+        left,
         VALUES - rest,
         node,
-        place.dry,
+        out,
+        place,
     );
+    values(words, ranks, index, task, left, rest - 1, node, out, r)
+}
+
+// Tries one of them. What a branch takes on the stack is here, once for each statement, and not in the calls for the values before it.
+pub fn try_value(
+    words: &[u64],
+    ranks: &[u64],
+    index: &Index,
+    task: Task,
+    left: u64,
+    value: u64,
+    node: Node,
+    out: &mut [u64],
+    place: Place,
+) -> Place
+    requires { ⌜ (Ready (now words) (now ranks) (now out) task left (place .at)) × (0 < left) × (value ≤ 2) × Chains (now words) (task .rules) (now index) ⌝ }
+    ensures { λ r. ⌜ TriedOne (now (words .entry)) (now (ranks .entry)) task (left - 1) value node (place .at) (now (out .entry)) (now (out .exit)) (r .at) ⌝ }
+{
+    if task.room <= place.at {
+        return place;
+    }
+    let b = branch_of(words, ranks, index, task, left - 1, value, node, place.dry);
     match b {
-        Branch::Cut => values(words, ranks, index, task, left, rest - 1, node, out, place),
+        Branch::Cut => place,
         Branch::Open(c) => {
             let next = Place {
                 at: place.at,
                 dry: std::num::wrapping_add_u64(place.dry, 1),
             };
-            let r = settle(words, ranks, index, task, left - 1, c, out, next);
-            values(words, ranks, index, task, left, rest - 1, node, out, r)
+            settle(words, ranks, index, task, left - 1, c, out, next)
         }
     }
 }

@@ -12,14 +12,19 @@ use borrow.Author.Count.{below-more}
 use borrow.Author.Tests.{lt-ltb, le-ltb}
 use Rattle.logic.specs.Tests.{pick}
 use Rattle.book.specs.declared.Shape.{Shape}
-use Rattle.book.specs.Kinds.{ruleFields}
+use Rattle.book.specs.Limits as limit
+use Rattle.book.specs.Kinds.{plain, exception, ruleNumbers}
+use Rattle.book.specs.Kinds.{none as all-kinds}
+use Rattle.book.specs.Counts.{startOf}
+use Rattle.book.proofs.Counts.{plain-in, exceptions-in, sum-up, sum-all, numbers-most}
 use Rattle.sets.proofs.Digits.{lt-or-le}
 use Rattle.meaning.specs.Meant.{at, ruleAt, rulesAt, bookOf}
 use Rattle.meaning.specs.Rules.{Head, none, gives}
 use Rattle.meaning.specs.Literals.{pos, neg}
 use Rattle.masks.specs.declared.Masks.{Masks}
 use Rattle.bridge.specs.Packed.{maskOf, maskHead, Tagged, masksOf, plainly, numbered, rulesOf, blank, Packs}
-use Rattle.bridge.specs.Rows.{ruleCount, RowsLawful}
+use Rattle.bridge.specs.Rows.{startAt, ruleStart, ruleCount, RowsLawful}
+use Rattle.bridge.proofs.Rows.{start-plain, start-late, rule-in}
 use Rattle.bridge.proofs.Entries.{none-taken}
 use Rattle.prepare.specs.Packing.{Readable, ownOf, wordsOf, PackedTo}
 use Rattle.prepare.proofs.Stores.{put-here, put-before}
@@ -40,55 +45,62 @@ own-suc r k =
     (lt-or-le k r)
 
 -- ---- the book's rules by rows
+start-suc : (r a b k : ℕ) → startAt (suc r) a b (suc k) ≡ startAt r (a + ruleNumbers) b k
+start-suc r a b k =
+    ⊎-elim (λ (h : k < r). start-plain (suc r) a b (suc k) (omega arith) ∙ (omega (arith, start-plain r (a + ruleNumbers) b k h)))
+    (λ (h : r ≤ k). let e : suc k - suc r ≡ k - r = omega arith in start-late (suc r) a b (suc k) (omega arith) ∙ rw e (sym (start-late r (a + ruleNumbers) b k h)))
+    (lt-or-le k r)
+
 module _ (t : List ℤ) where
-  late-at : (j s x k : ℕ) → k < x → getD (numbered j (rulesAt t s x)) k blank ≡ record { own = 2 ^ (j + k); rule = ruleAt t (s + k * ruleFields) }
+  late-at : (j s x k : ℕ) → k < x → getD (numbered j (rulesAt t s x)) k blank ≡ record { own = 2 ^ (j + k); rule = ruleAt t (s + k * ruleNumbers) }
   unfolding numbered rulesAt
   late-at j s zero k h = absurd (omega arith)
-  late-at j s (suc x) zero h = let e : j + 0 ≡ j = omega arith in let f : s + 0 * ruleFields ≡ s = omega arith in rw (e, f) refl
+  late-at j s (suc x) zero h = let e : j + 0 ≡ j = omega arith in let f : s + 0 * ruleNumbers ≡ s = omega arith in rw (e, f) refl
   late-at j s (suc x) (suc k) h =
-      let e : j + suc k ≡ suc j + k = omega arith in let f : s + suc k * ruleFields ≡ s + ruleFields + k * ruleFields = omega arith in
-      rw (e, f) (late-at (suc j) (s + ruleFields) x k (omega arith))
+      let e : j + suc k ≡ suc j + k = omega arith in let f : s + suc k * ruleNumbers ≡ s + ruleNumbers + k * ruleNumbers = omega arith in
+      rw (e, f) (late-at (suc j) (s + ruleNumbers) x k (omega arith))
 
-  rule-at : (s r x k : ℕ) → k < r + x → getD (plainly (rulesAt t s r) ++ numbered 0 (rulesAt t (s + r * ruleFields) x)) k blank
-      ≡ record { own = ownOf r k; rule = ruleAt t (s + k * ruleFields) }
+  rule-at : (r a b x k : ℕ) → k < r + x → getD (plainly (rulesAt t a r) ++ numbered 0 (rulesAt t b x)) k blank ≡ record { own = ownOf r k; rule = ruleAt t (startAt r a b k) }
   unfolding plainly rulesAt
-  rule-at s zero x k h =
-      let e : k - 0 ≡ 0 + k = omega arith in let f : s + 0 * ruleFields ≡ s = omega arith in
-      rw (f, own-late 0 k (omega arith), e) (late-at 0 s x k (omega arith))
-  rule-at s (suc r) x zero h = let f : s + 0 * ruleFields ≡ s = omega arith in rw (f, own-plain (suc r) 0 (omega arith)) refl
-  rule-at s (suc r) x (suc k) h =
-      let f : s + suc k * ruleFields ≡ s + ruleFields + k * ruleFields = omega arith in let g : s + suc r * ruleFields ≡ s + ruleFields + r * ruleFields = omega arith in
-      rw (f, g, own-suc r k) (rule-at (s + ruleFields) r x k (omega arith))
+  rule-at zero a b x k h =
+      let e : k - 0 ≡ 0 + k = omega arith in let f : b + (k - 0) * ruleNumbers ≡ b + k * ruleNumbers = omega arith in
+      rw (start-late 0 a b k (omega arith), f, own-late 0 k (omega arith), e) (late-at 0 b x k (omega arith))
+  rule-at (suc r) a b x zero h = let f : a + 0 * ruleNumbers ≡ a = omega arith in rw (start-plain (suc r) a b 0 (omega arith), f, own-plain (suc r) 0 (omega arith)) refl
+  rule-at (suc r) a b x (suc k) h = rw (start-suc r a b k, own-suc r k) (rule-at r (a + ruleNumbers) b x k (omega arith))
 
   plain-length : (s m : ℕ) → length (plainly (rulesAt t s m)) ≡ m
   unfolding plainly rulesAt
   plain-length s zero = refl
-  plain-length s (suc m) = ap suc (plain-length (s + ruleFields) m)
+  plain-length s (suc m) = ap suc (plain-length (s + ruleNumbers) m)
 
   late-length : (j s m : ℕ) → length (numbered j (rulesAt t s m)) ≡ m
   unfolding numbered rulesAt
   late-length j s zero = refl
-  late-length j s (suc m) = ap suc (late-length (suc j) (s + ruleFields) m)
+  late-length j s (suc m) = ap suc (late-length (suc j) (s + ruleNumbers) m)
 
-  pub packs-of : (s : Shape) (ws : List ℕ) → PackedTo t (s .plain) ws (ruleCount s) → Packs (bookOf s t) ws (ruleCount s)
+  pub packs-of : (s : Shape) (ws : List ℕ) (a b : ℕ) → a ≡ startOf s plain → b ≡ startOf s exception → PackedTo t (s .plain) a b ws (ruleCount s) → Packs (bookOf s t) ws (ruleCount s)
   unfolding rulesOf bookOf
-  packs-of s ws f = record {
+  packs-of s ws a b ea eb f = record {
     count =
-        let a = plain-length 0 (s .plain) in let b = late-length 0 (s .plain * ruleFields) (s .exceptions) in
-        let c = length-append (plainly (rulesAt t 0 (s .plain))) (numbered 0 (rulesAt t (s .plain * ruleFields) (s .exceptions))) in
+        let p = plain-length (startOf s plain) (s .plain) in let q = late-length 0 (startOf s exception) (s .exceptions) in
+        let c = length-append (plainly (rulesAt t (startOf s plain) (s .plain))) (numbered 0 (rulesAt t (startOf s exception) (s .exceptions))) in
         omega arith;
-    rule-at = λ k l.
-        let e : 0 + k * ruleFields ≡ k * ruleFields = omega arith in let g : 0 + s .plain * ruleFields ≡ s .plain * ruleFields = omega arith in
-        f .row k l ∙ ap masksOf (sym (rw (e, g) at (rule-at 0 (s .plain) (s .exceptions) k l)));
+    rule-at = λ k l. rw (ea, eb) at (f .row k l) ∙ ap masksOf (sym (rule-at (s .plain) (startOf s plain) (startOf s exception) (s .exceptions) k l));
   }
 
 -- ---- the loop
 -- What the functions ask of a row.
-pub row-readable : (s : Shape) (t : List ℤ) → RowsLawful s t → (k : ℕ) → k < ruleCount s → Readable t (k * ruleFields) ruleFields
-row-readable s t w k h = record {
-  room = let q = w .room in omega arith;
-  small = λ i l. let a = w .entries k h i l in let b = w .statements in omega arith;
-}
+pub row-readable : (s : Shape) (t : List ℤ) → RowsLawful s t → (k : ℕ) → k < ruleCount s → (z : ℕ) → z ≡ ruleStart s k → Readable t z ruleNumbers
+row-readable s t w k h z e = rw e (record {
+  room = omega (arith, w .room, rule-in s k h);
+  small = λ i l. let a = w .entries k h i l in let b = w .limits .statements in omega arith;
+})
+
+pub starts-small : (s : Shape) (t : List ℤ) → RowsLawful s t → (k a : ℕ) → k ≤ all-kinds → a ≡ startOf s k → a < 1000000
+starts-small s t w k a h e = omega (arith, e, sum-up (λ x. x .numbers) s k h, sum-all (λ x. x .numbers) s (w .limits), numbers-most)
+
+pub rules-few : (s : Shape) (t : List ℤ) → RowsLawful s t → (s .plain ≤ limit.plain) × (s .exceptions ≤ limit.exceptions)
+rules-few s t w = (plain-in s (w .limits), exceptions-in s (w .limits))
 
 -- Heads and barred entries take no exception.
 head-flat : (h : Head) → maskHead h .taken ≡ 0
@@ -101,17 +113,17 @@ flat : (x : Tagged) → (masksOf x .head .taken ≡ 0) × (masksOf x .bar .taken
 unfolding masksOf
 flat x = (head-flat (x .rule .head), none-taken (x .rule .body .barred))
 
-pub packed-start : (t : List ℤ) (r : ℕ) (ws : List ℕ) → PackedTo t r ws 0
-packed-start t r ws = record { row = λ k h. absurd (omega arith) }
+pub packed-start : (t : List ℤ) (r a b : ℕ) (ws : List ℕ) → PackedTo t r a b ws 0
+packed-start t r a b ws = record { row = λ k h. absurd (omega arith) }
 
-pub packed-turn : (t : List ℤ) (r k : ℕ) (ws us : List ℕ) (o : ℕ) (x : Masks) → PackedTo t r ws k → o ≡ ownOf r k → x ≡ masksOf (record { own = o; rule = ruleAt t (k * ruleFields) })
-    → us ≡ sets ws (k * 8) (wordsOf x) → k * 8 + 8 ≤ length ws → PackedTo t r us (k + 1)
-packed-turn t r k ws us o x f eo ex eu h =
-    let g : x ≡ masksOf (record { own = ownOf r k; rule = ruleAt t (k * ruleFields) }) = ex ∙ ap (λ (d : ℕ). masksOf (record { own = d; rule = ruleAt t (k * ruleFields) })) eo in
-    let z = flat (record { own = ownOf r k; rule = ruleAt t (k * ruleFields) }) in
+pub packed-turn : (t : List ℤ) (r a b k : ℕ) (ws us : List ℕ) (o z : ℕ) (x : Masks) → PackedTo t r a b ws k → o ≡ ownOf r k → z ≡ startAt r a b k → x ≡ masksOf (record { own = o; rule = ruleAt t z })
+    → us ≡ sets ws (k * 8) (wordsOf x) → k * 8 + 8 ≤ length ws → PackedTo t r a b us (k + 1)
+packed-turn t r a b k ws us o w x f eo ew ex eu h =
+    let g : x ≡ masksOf (record { own = ownOf r k; rule = ruleAt t (startAt r a b k) }) = ex ∙ rw (eo, ew) in
+    let z = flat (record { own = ownOf r k; rule = ruleAt t (startAt r a b k) }) in
     record {
       row = below-more _ k (λ j l. rw eu (put-before ws k x j l ∙ f .row j l)) (rw eu (put-here ws k x h (rw g (z .0)) (rw g (z .1)) ∙ g));
     }
 
-pub packed-over : (t : List ℤ) (r k m : ℕ) (ws : List ℕ) → k ≤ m → m ≤ k → PackedTo t r ws k → PackedTo t r ws m
-packed-over t r k m ws h l f = let e : m ≡ k = omega arith in rw e f
+pub packed-over : (t : List ℤ) (r a b k m : ℕ) (ws : List ℕ) → k ≤ m → m ≤ k → PackedTo t r a b ws k → PackedTo t r a b ws m
+packed-over t r a b k m ws h l f = let e : m ≡ k = omega arith in rw e f

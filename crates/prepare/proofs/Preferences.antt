@@ -9,6 +9,7 @@ use native.Mathlib.Omega.{arith}
 use lib.Dec.{eqb}
 use lib.IntN.{ℤ, negsuc}
 use lib.IntN as Z
+use lib.ListN.{length}
 use mir.Syntax.{w32}
 use mir.Val.{SFits}
 use mir.Facts.{toZ-ofZ}
@@ -18,12 +19,15 @@ use Rattle.logic.specs.Tests.{both, either}
 use Rattle.logic.proofs.Decide.{clash}
 use Rattle.book.specs.declared.Shape.{Shape}
 use Rattle.book.specs.Limits as limit
-use Rattle.book.specs.Kinds.{preferenceFields}
+use Rattle.book.specs.Kinds.{preference, preferenceNumbers}
+use Rattle.book.specs.Counts.{startOf}
+use Rattle.book.proofs.Counts.{exceptions-in}
 use Rattle.sets.specs.Sets.{member}
 use Rattle.sets.proofs.Words.{member-empty}
 use Rattle.meaning.specs.Meant.{at, number, preferencesAt, bookOf}
 use Rattle.bridge.specs.Ranks.{Names}
-use Rattle.bridge.specs.Rows.{preferencesFrom, RowsLawful}
+use Rattle.bridge.specs.Rows.{RowsLawful}
+use Rattle.bridge.proofs.Rows.{preference-end}
 use Rattle.prepare.specs.Ranking.{WithLine, LinesFrom}
 use Rattle.prepare.proofs.Numbers.{back}
 
@@ -89,10 +93,13 @@ lines-more ls a s x y r f w = record {
 -- ---- the loop
 module _ (s : Shape) (t : List ℤ) (w : RowsLawful s t) (k : ℕ) (h : 0 < k) (l : k ≤ s .preferences) where
   abbrev pub rowAt : ℕ
-  rowAt = preferencesFrom s + (k - 1) * preferenceFields
+  rowAt = startOf s preference + (k - 1) * preferenceNumbers
+
+  pub row-in : rowAt + preferenceNumbers ≤ length t
+  row-in = omega (arith, preference-end s, w .room)
 
   names-within : (x : ℤ) → Names (s .exceptions) (number x) → NamesIn x
-  names-within x n = record { from-one = n .from-one; most = let a = n .most in let b = w .exceptions in omega arith }
+  names-within x n = record { from-one = n .from-one; most = let a = n .most in let b = exceptions-in s (w .limits) in omega arith }
 
   pub first-named : NamesIn (at t rowAt)
   first-named = let e : rowAt + 0 ≡ rowAt = omega arith in names-within _ (rw e at (w .names (k - 1) (omega arith) 0 (omega arith)))
@@ -100,13 +107,13 @@ module _ (s : Shape) (t : List ℤ) (w : RowsLawful s t) (k : ℕ) (h : 0 < k) (
   pub second-named : NamesIn (at t (rowAt + 1))
   second-named = names-within _ (w .names (k - 1) (omega arith) 1 (omega arith))
 
-  pub lines-turn : (a set x y r : ℕ) → LinesFrom (preferencesAt t (preferencesFrom s + k * preferenceFields) (s .preferences - k)) a set
+  pub lines-turn : (a set x y r : ℕ) → LinesFrom (preferencesAt t (startOf s preference + k * preferenceNumbers) (s .preferences - k)) a set
       → x ≡ number (back (at t rowAt)) → y ≡ number (back (at t (rowAt + 1))) → WithLine a set x y r
       → LinesFrom (preferencesAt t rowAt (s .preferences - (k - 1))) a r
   unfolding preferencesAt
   lines-turn a set x y r f ex ey g =
       let c : s .preferences - (k - 1) ≡ suc (s .preferences - k) = omega arith in
-      let d : rowAt + preferenceFields ≡ preferencesFrom s + k * preferenceFields = omega arith in
+      let d : rowAt + preferenceNumbers ≡ startOf s preference + k * preferenceNumbers = omega arith in
       let p : x ≡ number (at t rowAt) = ex ∙ ap number (toZ-ofZ (names-small _ first-named)) in
       let q : y ≡ number (at t (rowAt + 1)) = ey ∙ ap number (toZ-ofZ (names-small _ second-named)) in
       rw (c, d, sym p, sym q) (lines-more _ a set x y r f g)
@@ -115,10 +122,10 @@ pub lines-last : (t : List ℤ) (k m a : ℕ) → LinesFrom (preferencesAt t k (
 unfolding preferencesAt
 lines-last t k m a = let e : m - m ≡ 0 = omega arith in rw e (lines-none a)
 
-pub lines-all : (s : Shape) (t : List ℤ) (a set k : ℕ) → k ≤ 0 → LinesFrom (preferencesAt t (preferencesFrom s + k * preferenceFields) (s .preferences - k)) a set
+pub lines-all : (s : Shape) (t : List ℤ) (a set k : ℕ) → k ≤ 0 → LinesFrom (preferencesAt t (startOf s preference + k * preferenceNumbers) (s .preferences - k)) a set
     → LinesFrom (bookOf s t .preferences) a set
 unfolding bookOf
 lines-all s t a set k h f =
-    let c : preferencesFrom s + k * preferenceFields ≡ preferencesFrom s = omega arith in
+    let c : startOf s preference + k * preferenceNumbers ≡ startOf s preference = omega arith in
     let d : s .preferences - k ≡ s .preferences = omega arith in
     rw (c, d) at f

@@ -6,11 +6,12 @@ ghost use lib.IntN.{ℤ, natAbs};
 ghost use lib.ListN.{length};
 ghost use lib.Seq.{sets as setsAt};
 ghost use Rattle.book.specs.Limits as limit;
-ghost use Rattle.book.specs.Kinds.{entriesEach, ruleFields};
+ghost use Rattle.book.specs.Kinds.{entriesEach, ruleFields, preference};
+ghost use Rattle.book.specs.Counts.{startOf};
 ghost use Rattle.meaning.specs.Meant.{entry, number, entriesAt, ruleAt, bookOf};
 ghost use Rattle.bridge.specs.Packed.{maskAll, masksOf, Packs};
 ghost use Rattle.bridge.specs.Ranks.{Names, RanksOf};
-ghost use Rattle.bridge.specs.Rows.{ruleCount, RowsLawful};
+ghost use Rattle.bridge.specs.Rows.{startAt, ruleCount, RowsLawful};
 ghost use Rattle.bridge.specs.Roots.{upTo, rootOf};
 ghost use Rattle.prepare.specs.Packing.{Readable, ownOf, wordsOf};
 ghost use Rattle.prepare.specs.Ranking.{WithLine, LinesFrom, LinesTo, Extended, ClosedThrough, ClosedTo};
@@ -128,6 +129,17 @@ fn own_set(plain: usize, k: usize) -> u64
     1 << (k - plain)
 }
 
+// Where the row of rule k begins: the first `plain` rules have their rows from `first` on, the others from `other` on.
+fn row_start(plain: usize, first: usize, other: usize, k: usize) -> usize
+    requires { ⌜ (first < 1000000) × (other < 1000000) × (k < 1000000) ⌝ }
+    ensures { λ r. ⌜ r ≡ startAt plain first other k ⌝ }
+{
+    if k < plain {
+        return first + k * Book::RULE_NUMBERS;
+    }
+    other + (k - plain) * Book::RULE_NUMBERS
+}
+
 // Packs the rules of a book into words: the plain rules, then the exceptions.
 pub fn pack(shape: Shape, rows: &[i32], words: &mut [u64])
     requires { ⌜ RowsLawful shape (now rows) × (ruleCount shape * 8 ≤ length (now words)) ⌝ }
@@ -135,10 +147,12 @@ pub fn pack(shape: Shape, rows: &[i32], words: &mut [u64])
 {
     let plain = shape.plain;
     let n = plain + shape.exceptions;
+    let first = book::start_of(shape, Book::AT_PLAIN);
+    let other = book::start_of(shape, Book::AT_EXCEPTION);
     let mut k = 0;
     while k < n {
         let own = own_set(plain, k);
-        let r = rule_masks(rows, k * Book::RULE_FIELDS, own);
+        let r = rule_masks(rows, row_start(plain, first, other, k), own);
         put(words, k, r);
         k += 1;
     }
@@ -163,17 +177,16 @@ fn with_line(a: u64, set: u64, x: u64, y: u64) -> u64
     set
 }
 
-// The exceptions before which the P rows put exception a.
-fn lines_from(shape: Shape, rows: &[i32], a: u64) -> u64
-    requires { ⌜ RowsLawful shape (now rows) ⌝ }
+// The exceptions before which the P rows, which begin at a place of the rows, put exception a.
+fn lines_from(shape: Shape, rows: &[i32], from: usize, a: u64) -> u64
+    requires { ⌜ RowsLawful shape (now rows) × (from ≡ startOf shape preference) ⌝ }
     ensures { λ r. ⌜ LinesFrom (bookOf shape (now (rows .entry)) .preferences) a r ⌝ }
 {
-    let from = (shape.plain + shape.exceptions) * Book::RULE_FIELDS;
     let mut set = sets::EMPTY;
     let mut k = shape.preferences;
     while k > 0 {
         k -= 1;
-        let at = from + k * Book::PREFERENCE_FIELDS;
+        let at = from + k * Book::PREFERENCE_NUMBERS;
         let x = named(rows[at]);
         let y = named(rows[at + 1]);
         set = with_line(a, set, x, y);
@@ -186,9 +199,10 @@ fn lines(shape: Shape, rows: &[i32], ranks: &mut [u64])
     requires { ⌜ RowsLawful shape (now rows) ⌝ }
     ensures { λ o. ⌜ LinesTo (bookOf shape (now (rows .entry)) .preferences) (now (ranks .exit)) (length (now (ranks .entry))) ⌝ }
 {
+    let from = book::start_of(shape, Book::AT_PREFERENCE);
     let mut a = 0;
     while a < ranks.len() {
-        ranks[a] = lines_from(shape, rows, a as u64 + 1);
+        ranks[a] = lines_from(shape, rows, from, a as u64 + 1);
         a += 1;
     }
 }

@@ -1,2 +1,3 @@
 pub mod Nodes
 pub mod Halves
+pub mod Attempts

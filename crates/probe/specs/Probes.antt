@@ -10,6 +10,8 @@ use Rattle.bounds.specs.Sound.{In, Propagated}
 use Rattle.queue.specs.declared.waiting.Waiting.{Waiting}
 use Rattle.probe.specs.declared.Answer.{Answer}
 use Rattle.probe.specs.declared.Answer.the-variants.{Found, Nothing}
+use Rattle.probe.specs.declared.Outcome.{Outcome}
+use Rattle.probe.specs.declared.Outcome.the-variants.{Has, Lacks}
 use Rattle.probe.specs.declared.Node.{Node}
 use Rattle.probe.specs.declared.Node.the-variants.{View, Empty, Open}
 
@@ -17,6 +19,11 @@ use Rattle.probe.specs.declared.Node.the-variants.{View, Empty, Open}
 pub record Probed (ws : List ℕ) (n : ℕ) (ranks : List ℕ) (b : Bounds) (a : Answer) : Type 0 where
   pub found : (v : Pair) → a ≡ Found v → (MaskView ws n ranks v) × (In b v)
   pub none : a ≡ Nothing → (v : Pair) → MaskView ws n ranks v → In b v → ⊥
+
+-- The same of a search that may stop: where it stopped, it says nothing.
+pub record Attempted (ws : List ℕ) (n : ℕ) (ranks : List ℕ) (b : Bounds) (a : Outcome) : Type 0 where
+  pub found : (v : Pair) → a ≡ Has v → (MaskView ws n ranks v) × (In b v)
+  pub none : (left : ℕ) → a ≡ Lacks left → (v : Pair) → MaskView ws n ranks v → In b v → ⊥
 
 -- The bounds c hold every view within b, and m is one member that the upper end of c has and the lower has not.
 pub record Halved (ws : List ℕ) (n : ℕ) (ranks : List ℕ) (b c : Bounds) (m : Pair) : Type 0 where

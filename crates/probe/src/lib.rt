@@ -4,14 +4,16 @@ ghost use lib.ListN.{length};
 ghost use Rattle.sets.specs.Pairs.{minusOf};
 ghost use Rattle.bounds.specs.Singles.{Picked};
 ghost use Rattle.queue.specs.Chains.{Chains};
-ghost use Rattle.probe.specs.Probes.{Opened, Probed};
+ghost use Rattle.probe.specs.Probes.{Opened, Probed, Attempted};
 use masks::Bounds;
 use queue::index;
 use queue::index::Index;
+use queue::waiting;
 use queue::waiting::Waiting;
 use queue::waiting::Work;
 use sets::Pair;
 
+pub mod shaving;
 pub mod weights;
 
 // A view within the bounds, or that there is none.
@@ -85,5 +87,82 @@ pub fn probe(words: &[u64], n: usize, ranks: &[u64], index: &Index, w: Work, b: 
                 }
             }
         }
+    }
+}
+
+// How many nodes a search for one view may visit before the bounds it began with are shaved.
+const FUEL: u64 = 1024;
+
+// What a search with so much fuel has to say: a view; that there is none, and the fuel that is left; nothing, where the fuel is used up.
+pub enum Outcome {
+    Has(Pair),
+    Lacks(u64),
+    Stopped,
+}
+
+// The same search, which visits at most `fuel` nodes.
+pub fn attempt(
+    words: &[u64],
+    n: usize,
+    ranks: &[u64],
+    index: &Index,
+    w: Work,
+    b: Bounds,
+    fuel: u64,
+) -> Outcome
+    requires { ⌜ (n * 8 ≤ length (now words)) × (length (now ranks) ≤ 64) × Chains (now words) n (now index) ⌝ }
+    ensures { λ a. ⌜ Attempted (now (words .entry)) n (now (ranks .entry)) b a ⌝ }
+{
+    if fuel == 0 {
+        return Outcome::Stopped;
+    }
+    let x = visit(words, n, ranks, index, w, b);
+    match x {
+        Node::View(v) => Outcome::Has(v),
+        Node::Empty => Outcome::Lacks(fuel - 1),
+        Node::Open(c, m, live) => {
+            let o = bounds::out(c, m);
+            let t = index::among(index, live, c, o);
+            let a = attempt(words, n, ranks, index, t, o, fuel - 1);
+            match a {
+                Outcome::Has(v) => Outcome::Has(v),
+                Outcome::Stopped => Outcome::Stopped,
+                Outcome::Lacks(left) => {
+                    let p = bounds::into(c, m);
+                    let t = index::among(index, live, c, p);
+                    attempt(words, n, ranks, index, t, p, left)
+                }
+            }
+        }
+    }
+}
+
+// The same as probe, from shaved bounds.
+pub fn probe_shaved(
+    words: &[u64],
+    n: usize,
+    ranks: &[u64],
+    index: &Index,
+    w: Work,
+    b: Bounds,
+) -> Answer
+    requires { ⌜ (n * 8 ≤ length (now words)) × (length (now ranks) ≤ 64) × Chains (now words) n (now index) ⌝ }
+    ensures { λ a. ⌜ Probed (now (words .entry)) n (now (ranks .entry)) b a ⌝ }
+{
+    let rest = queue::propagate(words, n, ranks, index, w, b);
+    let r = shaving::shaved(words, n, ranks, index, rest);
+    probe(words, n, ranks, index, waiting::none(r.live), r.bounds)
+}
+
+// The same as probe: from shaved bounds where the plain search has used up its fuel.
+pub fn ask(words: &[u64], n: usize, ranks: &[u64], index: &Index, w: Work, b: Bounds) -> Answer
+    requires { ⌜ (n * 8 ≤ length (now words)) × (length (now ranks) ≤ 64) × Chains (now words) n (now index) ⌝ }
+    ensures { λ a. ⌜ Probed (now (words .entry)) n (now (ranks .entry)) b a ⌝ }
+{
+    let a = attempt(words, n, ranks, index, w, b, FUEL);
+    match a {
+        Outcome::Has(v) => Answer::Found(v),
+        Outcome::Lacks(_) => Answer::Nothing,
+        Outcome::Stopped => probe_shaved(words, n, ranks, index, w, b),
     }
 }

@@ -49,6 +49,8 @@ use Rattle.operations.proofs.page_after.Met as page-after-met
 use Rattle.operations.proofs.Demand3 as engine
 use Rattle.listing.proofs.Whole as ways
 use Rattle.bantameasel.proofs.Demand3 as across
+use Rattle.bantameasel.proofs.bantameasel_version.Statement as version-c
+use Rattle.bantameasel.proofs.bantameasel_version.Met as version-c-met
 use Rattle.bantameasel.proofs.bantameasel_read.Statement as read-c
 use Rattle.bantameasel.proofs.bantameasel_read.Met as read-c-met
 use Rattle.bantameasel.proofs.bantameasel_write.Statement as write-c
@@ -75,6 +77,7 @@ pub record Contracts (M : Type 1) : Type 2 where
   pub line-meets : line.statement M
   pub line-part-meets : line-part.statement M
   pub ways-meets : ways.Claim M
+  pub version-c-meets : version-c.statement M
   pub read-c-meets : read-c.statement M
   pub write-c-meets : write-c.statement M
   pub judge-c-meets : judge-c.statement M
@@ -137,6 +140,7 @@ demands = record {
     line-meets = line-met.met;
     line-part-meets = line-part-met.met;
     ways-meets = ways.claim;
+    version-c-meets = version-c-met.met;
     read-c-meets = read-c-met.met;
     write-c-meets = write-c-met.met;
     judge-c-meets = judge-c-met.met;

@@ -1,4 +1,4 @@
--- The rules in chains by their heads, and which rules can give a conclusion within bounds (ALGORITHM.md, fact (d)).
+-- The rules in chains by their heads, and which rules can give a conclusion within bounds (docs/SEARCH.md, fact (d)).
 use Prim.Native.Nat.{ℕ, _<_, _≤_}
 use mathlib.Core.Path.{_≡_}
 use mathlib.Core.List.{List}

@@ -34,9 +34,9 @@ use Rattle.read.specs.Storing.{numberOf, noneSeen, store, storeFields, a
 use Rattle.read.specs.declared.Fields.the-variants.{Right, Wrong}
 
 -- ---- one field
-pub number-misspelt : (x z : Field) (r : Range) → z ≡ x → z ≡ Misspelt → Not 5 ≡ numberOf x r
+pub number-misspelt : (x z : Field) (r : Range) (q : ℕ) → z ≡ x → z ≡ Misspelt q → Not q ≡ numberOf x r
 unfolding numberOf
-number-misspelt x z r e f = rw (← e, f)
+number-misspelt x z r q e f = rw (← e, f)
 
 module _ (x z : Field) (r : Range) (v : ℤ) (y : Checked) (d : z ≡ x) (g : z ≡ Value v) (s : SFits w32 v) (f : y ≡ numberIs r (back v)) where
   e : x ≡ Value v
@@ -63,7 +63,7 @@ module _ (x z : Field) (r : Range) (v : ℤ) (y : Checked) (d : z ≡ x) (g : z 
 
 test-not : (x : Field) (r : Range) (y : Numbers) (q : ℕ) → Not q ≡ numberOf x r → testField x r y ≡ fault q
 unfolding numberOf testField pick
-test-not Misspelt r y q e = let w : q ≡ 5 = cc in rw w
+test-not (Misspelt p) r y q e = let w : q ≡ p = cc in rw w
 test-not (Value v) r y q e = go (inside r v) e
   where
     go : (b : Bool) → Not q ≡ pick b (Is v) (Not (r .fault)) → pick b (andThen v y) (fault (r .fault)) ≡ fault q
@@ -72,7 +72,7 @@ test-not (Value v) r y q e = go (inside r v) e
 
 test-is : (x : Field) (r : Range) (y : Numbers) (v : ℤ) → Is v ≡ numberOf x r → testField x r y ≡ andThen v y
 unfolding numberOf testField pick
-test-is Misspelt r y v e = absurd (let z : _≡_ {A = ℕ} 0 1 = cc in omega arith)
+test-is (Misspelt q) r y v e = absurd (let z : _≡_ {A = ℕ} 0 1 = cc in omega arith)
 test-is (Value u) r y v e = go (inside r u) e
   where
     go : (b : Bool) → Is v ≡ pick b (Is u) (Not (r .fault)) → pick b (andThen u y) (fault (r .fault)) ≡ andThen v y

@@ -2,35 +2,31 @@
 -- What a line's numbers say, seen one by one, is what the tests of the line as a whole ask.
 use mathlib.Core.Path.{_≡_, refl, sym, ap, _∙_}
 use mathlib.Core.Bool.{Bool, true, false, not}
-use mathlib.Core.List.{List, [], _∷_, _++_}
+use mathlib.Core.List.{List, [], _∷_, _++_, append-assoc}
 use Prim.Native.Nat.{ℕ, zero, suc, _+_, _-_, _*_, _<_, _≤_}
-use native.Mathlib.Nat.{add-zero}
 use native.Mathlib.Numerals.{add-one}
 use native.Mathlib.Omega.{arith}
 use lib.IntN.{ℤ, pos}
 use lib.Signed.{leZ}
-use lib.ListN.{getD, drop, take, length, length-drop, length-append, List·getD-append}
-use lib.Seq.{sets, drop-cons, length-take-le, sets-eq, getD-append-add, getD-take, take-nil}
-use mir.Syntax.{w32}
-use mir.Val.{SFits}
-use mir.Facts.{toZ-ofZ}
+use lib.ListN.{getD, drop, take, length, length-drop}
+use lib.Seq.{sets, drop-cons, drop-at, length-take-le, sets-eq, getD-take, take-append-le, take-nil}
 use borrow.Author.Tests.{eq-eqb, ne-eqb, lt-ltb, le-ltb, le-leb, lt-leb}
-use Rattle.logic.specs.Tests.{both, either, pick, consIf, some}
+use Rattle.logic.specs.Tests.{either, pick, consIf, some}
 use Rattle.book.specs.declared.Kind.{Kind}
 use Rattle.book.specs.declared.Content.{Content}
 use Rattle.book.specs.declared.Content.the-variants.{Edition, Statements, Literal, Exception, Total}
-use Rattle.book.specs.Kinds.{kind, contents, fieldsOf, bytes, none, exception}
+use Rattle.book.specs.Kinds.{kind, contents, fieldsOf, bytes, none, widest, exception}
+use Rattle.book.proofs.Counts.{narrow}
 use Rattle.text.specs.declared.State.{State}
 use Rattle.text.specs.Fields.{firstField}
 use Rattle.text.specs.Lines.{Numbers, between, readFields, code, numbersIn, headless, missing, miscounted, wholeOf, unless, judged, kindFor, readRest, readKind, readLine}
 use Rattle.text.specs.Lines.Numbers.{numbers, fault}
 use Rattle.text.specs.Lines.Line.{line}
 use Rattle.text.specs.Reading.{lastOr, step}
-use Rattle.text.proofs.KindFacts.{width-is, narrow, some-field, contents-in}
+use Rattle.text.proofs.KindFacts.{width-is, heads-in, contents-in}
 use Rattle.text.proofs.Lines.{numbers-length}
 use Rattle.fields.specs.declared.Seen.{Seen}
 use Rattle.fields.specs.Checks.{seeOf, seeAll}
-use Rattle.fields.proofs.Columns.{back}
 use Rattle.read.specs.declared.Fields.{Fields}
 use Rattle.read.specs.declared.Fields.the-variants.{Right, Wrong}
 use Rattle.read.specs.declared.LineIs.the-variants.{Of, Bad}
@@ -39,36 +35,27 @@ use Rattle.read.specs.Storing.Left.{kept, lost}
 use Rattle.read.specs.Storing.LineLeft.{keptLine, lostLine}
 
 -- ---- the whole, by what is seen
-module _ (x : Kind) (head : ℤ) where
-  pub headed-yes : (r : Bool) → SFits w32 head → x .headed ≡ true → r ≡ between (pos 0) (pos 0) (back head) → r ≡ both (x .headed) (between (pos 0) (pos 0) head)
-  unfolding both
-  headed-yes r f e g = g ∙ rw (toZ-ofZ f, e)
-
-  pub headed-no : x .headed ≡ false → false ≡ both (x .headed) (between (pos 0) (pos 0) head)
-  unfolding both
-  headed-no e = rw e
-
-module _ (x : Kind) (count : ℕ) (head : ℤ) (s : Seen) where
-  pub whole-over : x .limit ≤ count → 8 ≡ wholeIs x count head s
+module _ (x : Kind) (count : ℕ) (r : Bool) (s : Seen) where
+  pub whole-over : x .limit ≤ count → x .over ≡ wholeIs x count r s
   unfolding wholeIs pick
   whole-over h = rw (le-leb (x .limit) count h)
 
-  module _ (h : count < x .limit) (f : SFits w32 head) (r : Bool) (e : r ≡ both (x .headed) (between (pos 0) (pos 0) (back head))) where
-    pub whole-headless : r ≡ true → 9 ≡ wholeIs x count head s
+  module _ (h : count < x .limit) where
+    pub whole-headless : r ≡ true → x .unfilled ≡ wholeIs x count r s
     unfolding wholeIs pick
-    whole-headless g = rw (lt-leb (x .limit) count h, ← toZ-ofZ f, ← e, g)
+    whole-headless g = rw (lt-leb (x .limit) count h, g)
 
-    pub whole-missing : r ≡ false → s .missing ≡ true → 10 ≡ wholeIs x count head s
+    pub whole-missing : r ≡ false → s .missing ≡ true → 10 ≡ wholeIs x count r s
     unfolding wholeIs pick
-    whole-missing g a = rw (lt-leb (x .limit) count h, ← toZ-ofZ f, ← e, g, a)
+    whole-missing g a = rw (lt-leb (x .limit) count h, g, a)
 
-    pub whole-miscounted : r ≡ false → s .missing ≡ false → s .miscounted ≡ true → 11 ≡ wholeIs x count head s
+    pub whole-miscounted : r ≡ false → s .missing ≡ false → s .miscounted ≡ true → 11 ≡ wholeIs x count r s
     unfolding wholeIs pick
-    whole-miscounted g a b = rw (lt-leb (x .limit) count h, ← toZ-ofZ f, ← e, g, a, b)
+    whole-miscounted g a b = rw (lt-leb (x .limit) count h, g, a, b)
 
-    pub whole-right : r ≡ false → s .missing ≡ false → s .miscounted ≡ false → 0 ≡ wholeIs x count head s
+    pub whole-right : r ≡ false → s .missing ≡ false → s .miscounted ≡ false → 0 ≡ wholeIs x count r s
     unfolding wholeIs pick
-    whole-right g a b = rw (lt-leb (x .limit) count h, ← toZ-ofZ f, ← e, g, a, b)
+    whole-right g a b = rw (lt-leb (x .limit) count h, g, a, b)
 
 -- ---- what is seen in all
 module _ (m n : ℕ) where
@@ -166,13 +153,11 @@ fields-take (f ∷ fs) n bs =
     let e : suc (length fs) * 4 ≡ 4 + length fs * 4 = omega arith in
     rw (e, field-take (4 + length fs * 4) bs (omega arith), drop-take (length fs * 4) bs, fields-take fs n (drop 4 bs))
 
--- a number that was stored
-pub getD-sets : (l vs : List ℤ) (to j : ℕ) (d : ℤ) → to + length vs ≤ length l → j < length vs → getD (sets l to vs) (to + j) d ≡ getD vs j d
-getD-sets l vs to j d h g =
-    let e = length-take-le to l (omega arith) in
-    rw (sets-eq vs l to h)
-    (List·getD-append (take to l ++ vs) (drop (to + length vs) l) d (to + j) (simp length-append (omega arith))
-    ∙ ap (λ (m : ℕ). getD (take to l ++ vs) (m + j) d) (sym e) ∙ getD-append-add (take to l) vs j d)
+-- the first numbers of those that were stored
+stored-take : (l vs : List ℤ) (to m : ℕ) → to + length vs ≤ length l → m ≤ length vs → take m (drop to (sets l to vs)) ≡ take m vs
+stored-take l vs to m h g =
+    ap (λ (z : List ℤ). take m (drop to z)) (sets-eq vs l to h ∙ append-assoc (take to l) vs (drop (to + length vs) l))
+    ∙ (ap (take m) (drop-at (take to l) (vs ++ drop (to + length vs) l) to (length-take-le to l (omega arith))) ∙ take-append-le m vs (drop (to + length vs) l) g)
 
 module _ (st : State) (l₀ : List ℤ) (to : ℕ) where
   pub line-empty : (text : List ℕ) (at len : ℕ) (l : List ℤ) → len ≡ 0 → answerLine (Bad 3) l ≡ storeLine st l₀ to (readLine st (take len (drop at text)))
@@ -227,8 +212,8 @@ module _ (n m rows : ℕ) (cs : List Content) (l₀ l : List ℤ) (to : ℕ) (bs
 
 -- The tests of the line as a whole are those of what is seen.
 whole-same : (st : State) (k : ℕ) (vs : List ℤ)
-    → wholeIs (kind k) (getD (st .counts) k 0) (getD vs 0 (pos 0)) (seeAll (noneSeen (st .statements)) (fieldsOf (kind k)) (getD (st .counts) exception 0) (st .rows) vs) ≡ wholeOf st k vs
-unfolding wholeIs wholeOf headless missing miscounted noneSeen either
+    → wholeIs (kind k) (getD (st .counts) k 0) (headless (kind k) vs) (seeAll (noneSeen (st .statements)) (fieldsOf (kind k)) (getD (st .counts) exception 0) (st .rows) vs) ≡ wholeOf st k vs
+unfolding wholeIs wholeOf missing miscounted noneSeen either
 whole-same st k vs =
     rw (
       seen-missing (getD (st .counts) exception 0) (st .rows) (fieldsOf (kind k)) vs (record { statements = st .statements; missing = false; miscounted = false }),
@@ -248,17 +233,17 @@ module _ (text : List ℕ) (at len : ℕ) (st : State) (l₀ : List ℤ) (to : �
   line-fields q fr =
       rw (judged-is text at len st l₀ to k f h ek x g ex d, fields-lost (st .statements) (getD (st .counts) exception 0) (st .rows) (fieldsOf x) l₀ l to (drop (at + 1) text) r er q fr)
 
-  module _ (s : Seen) (fr : r ≡ Right s) (room : to + 9 ≤ length l₀) (a : ℤ) (ea : a ≡ getD l to (pos 0)) (sa : SFits w32 a) (y : ℕ) (ey : y ≡ wholeIs x (getD (st .counts) k 0) (back a) s) where
-    -- The first number of the line is in its place of the slice.
-    head-is : (vs : List ℤ) → readFields (fieldsOf x) (st .statements) (drop (at + 1) text) ≡ numbers vs → l ≡ sets l₀ to vs → a ≡ getD vs 0 (pos 0)
-    head-is vs p q =
+  module _ (s : Seen) (fr : r ≡ Right s) (room : to + widest ≤ length l₀) (a : Bool) (ea : a ≡ headless x (drop to l)) (y : ℕ) (ey : y ≡ wholeIs x (getD (st .counts) k 0) a s) where
+    -- The heads of the line are in their places of the slice.
+    heads-are : (vs : List ℤ) → readFields (fieldsOf x) (st .statements) (drop (at + 1) text) ≡ numbers vs → l ≡ sets l₀ to vs → a ≡ headless (kind k) vs
+    unfolding headless
+    heads-are vs p q =
         let w : length vs ≡ kind k .fields = numbers-length (fieldsOf x) (st .statements) (drop (at + 1) text) vs p ∙ (ap (λ (z : Kind). length (fieldsOf z)) ex ∙ width-is k g) in
-        let z = getD-sets l₀ vs to 0 (pos 0) (omega (arith, narrow k g)) (omega (arith, some-field k g)) in
-        ea ∙ rw q (rw (add-zero to) at z)
+        ea ∙ rw (q, ex, stored-take l₀ vs to (kind k .heads) (omega (arith, w, narrow k g)) (omega (arith, w, heads-in k g)))
 
     fault-is : (vs : List ℤ) → readFields (fieldsOf x) (st .statements) (drop (at + 1) text) ≡ numbers vs → l ≡ sets l₀ to vs
         → s ≡ seeAll (noneSeen (st .statements)) (fieldsOf x) (getD (st .counts) exception 0) (st .rows) vs → y ≡ wholeOf st k vs
-    fault-is vs p q z = ey ∙ rw (toZ-ofZ sa, head-is vs p q, z, ex) (whole-same st k vs)
+    fault-is vs p q z = ey ∙ rw (heads-are vs p q, z, ex) (whole-same st k vs)
 
     unless-left : (m : ℕ) (vs : List ℤ) → y ≡ m → (y ≡ 0 → ⊥) → lostLine y ≡ storeLine st l₀ to (unless m (line k vs))
     unfolding unless storeLine
@@ -287,8 +272,8 @@ module _ (text : List ℕ) (at len : ℕ) (st : State) (l₀ : List ℤ) (to : �
         rw (judged-is text at len st l₀ to k f h ek x g ex d, v .1, unless-right (wholeOf st k (v .0)) (v .0) (fault-is (v .0) (v .1) (v .2) (v .3)) n) (right-is (v .0) (v .2) (v .3))
 
 -- ---- a kind that was looked up
-pub kind-narrow : (x : Kind) (k : ℕ) → x ≡ kind k → k < none → x .fields ≤ 9
-kind-narrow x k e h = rw e (narrow k h)
+pub kind-heads : (x : Kind) (k : ℕ) → x ≡ kind k → k < none → x .heads ≤ widest
+kind-heads x k e h = rw e (omega (arith, heads-in k h, narrow k h))
 
 pub kind-contents : (x : Kind) (k : ℕ) → x ≡ kind k → k < none → x .from + x .fields ≤ length contents
 kind-contents x k e h = rw e (contents-in k h)

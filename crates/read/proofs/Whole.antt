@@ -1,10 +1,9 @@
 -- The whole text, and the number table in the lent slice: what each return is by the definitions.
 -- Rows are copied one by one: what is left to put, from here, gives the final slice.
-use mathlib.Core.Path.{_≡_, refl, sym, _∙_}
-use mathlib.Core.List.{List, [], _∷_}
+use mathlib.Core.Path.{_≡_, refl, sym, ap, _∙_}
+use mathlib.Core.List.{List, [], _∷_, _++_, map, append-nil}
 use Prim.Native.Nat.{ℕ, zero, suc, _+_, _-_, _<_, _≤_}
-use native.Mathlib.Nat.{add-zero}
-use native.Mathlib.Numerals.{add-one}
+use native.Mathlib.Nat.{zero-add}
 use native.Mathlib.Omega.{arith}
 use lib.IntN.{ℤ, pos}
 use lib.ListN.{getD, take, drop, set, length, length-take}
@@ -15,14 +14,17 @@ use mir.Facts.{toZ-pos}
 use borrow.Author.Tests.{eq-eqb, ne-eqb, lt-ltb, le-ltb}
 use Rattle.logic.specs.Tests.{pick}
 use Rattle.book.specs.declared.Shape.{Shape}
-use Rattle.book.specs.Kinds.{longest}
+use Rattle.book.specs.Kinds.{longest, front}
+use Rattle.book.specs.Counts.{frontOf, rowNumbers, InLimits}
+use Rattle.book.proofs.Counts.{front-small, sum-all, numbers-most}
+use Rattle.logic.proofs.Stores.{sets-append, pieces}
 use Rattle.text.specs.declared.Refusal.{Refusal}
 use Rattle.text.specs.declared.Reading.{Reading}
 use Rattle.text.specs.declared.Reading.the-variants.{Accepted, Refused}
 use Rattle.text.specs.Lines.{lines}
 use Rattle.text.specs.Reading.{Outcome, start, readLines, lastByte, readText, tableOf, over, lent, readWith, readAnswer, readInto}
 use Rattle.text.specs.Reading.Outcome.{accepted, refused}
-use Rattle.text.specs.Accepted.{rowNumbers, Accepted as Facts}
+use Rattle.text.specs.Accepted.{Accepted as Facts}
 use Rattle.text.proofs.Facts.{accepted-facts}
 use Rattle.read.specs.Storing.{noReading, outcomeOf}
 use Rattle.read.specs.Parsing.{Parsing, Met}
@@ -73,43 +75,54 @@ module _ (bs : List ℕ) (r : Reading) (l : List ℤ) where
   pub parsed-lines : outcomeOf r l ≡ readLines (lines bs) start 1 → length bs ≤ longest → (length bs ≡ 0 → ⊥) → getD bs (length bs - 1) 0 ≡ 10 → Parsing bs r l
   parsed-lines e h f g = parsing-of bs r l (text-lines bs (outcomeOf r l) h f g e)
 
--- ---- rows put into a slice
-module _ (rows l₀ : List ℤ) (at m : ℕ) where
-  -- What is left, from number i on.
-  unfoldable pub ToPut : List ℤ → ℕ → Type 0
-  ToPut l i = sets l (at + i) (take (m - i) (drop i rows)) ≡ sets l₀ at (take m rows)
+-- ---- numbers put into a slice one by one
+-- The first m numbers of a list, each a piece.
+abbrev pub eachOf : List ℤ → ℕ → List ℤ
+eachOf vs i = getD vs i (pos 0) ∷ []
 
-  pub put-start : ToPut l₀ 0
-  unfolding ToPut
-  put-start = let b : m - 0 ≡ m = omega arith in rw (b, add-zero at)
+pieces-each : (vs : List ℤ) (i m : ℕ) → i + m ≤ length vs → take m (drop i vs) ≡ pieces (eachOf vs) i m
+unfolding pieces
+pieces-each vs i zero h = refl
+pieces-each vs i (suc m) h = rw (drop-cons vs i (pos 0) (omega arith)) (ap (λ (l : List ℤ). getD vs i (pos 0) ∷ l) (pieces-each vs (suc i) m (omega arith)))
 
-  first-of : (i w : ℕ) → 0 < w → i + w ≤ length rows → take w (drop i rows) ≡ getD rows i (pos 0) ∷ take (w - 1) (drop (suc i) rows)
-  first-of i zero h g = absurd (omega arith)
-  first-of i (suc w) h g = let e : suc w - 1 ≡ w = omega arith in rw (drop-cons rows i (pos 0) (omega arith), e)
+pub rows-each : (vs : List ℤ) (m : ℕ) → m ≤ length vs → take m vs ≡ pieces (eachOf vs) 0 m
+rows-each vs m h = pieces-each vs 0 m (omega arith)
 
-  pub put-next : (l : List ℤ) (i : ℕ) (v : ℤ) → i < m → m ≤ length rows → v ≡ getD rows i (pos 0) → ToPut l i → ToPut (set l (at + i) v) (i + 1)
-  unfolding ToPut
-  put-next l i v h g ev inv =
-      let a : at + (i + 1) ≡ suc (at + i) = omega arith in
-      let b : m - (i + 1) ≡ m - i - 1 = omega arith in
-      rw (a, b, add-one i, ev) (rw (first-of i (m - i) (omega arith) (omega arith)) at inv)
-
-  pub put-end : (l : List ℤ) (i : ℕ) → m ≤ i → ToPut l i → l ≡ sets l₀ at (take m rows)
-  unfolding ToPut
-  put-end l i h inv = let b : m - i ≡ 0 = omega arith in rw b at inv
+-- A number put at its place is its piece put there.
+pub put-each : (vs l : List ℤ) (a i : ℕ) (v : ℤ) → v ≡ getD vs i (pos 0) → set l a v ≡ sets l a (eachOf vs i)
+put-each vs l a i v e = rw e
 
 -- ---- the number table in a slice
-four-sets : (l : List ℤ) (a b c d : ℤ) (ws : List ℤ) → 4 + length ws ≤ length l → sets (set (set (set (set l 0 a) 1 b) 2 c) 3 d) 4 ws ≡ over l (a ∷ b ∷ c ∷ d ∷ ws)
-unfolding over
-four-sets l a b c d ws h = sets-eq (a ∷ b ∷ c ∷ d ∷ ws) l 0 (omega arith) ∙ (let e : 0 + suc (suc (suc (suc (length ws)))) ≡ suc (suc (suc (suc (length ws)))) = omega arith in rw e)
+pub front-fits : (s : Shape) (cs : List ℕ) (i : ℕ) → InLimits s → cs ≡ frontOf s → getD cs i 0 < 2147483648
+front-fits s cs i l e = rw e (omega (arith, front-small s l i))
 
-pub table-put : (l k : List ℤ) (s : Shape) (rows : List ℤ) (m : ℕ) → 4 + m ≤ length l → m ≤ length rows → s .statements < 2147483648 → s .plain < 2147483648 → s .exceptions < 2147483648 → s .preferences < 2147483648
-    → k ≡ sets (set (set (set (set l 0 (toZ w32 (s .statements))) 1 (toZ w32 (s .plain))) 2 (toZ w32 (s .exceptions))) 3 (toZ w32 (s .preferences))) 4 (take m rows) → k ≡ over l (tableOf s (take m rows))
+-- Number i of the front, as the machine has it.
+number-is : (cs : List ℕ) (i : ℕ) → getD (map pos cs) i (pos 0) ≡ pos (getD cs i 0)
+number-is [] i = refl
+number-is (x ∷ cs) zero = refl
+number-is (x ∷ cs) (suc i) = number-is cs i
+
+pub front-number : (s : Shape) (cs : List ℕ) (i : ℕ) → InLimits s → cs ≡ frontOf s → toZ w32 (getD cs i 0) ≡ getD (map pos cs) i (pos 0)
+front-number s cs i l e = toZ-pos w32 {n = getD cs i 0} (omega (arith, front-fits s cs i l e)) ∙ sym (number-is cs i)
+
+pub front-each : (s : Shape) (cs : List ℕ) → cs ≡ frontOf s → tableOf s [] ≡ pieces (eachOf (map pos cs)) 0 front
+unfolding tableOf frontOf
+front-each s cs e = rw (e, append-nil (map pos (frontOf s))) (rows-each (map pos (frontOf s)) front (omega arith))
+
+pub table-long : (s : Shape) (ws : List ℤ) → length (tableOf s ws) ≡ front + length ws
+unfolding tableOf frontOf
+table-long s ws = omega arith
+
+table-split : (s : Shape) (ws : List ℤ) → tableOf s ws ≡ tableOf s [] ++ ws
 unfolding tableOf
-table-put l k s rows m h g a b c d e =
-    e
-    ∙ (four-sets l (toZ w32 (s .statements)) (toZ w32 (s .plain)) (toZ w32 (s .exceptions)) (toZ w32 (s .preferences)) (take m rows) (omega (arith, length-take-le m rows g))
-    ∙ rw (toZ-pos w32 {n = s .statements} (omega arith), toZ-pos w32 {n = s .plain} (omega arith), toZ-pos w32 {n = s .exceptions} (omega arith), toZ-pos w32 {n = s .preferences} (omega arith)))
+table-split s ws = rw (append-nil (map pos (frontOf s)))
+
+pub table-put : (l m k : List ℤ) (s : Shape) (rows : List ℤ) (n : ℕ) → front + n ≤ length l → n ≤ length rows → m ≡ sets l 0 (tableOf s []) → k ≡ sets m front (take n rows) → k ≡ over l (tableOf s (take n rows))
+unfolding over
+table-put l m k s rows n h g em ek =
+    let e : 0 + length (tableOf s []) ≡ front = omega (arith, table-long s []) in
+    let z : length (tableOf s (take n rows)) ≤ length l = omega (arith, table-long s (take n rows), length-take-le n rows g) in
+    ek ∙ (rw (em, ← e, ← sets-append (tableOf s []) (take n rows) l 0, ← table-split s (take n rows)) (sets-eq (tableOf s (take n rows)) l 0 (omega (arith, z)) ∙ rw (zero-add (length (tableOf s (take n rows))))))
 
 -- ---- Read
 module _ (bs : List ℕ) (l rows : List ℤ) (r : Reading) (p : Parsing bs r rows) where
@@ -127,24 +140,26 @@ module _ (bs : List ℕ) (l rows : List ℤ) (r : Reading) (p : Parsing bs r row
     book : Facts s (take (rowNumbers s) rows)
     book = p .facts s e
 
-    pub book-counts : (s .statements < 1000000) × (s .plain < 1000000) × (s .exceptions < 1000000) × (s .preferences < 1000000)
-    book-counts = (omega (arith, book .statements), omega (arith, book .plain), omega (arith, book .exceptions), omega (arith, book .preferences))
+    pub book-limits : InLimits s
+    book-limits = book .limits
 
-    table-long : length (tableOf s (take (rowNumbers s) rows)) ≡ 4 + rowNumbers s
-    unfolding tableOf
-    table-long = omega (arith, book .size)
+    pub few-numbers : rowNumbers s ≤ 100000
+    few-numbers = omega (arith, sum-all (λ x. x .numbers) s (book .limits), numbers-most)
+
+    book-long : length (tableOf s (take (rowNumbers s) rows)) ≡ front + rowNumbers s
+    book-long = table-long s (take (rowNumbers s) rows) ∙ ap (λ (m : ℕ). front + m) (book .size)
 
     pub rows-long : rowNumbers s ≤ length rows
     rows-long = omega (arith, book .size, length-take (rowNumbers s) rows)
 
-    pub read-short : (m : ℕ) (y : Reading) → m ≡ rowNumbers s → length l < 4 + m → y ≡ noReading 15 0 → Met bs l y l
+    pub read-short : (m : ℕ) (y : Reading) → m ≡ rowNumbers s → length l < front + m → y ≡ noReading 15 0 → Met bs l y l
     unfolding readWith readAnswer readInto lent pick
-    read-short m y em h ey = record { answer = ey ∙ rw (read-is, lt-ltb (length l) (length (tableOf s (take (rowNumbers s) rows))) (omega (arith, table-long))); slice = rw (read-is, lt-ltb (length l) (length (tableOf s (take (rowNumbers s) rows))) (omega (arith, table-long))) }
+    read-short m y em h ey = record { answer = ey ∙ rw (read-is, lt-ltb (length l) (length (tableOf s (take (rowNumbers s) rows))) (omega (arith, book-long))); slice = rw (read-is, lt-ltb (length l) (length (tableOf s (take (rowNumbers s) rows))) (omega (arith, book-long))) }
 
-    pub read-whole : (m : ℕ) (k : List ℤ) → m ≡ rowNumbers s → 4 + m ≤ length l → k ≡ over l (tableOf s (take m rows)) → Met bs l (Accepted s) k
+    pub read-whole : (m : ℕ) (k : List ℤ) → m ≡ rowNumbers s → front + m ≤ length l → k ≡ over l (tableOf s (take m rows)) → Met bs l (Accepted s) k
     unfolding readWith readAnswer readInto lent pick
     read-whole m k em h ek =
         record {
-          answer = rw (read-is, le-ltb (length l) (length (tableOf s (take (rowNumbers s) rows))) (omega (arith, table-long)));
-          slice = rw (read-is, le-ltb (length l) (length (tableOf s (take (rowNumbers s) rows))) (omega (arith, table-long))) (ek ∙ rw em);
+          answer = rw (read-is, le-ltb (length l) (length (tableOf s (take (rowNumbers s) rows))) (omega (arith, book-long)));
+          slice = rw (read-is, le-ltb (length l) (length (tableOf s (take (rowNumbers s) rows))) (omega (arith, book-long))) (ek ∙ rw em);
         }

@@ -8,7 +8,8 @@ use Rattle.book.specs.declared.Shape.{Shape}
 use Rattle.text.specs.declared.Reading.{Reading}
 use Rattle.text.specs.declared.Reading.the-variants.{Accepted}
 use Rattle.text.specs.Reading.{readText, readWith, readAnswer, readInto}
-use Rattle.text.specs.Accepted.{rowNumbers, Accepted as Facts}
+use Rattle.book.specs.Counts.{rowNumbers}
+use Rattle.text.specs.Accepted.{Accepted as Facts}
 use Rattle.read.specs.Storing.{outcomeOf}
 
 -- The answer and the rows in front of the slice are what reading the text gives, and an accepted book's facts hold of them.

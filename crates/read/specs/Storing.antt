@@ -1,12 +1,12 @@
 -- What the functions of the reader answer and leave in a slice of numbers, by the definitions of crate text.
 use Prim.Native.Nat.{ℕ, suc}
-use mathlib.Core.Bool.{false}
+use mathlib.Core.Bool.{Bool, false}
 use mathlib.Core.List.{List, [], _∷_}
 use lib.Dec.{eqb, leb}
-use lib.IntN.{ℤ, pos}
-use lib.ListN.{getD, take, set}
+use lib.IntN.{ℤ}
+use lib.ListN.{getD, take, drop, set}
 use lib.Seq.{sets}
-use Rattle.logic.specs.Tests.{both, pick}
+use Rattle.logic.specs.Tests.{pick}
 use Rattle.book.specs.declared.Kind.{Kind}
 use Rattle.book.specs.declared.Content.{Content}
 use Rattle.book.specs.Kinds.{kind, none, Range}
@@ -15,14 +15,18 @@ use Rattle.text.specs.declared.Field.the-variants.{Value, Misspelt}
 use Rattle.text.specs.declared.State.{State}
 use Rattle.text.specs.declared.Reading.{Reading}
 use Rattle.text.specs.declared.Reading.the-variants.{Accepted, Refused}
-use Rattle.text.specs.Lines.{Numbers, Line, between, inside, readFields}
+use Rattle.text.specs.Lines.{Numbers, Line, inside, lines, readFields}
 use Rattle.text.specs.Lines.Numbers.{numbers, fault}
 use Rattle.text.specs.Lines.Line.{line, wrong}
-use Rattle.text.specs.Reading.{Outcome, after, step, shapeOf}
+use Rattle.text.specs.Reading.{Outcome, Front, after, step, shapeOf}
 use Rattle.text.specs.Reading.Outcome.{accepted, refused}
-use Rattle.text.specs.Accepted.{rowNumbers}
+use Rattle.text.specs.Reading.Front.{found, stopped}
+use Rattle.book.specs.Counts.{rowNumbers}
 use Rattle.fields.specs.declared.Seen.{Seen}
 use Rattle.fields.specs.Checks.{seeAll}
+use Rattle.cursor.specs.declared.Cursor.{Cursor}
+use Rattle.read.specs.declared.Found.{Found}
+use Rattle.read.specs.declared.Found.the-variants.{Book, Refused as Lost}
 use Rattle.read.specs.declared.Number.{Number}
 use Rattle.read.specs.declared.Number.the-variants.{Is, Not}
 use Rattle.read.specs.declared.Fields.{Fields}
@@ -33,7 +37,7 @@ use Rattle.read.specs.declared.LineIs.the-variants.{Of, Bad}
 -- ---- a field
 -- A field's number if it is spelt right and in the range, else the refusal.
 unfoldable pub numberOf : Field → Range → Number
-numberOf Misspelt r = Not 5
+numberOf (Misspelt q) r = Not q
 numberOf (Value v) r = pick (inside r v) (Is v) (Not (r .fault))
 
 -- ---- the fields of a line
@@ -60,9 +64,9 @@ answerFields (Right s) l = kept l s
 answerFields (Wrong q) l = lost q
 
 -- ---- a line
--- The refusal of a line as a whole, by the lines of its kind so far, its first number and what its numbers say.
-unfoldable pub wholeIs : Kind → ℕ → ℤ → Seen → ℕ
-wholeIs x count head s = pick (leb (x .limit) count) 8 (pick (both (x .headed) (between (pos 0) (pos 0) head)) 9 (pick (s .missing) 10 (pick (s .miscounted) 11 0)))
+-- The refusal of a line as a whole, by the lines of its kind so far, whether it lacks a head, and what its numbers say.
+unfoldable pub wholeIs : Kind → ℕ → Bool → Seen → ℕ
+wholeIs x count lacking s = pick (leb (x .limit) count) (x .over) (pick lacking (x .unfilled) (pick (s .missing) 10 (pick (s .miscounted) 11 0)))
 
 -- Its kind, n after it and the numbers in the slice; or the refusal.
 pub data LineLeft : Type 0 where
@@ -91,9 +95,14 @@ untilFeed (b ∷ bs) = pick (eqb b 10) 0 (suc (untilFeed bs))
 abbrev pub noReading : ℕ → ℕ → Reading
 noReading q at = Refused (record { number = q; line = at })
 
--- The answer after the last line.
-unfoldable pub endOf : State → ℕ → Reading
-endOf st at = pick (eqb (st .next) none) (Accepted (shapeOf st)) (noReading 3 at)
+-- The answer where no line is left, or Z has come.
+unfoldable pub endOf : State → Cursor → Found
+endOf st c = pick (eqb (st .next) none) (Book (shapeOf st) c) (Lost (record { number = 3; line = c .line }))
+
+-- What was found in front of a text, the rows being in front of the slice.
+unfoldable pub frontIs : List ℕ → Found → List ℤ → Front
+frontIs text (Book s c) l = found s (take (rowNumbers s) l) (lines (drop (c .at) text)) (c .line)
+frontIs text (Lost r) l = stopped (r .number) (r .line)
 
 -- An answer as an outcome, the rows being in front of the slice.
 unfoldable pub outcomeOf : Reading → List ℤ → Outcome

@@ -1,15 +1,15 @@
 // Read: from a text to the number table. One pass finds a line's end, one reads its fields.
 ghost use mathlib.Core.Path.{_≡_};
+ghost use mathlib.Core.List.{[]};
 ghost use Prim.Native.Nat.{_+_, _*_, _<_, _≤_};
-ghost use lib.IntN.{pos};
 ghost use lib.ListN.{length, getD, drop, take};
 ghost use lib.Seq.{sets};
-ghost use Rattle.book.specs.Kinds.{kind, none, rangeOf, contents, fieldsOf, width, longest, room, exception};
+ghost use Rattle.book.specs.Kinds.{none, rangeOf, contents, fieldsOf, widest, front, longest, room, exception};
+ghost use Rattle.book.specs.Counts.{InLimits};
 ghost use Rattle.text.specs.Fields.{firstField};
-ghost use Rattle.logic.specs.Tests.{both};
-ghost use Rattle.text.specs.Lines.{kindFor, between, readLine, lines};
-ghost use Rattle.text.specs.Reading.{start, lastByte, readLines, tableOf, over};
-ghost use Rattle.read.specs.Storing.{numberOf, answerFields, storeFields, wholeIs, answerLine, storeLine, stepWith, untilFeed, endOf, noReading, outcomeOf};
+ghost use Rattle.text.specs.Lines.{kindFor, readLine, lines};
+ghost use Rattle.text.specs.Reading.{start, lastByte, readLines, readBook, tableOf, over};
+ghost use Rattle.read.specs.Storing.{numberOf, answerFields, storeFields, wholeIs, answerLine, storeLine, stepWith, untilFeed, endOf, noReading, frontIs, outcomeOf};
 ghost use Rattle.read.specs.Parsing.{Parsing, Met};
 use book::Book;
 use book::Content;
@@ -28,11 +28,10 @@ pub fn kind_for(next: usize, b: u8) -> usize
 {
     let mut k = next;
     while k < Book::KINDS {
-        let x = book::kind_at(k);
-        if x.letter == b {
+        if book::letter_at(k) == b {
             return k;
         }
-        if !x.row {
+        if !book::is_row(k) {
             return Book::KINDS;
         }
         k += 1;
@@ -53,7 +52,7 @@ pub fn read_number(text: &[u8], at: usize, content: Content, n: usize) -> Number
 {
     let field = fields::read_field(text, at);
     match field {
-        Field::Misspelt => Number::Not(5),
+        Field::Misspelt(q) => Number::Not(q),
         Field::Value(v) => {
             let checked = fields::check_number(content, n, v);
             match checked {
@@ -103,25 +102,15 @@ pub fn read_fields(text: &[u8], at: usize, x: Kind, st: State, t: &mut [i32], to
     Fields::Right(seen)
 }
 
-// A line of kind x that needs a head has head 0.
-pub fn is_headless(x: Kind, head: i32) -> bool
-    ensures { λ r. ⌜ r ≡ both (x .headed) (between (pos 0) (pos 0) head) ⌝ }
-{
-    if x.headed {
-        return fields::is_count(head, 0);
-    }
-    false
-}
-
-// The refusal of a line as a whole: 8, 9, 10, 11 in this order; 0 if none.
-pub fn line_fault(x: Kind, count: usize, head: i32, seen: Seen) -> u32
-    ensures { λ r. ⌜ r ≡ wholeIs x count head seen ⌝ }
+// The refusal of a line as a whole: 8, 9, 10, 11 in this order, the first two being its kind's own; 0 if none.
+pub fn line_fault(x: Kind, count: usize, headless: bool, seen: Seen) -> u32
+    ensures { λ r. ⌜ r ≡ wholeIs x count headless seen ⌝ }
 {
     if x.limit <= count {
-        return 8;
+        return x.over;
     }
-    if is_headless(x, head) {
-        return 9;
+    if headless {
+        return x.unfilled;
     }
     if seen.missing {
         return 10;
@@ -140,7 +129,7 @@ pub enum LineIs {
 
 // The line of len bytes, without its line feed, at a place of the text; its numbers go to t from `to` on.
 pub fn read_line(text: &[u8], at: usize, len: usize, st: State, t: &mut [i32], to: usize) -> LineIs
-    requires { ⌜ (at + len ≤ length (now text)) × (to + 9 ≤ length (now t)) × (st .statements < 2147483648) × (getD (st .counts) exception 0 < 2147483648) × (st .rows < 2147483648) ⌝ }
+    requires { ⌜ (at + len ≤ length (now text)) × (to + widest ≤ length (now t)) × (st .statements < 2147483648) × (getD (st .counts) exception 0 < 2147483648) × (st .rows < 2147483648) ⌝ }
     ensures { λ r. ⌜ answerLine r (now (t .exit)) ≡ storeLine st (now (t .entry)) to (readLine st (take len (drop at (now (text .entry))))) ⌝ }
 {
     if len == 0 {
@@ -159,7 +148,7 @@ pub fn read_line(text: &[u8], at: usize, len: usize, st: State, t: &mut [i32], t
         Fields::Wrong(q) => LineIs::Bad(q),
         Fields::Right(seen) => {
             let counts = st.counts;
-            let q = line_fault(x, counts[k], fields::number_at(t, to), seen);
+            let q = line_fault(x, counts[k], fields::is_headless(t, to, x), seen);
             if q != 0 {
                 return LineIs::Bad(q);
             }
@@ -200,10 +189,9 @@ pub fn stepped(st: State, k: usize, n: usize) -> State
     requires { ⌜ (k < none) × (getD (st .counts) k 0 < 2147483648) × (st .rows < 2147483648) ⌝ }
     ensures { λ r. ⌜ r ≡ stepWith st k n ⌝ }
 {
-    let x = book::kind_at(k);
     let mut counts = st.counts;
     counts[k] = counts[k] + 1;
-    if x.row {
+    if book::is_row(k) {
         return State {
             next: k,
             statements: n,
@@ -219,18 +207,6 @@ pub fn stepped(st: State, k: usize, n: usize) -> State
     }
 }
 
-// How many numbers of the table a line of the kind at place k gives.
-pub fn row_width(k: usize) -> usize
-    requires { ⌜ k < none ⌝ }
-    ensures { λ r. ⌜ r ≡ width (kind k) ⌝ }
-{
-    let x = book::kind_at(k);
-    if x.row {
-        return x.fields;
-    }
-    0
-}
-
 // A refusal as an answer.
 pub fn refused(number: u32, line: usize) -> Reading
     ensures { λ r. ⌜ r ≡ noReading number line ⌝ }
@@ -238,47 +214,75 @@ pub fn refused(number: u32, line: usize) -> Reading
     Reading::Refused(Refusal { number, line })
 }
 
-// The answer after the last line.
-pub fn ended(st: State, line: usize) -> Reading
-    ensures { λ r. ⌜ r ≡ endOf st line ⌝ }
+// What stands in front of a text: a book and where the reader is after its Z, or the refusal.
+pub enum Found {
+    Book(Shape, Cursor),
+    Refused(Refusal),
+}
+
+// The answer where no line is left, or Z has come.
+pub fn ended(st: State, c: Cursor) -> Found
+    ensures { λ r. ⌜ r ≡ endOf st c ⌝ }
 {
     let next = st.next;
     if next != Book::KINDS {
-        return refused(3, line);
+        return Found::Refused(Refusal {
+            number: 3,
+            line: c.line,
+        });
     }
     let counts = st.counts;
-    Reading::Accepted(Shape {
-        statements: st.statements,
-        plain: counts[Book::AT_PLAIN],
-        exceptions: counts[Book::AT_EXCEPTION],
-        preferences: counts[Book::AT_PREFERENCE],
-    })
+    Found::Book(book::shape_from(st.statements, counts), c)
 }
 
-// The lines of a text that ends with a line feed; the rows' numbers go to the front of t.
-pub fn read_lines(text: &[u8], t: &mut [i32]) -> Reading
-    requires { ⌜ (length (now text) ≤ longest) × (lastByte (now text) ≡ 10) × (room ≤ length (now t)) ⌝ }
-    ensures { λ r. ⌜ outcomeOf r (now (t .exit)) ≡ readLines (lines (now (text .entry))) start 1 ⌝ }
+// The book in front of what is left of a text from a cursor on, up to its Z; the rows' numbers go to the front of t.
+pub fn read_book(text: &[u8], from: Cursor, t: &mut [i32]) -> Found
+    requires { ⌜ (from .at ≤ length (now text)) × (from .line ≤ from .at + 1) × (length (now text) ≤ longest) × (lastByte (now text) ≡ 10) × (room ≤ length (now t)) ⌝ }
+    ensures { λ r. ⌜ frontIs (now (text .entry)) r (now (t .exit)) ≡ readBook (lines (drop (from .at) (now (text .entry)))) start (from .line) ⌝ }
 {
     let mut st = empty();
-    let mut c = Cursor::first();
+    let mut c = from;
     let mut to = 0;
     while c.at < text.len() {
+        let next = st.next;
+        if next == Book::KINDS {
+            return ended(st, c);
+        }
         let at = c.at;
         let len = line_length(text, at);
         let found = read_line(text, at, len, st, t, to);
         match found {
             LineIs::Bad(q) => {
-                return refused(q, c.line);
+                return Found::Refused(Refusal {
+                    number: q,
+                    line: c.line,
+                });
             }
             LineIs::Of(k, n) => {
                 st = stepped(st, k, n);
-                to = to + row_width(k);
+                to = to + book::numbers_at(k);
             }
         }
         c = c.past(len);
     }
-    ended(st, c.line)
+    ended(st, c)
+}
+
+// The lines of a text that ends with a line feed, with nothing after the book; the rows' numbers go to the front of t.
+pub fn read_lines(text: &[u8], t: &mut [i32]) -> Reading
+    requires { ⌜ (length (now text) ≤ longest) × (lastByte (now text) ≡ 10) × (room ≤ length (now t)) ⌝ }
+    ensures { λ r. ⌜ outcomeOf r (now (t .exit)) ≡ readLines (lines (now (text .entry))) start 1 ⌝ }
+{
+    let found = read_book(text, Cursor::first(), t);
+    match found {
+        Found::Refused(r) => Reading::Refused(r),
+        Found::Book(s, c) => {
+            if c.at < text.len() {
+                return refused(3, c.line);
+            }
+            Reading::Accepted(s)
+        }
+    }
 }
 
 // The parse of a text into a scratch of the caller's own: the outcome of reading, with an accepted book's rows at the front of the
@@ -310,16 +314,26 @@ pub fn put_rows(t: &mut [i32], at: usize, rows: &[i32; Book::ROOM], m: usize)
     }
 }
 
+// The numbers before a table's rows, in front of a slice that is long enough.
+pub fn put_front(table: &mut [i32], s: Shape)
+    requires { ⌜ (front ≤ length (now table)) × InLimits s ⌝ }
+    ensures { λ r. ⌜ now (table .exit) ≡ sets (now (table .entry)) 0 (tableOf s []) ⌝ }
+{
+    let numbers = book::front_of(s);
+    let mut i = 0;
+    while i < Book::FRONT {
+        table[i] = numbers[i] as i32;
+        i += 1;
+    }
+}
+
 // The number table of a book in front of a slice that is long enough.
 pub fn put_table(table: &mut [i32], s: Shape, rows: &[i32; Book::ROOM], m: usize)
-    requires { ⌜ (4 + m ≤ length (now table)) × (m ≤ length (now rows)) × (s .statements < 2147483648) × (s .plain < 2147483648) × (s .exceptions < 2147483648) × (s .preferences < 2147483648) ⌝ }
+    requires { ⌜ (front + m ≤ length (now table)) × (m ≤ length (now rows)) × InLimits s ⌝ }
     ensures { λ r. ⌜ now (table .exit) ≡ over (now (table .entry)) (tableOf s (take m (now (rows .entry)))) ⌝ }
 {
-    table[0] = s.statements as i32;
-    table[1] = s.plain as i32;
-    table[2] = s.exceptions as i32;
-    table[3] = s.preferences as i32;
-    put_rows(table, Book::COUNTS, rows, m);
+    put_front(table, s);
+    put_rows(table, Book::FRONT, rows, m);
 }
 
 // Read: from a text to the number table in front of the lent slice. It answers the numbers before the table's rows, or the refusal;
@@ -332,8 +346,8 @@ pub fn read(text: &[u8], table: &mut [i32]) -> Reading
     match parsed {
         Reading::Refused(r) => Reading::Refused(r),
         Reading::Accepted(s) => {
-            let m = fields::row_numbers(s);
-            if table.len() < Book::COUNTS + m {
+            let m = book::row_numbers(s);
+            if table.len() < Book::FRONT + m {
                 return refused(15, 0);
             }
             put_table(table, s, &scratch.rows, m);

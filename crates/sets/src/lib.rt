@@ -1,4 +1,6 @@
-// Sets of numbers 1 to 64 in a word, and pairs (S, T) in three words. Nothing above this crate reasons about bits.
+// Sets of numbers 1 to 64 in a word, and pairs (S, T) in three words. What a book means is said above this crate by members and by numbers
+// below a power of 2. The crates of the search handle bits themselves where no function here fits, in code, definitions (`bitOf`) and
+// proofs (lib.Bits); docs/ARCHITECTURE.md says which crates, and for what.
 ghost use mathlib.Core.Path.{_≡_};
 ghost use mathlib.Core.Bool.{false, not};
 ghost use Prim.Native.Nat.{ℕ, _<_, _≤_};
@@ -68,7 +70,8 @@ pub fn size(a: u64) -> u32
     u64::count_ones(a)
 }
 
-// A pair (S, T) as document 01 has it: exceptions taken, statements held, statements denied.
+// A pair (S, T) as document 01 has it: exceptions taken, statements held, statements denied. Programs in C have the same struct.
+#[repr(C)]
 pub struct Pair {
     pub taken: u64,
     pub held: u64,

@@ -3,35 +3,53 @@
 use mathlib.Core.Path.{_≡_, refl, sym, ap, _∙_}
 use mathlib.Core.Bool.{Bool, true, false}
 use mathlib.Core.List.{List, [], _∷_, _++_}
-use Prim.Native.Nat.{ℕ, zero, suc, _+_, _<_}
+use Prim.Native.Nat.{ℕ, zero, suc, _+_, _<_, _≤_}
 use native.Mathlib.Nat.{zero-add}
 use native.Mathlib.Omega.{arith}
+use lib.Dec.{leb}
 use lib.IntN.{ℤ, pos, negsuc}
-use lib.ListN.{length, getD, replicate, length-append, length-replicate, getD-replicate}
+use lib.ListN.{length, getD, replicate, getD-replicate}
+use borrow.Author.Tests.{le-leb, leb-true}
 use Rattle.logic.specs.Tests.{both, either, pick, consIf, some}
 use Rattle.logic.proofs.Decide.{clash}
 use Rattle.book.specs.declared.Shape.{Shape}
 use Rattle.book.specs.declared.Content.the-variants.{Edition, Statements}
-use Rattle.book.specs.Kinds.{kinds, kind, contents, fieldsOf, first, last, Range, rangeOf}
+use Rattle.book.specs.Kinds.{kinds, kind, contents, fieldsOf, first, last, rowOnce, Range, rangeOf}
+use Rattle.book.specs.Limits as limit
+use Rattle.book.specs.Counts.{countsOf, countOf, rowNumbers, total, InLimits}
+use Rattle.book.proofs.Counts.{limits-from}
+use Rattle.logic.proofs.Tests.{both-left, both-right}
 use Rattle.text.specs.declared.State.{State}
 use Rattle.text.specs.declared.Field.the-variants.{Value}
-use Rattle.text.specs.Lines.{Numbers, between, inside, andThen, testField, code, numbersIn, headless, missing, miscounted, wholeOf, unless, judged}
+use Rattle.text.specs.Lines.{Numbers, between, inside, andThen, testField, code, numbersIn, missing, miscounted, wholeOf, unless, judged}
 use Rattle.text.specs.Lines.Numbers.{numbers, fault}
 use Rattle.text.specs.Lines.Line.{line}
 use Rattle.text.specs.Reading.{start, toNat, lastOr, after, step, rowOf, readEnd, onLine}
 use Rattle.text.specs.Reading.Outcome.{accepted}
-use Rattle.text.specs.Tables.{Row, countsOf, layout, widths, cut, rowsOf, testFields, testRows}
-use Rattle.text.specs.Writing.{firstRow, lastRow, total, bookRows}
+use Rattle.text.specs.Tables.{Row, layout, cut, rowsOf, testFields, testRows}
+use Rattle.text.specs.Writing.{firstRow, lastRow, bookRows}
 use Rattle.text.proofs.KindFacts.{first-only}
 use Rattle.text.proofs.Lines.{runRow, Passed, row-passed, fields-tested, first-numbers}
 use Rattle.text.proofs.Texts.{run, went, prepend-none}
-use Rattle.text.proofs.Layouts.{occurs, rising-layout, layout-rising, occurs-layout}
-use Rattle.text.proofs.Rows.{countOf, Within, Fits, run-rows}
+use Rattle.text.proofs.Layouts.{occurs, Rising, rising-layout, occurs-layout, sumBy, widths, row-counts, counts-long, all-sum, layout-widths, rows-rising}
+use Rattle.text.proofs.Rows.{Fits, run-rows, row-yes, no-heads, ends-unfilled}
 use Rattle.text.proofs.Runs.{Form, formed, between-same}
 
 -- n lies in its range.
 abbrev pub Sized : ℕ → Type 0
 Sized n = inside (rangeOf Statements 0) (pos n) ≡ true
+
+pub sized-in : (s : Shape) → InLimits s → Sized (s .statements)
+unfolding inside between rangeOf both
+sized-in s l = rw (le-leb 1 (s .statements) (l .some-statement), le-leb (s .statements) limit.statements (l .statements))
+
+pub sized-parts : (n : ℕ) → Sized n → (1 ≤ n) × (n ≤ limit.statements)
+unfolding inside between rangeOf
+sized-parts n e = (leb-true 1 n (both-left (leb 1 n) _ e), leb-true n limit.statements (both-right (leb 1 n) _ e))
+
+-- A shape whose n is in its range and whose counts of rows are in their limits is in the limits.
+pub limits-are : (s : Shape) → Sized (s .statements) → ((k : ℕ) → first < k → k < last → countOf s k ≤ kind k .limit) → InLimits s
+limits-are s n w = let z = sized-parts (s .statements) n in limits-from s (z .0) (z .1) w
 
 -- ---- the state after B
 afterB : ℕ → State
@@ -52,37 +70,48 @@ b-nums vs = refl
 
 -- ---- the line B, right
 b-row : (n : ℕ) → Sized n → runRow start first (pos 1 ∷ pos n ∷ []) ≡ line first (pos 1 ∷ pos n ∷ [])
-unfolding runRow start pick both either judged unless testFields testField fieldsOf contents kind kinds andThen rangeOf inside between wholeOf headless missing miscounted numbersIn code consIf some
-b-row n h = rw h
+unfolding runRow start pick both either judged unless testFields testField fieldsOf contents kind kinds andThen rangeOf inside between wholeOf missing miscounted numbersIn code consIf some
+b-row n h = rw (h, no-heads (kind first) (pos 1 ∷ pos n ∷ []) (ends-unfilled .0))
 
--- How long a layout is.
+-- How long a layout is: each of its kinds is a row.
+rows-once : (ks : List ℕ) (m : ℕ) → first < m → Rising m last ks → length ks ≡ sumBy rowOnce ks
+unfolding sumBy rowOnce pick
+rows-once [] m h r = refl
+rows-once (k ∷ ks) m h r = rw (row-yes k (omega (arith, r .0)) (r .1)) (omega (arith, rows-once ks k (omega (arith, r .0)) (r .2)))
+
+ends-once : (rowOnce (kind first) ≡ 0) × (rowOnce (kind last) ≡ 0)
+unfolding rowOnce kind kinds pick
+ends-once = (refl, refl)
+
 total-is : (s : Shape) → length (layout 1 (countsOf s)) ≡ total s
-unfolding layout countsOf total
-total-is s = simp (length-append, length-replicate) (omega arith)
+total-is s = omega (arith, rows-once (layout 1 (countsOf s)) 1 (omega arith) (rows-rising s), all-sum rowOnce s, ends-once .0, ends-once .1)
 
 b-fits : (s : Shape) → Fits (afterB (s .statements)) s (layout 1 (countsOf s))
-unfolding afterB countOf countsOf
+unfolding afterB
 b-fits s =
     record {
       begun = omega arith;
       not-ended = omega arith;
-      rising = layout-rising (s .plain ∷ s .exceptions ∷ s .preferences ∷ []) 1 last (omega arith);
+      rising = rows-rising s;
       long = refl;
       same-n = refl;
       counts-are = λ k h g. counted k h g;
       unclosed = refl;
-      rows-are = zero-add (length (layout 1 (s .plain ∷ s .exceptions ∷ s .preferences ∷ []))) ∙ total-is s;
+      rows-are = zero-add (length (layout 1 (countsOf s))) ∙ total-is s;
     }
   where
     counted : (k : ℕ) → first < k → k < last → getD (afterB (s .statements) .counts) k 0 + occurs k (layout 1 (countsOf s)) ≡ countOf s k
     counted zero h g = absurd (omega arith)
-    counted (suc j) h g = let q : 1 + j ≡ suc j = omega arith in rw (b-counts (s .statements) (suc j) h g) (zero-add _ ∙ rw q at (occurs-layout (countsOf s) 1 j))
+    counted (suc j) h g =
+        let q : 1 + j ≡ suc j = omega arith in
+        let o : occurs (suc j) (layout 1 (countsOf s)) ≡ countOf s (suc j) = rw q at (occurs-layout (countsOf s) 1 j ∙ row-counts s j (omega (arith, counts-long s))) in
+        rw (b-counts (s .statements) (suc j) h g) (zero-add _ ∙ o)
 
 -- The lines of a book give what the test of its rows gives.
-pub run-book : (s : Shape) (ws : List ℤ) → Sized (s .statements) → Within s → run (bookRows s ws) start 1 ≡ testRows s (rowsOf s ws) 2
+pub run-book : (s : Shape) (ws : List ℤ) → InLimits s → run (bookRows s ws) start 1 ≡ testRows s (rowsOf s ws) 2
 unfolding bookRows rowsOf firstRow run onLine
-run-book s ws n w =
-    rw (b-row (s .statements) n, b-nums (pos 1 ∷ pos (s .statements) ∷ []), b-step (s .statements))
+run-book s ws w =
+    rw (b-row (s .statements) (sized-in s w), b-nums (pos 1 ∷ pos (s .statements) ∷ []), b-step (s .statements))
     (prepend-none (run (cut (layout 1 (countsOf s)) ws ++ (lastRow (total s) ∷ [])) (afterB (s .statements)) 2) ∙ run-rows (layout 1 (countsOf s)) ws (afterB (s .statements)) s 2 w (b-fits s))
 
 -- ---- accepted lines
@@ -117,18 +146,18 @@ b-numbers n (v ∷ w ∷ x ∷ vs) e = absurd (let z = fields-tested (Edition �
 -- What the lines of an accepted book are.
 pub record Book (rs : List Row) (s : Shape) (ws : List ℤ) : Type 0 where
   pub rows-are : rs ≡ bookRows s ws
-  pub size : length ws ≡ widths (layout 1 (countsOf s))
-  pub sized : Sized (s .statements)
-  pub within : Within s
+  pub size : length ws ≡ rowNumbers s
+  pub limits : InLimits s
 
 form-layout : (n : ℕ) (s : Shape) (rs : List Row) (ws : List ℤ) (f : Form (afterB n) s rs ws) → f .ks ≡ layout 1 (countsOf s)
-unfolding afterB countsOf countOf
-form-layout n s rs ws f = rising-layout (s .plain ∷ s .exceptions ∷ s .preferences ∷ []) 1 last (f .ks) refl (f .rising) (λ j h. counted j h)
+unfolding afterB
+form-layout n s rs ws f = rising-layout (countsOf s) 1 last (f .ks) (sym (counts-long s)) (f .rising) (λ j h. counted j h)
   where
-    counted : (j : ℕ) → j < 3 → occurs (1 + j) (f .ks) ≡ getD (s .plain ∷ s .exceptions ∷ s .preferences ∷ []) j 0
+    counted : (j : ℕ) → j < length (countsOf s) → occurs (1 + j) (f .ks) ≡ getD (countsOf s) j 0
     counted j h =
         let q : 1 + j ≡ suc j = omega arith in
-        rw q (sym (zero-add _) ∙ (ap (λ (m : ℕ). m + occurs (suc j) (f .ks)) (sym (b-counts n (suc j) (omega arith) (omega arith))) ∙ f .counts-are (suc j) (omega arith) (omega arith)))
+        let l : suc j < last = omega (arith, counts-long s) in
+        rw (row-counts s j h, q) (sym (zero-add _) ∙ (ap (λ (m : ℕ). m + occurs (suc j) (f .ks)) (sym (b-counts n (suc j) (omega arith) l)) ∙ f .counts-are (suc j) (omega arith) l))
 
 form-rows : (n : ℕ) (s : Shape) (rs : List Row) (ws : List ℤ) (ks : List ℕ) → ks ≡ layout 1 (countsOf s) → rs ≡ cut ks ws ++ (lastRow (0 + length ks) ∷ []) → s .statements ≡ n
     → firstRow n ∷ rs ≡ bookRows s ws
@@ -144,9 +173,8 @@ b-book n s rs ws z f =
     let q : s .statements ≡ n = f .same-n in
     record {
       rows-are = form-rows n s rs ws (f .ks) e (f .rows-are) q;
-      size = f .size ∙ ap widths e;
-      sized = rw q z;
-      within = λ k h g. f .few k h g (rw (b-counts n k h g) (omega arith));
+      size = f .size ∙ (ap widths e ∙ layout-widths s);
+      limits = limits-are s (rw q z) (λ k h g. f .few k h g (rw (b-counts n k h g) (omega arith)));
     }
 
 start-is : start .next ≡ 0

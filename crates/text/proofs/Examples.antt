@@ -5,20 +5,21 @@ use mathlib.Core.List.{List, [], _∷_, _++_}
 use Prim.Native.Nat.{_*_}
 use lib.IntN.{ℤ, pos}
 use lib.ListN.{replicate}
-use Rattle.logic.specs.Tests.{both, either, pick, consIf, some, concatMap}
+use Rattle.logic.specs.Tests.{both, pick, consIf, some, concatMap}
 use Rattle.book.specs.declared.Shape.{Shape}
 use Rattle.book.specs.Limits as limit
-use Rattle.book.specs.Kinds.{kinds, kind, unknown, contents, fieldsOf, ruleFields, preferenceFields, mostRows, most, rangeOf}
+use Rattle.book.specs.Kinds.{kinds, kind, unknown, contents, fieldsOf, numbersOf, rowOnce, ruleFields, preferenceFields, mostRows, most, rangeOf}
+use Rattle.book.specs.Counts.{countsOf, frontOf, allCounts, countOf, shapeFrom, sumTo}
 use Rattle.book.specs.Shapes.{emptyShape}
-use Rattle.text.specs.Lines.{between, inside, andThen, testField, code, numbersIn, headless, missing, unless, judged}
+use Rattle.text.specs.Lines.{between, inside, andThen, testField, code, numbersIn, filledIn, headless, missing, unless, judged}
 use Rattle.text.specs.Reading.{toNat, rowOf, prepend, onLine, readText, tableOf}
 use Rattle.text.specs.Reading.Outcome.{accepted}
-use Rattle.text.specs.Tables.{countsOf, layout, widths, cut, rowsOf, testFields, rowFault, testRow, testRows, shapeIn, miscount, testTable}
+use Rattle.text.specs.Tables.{layout, cut, rowsOf, testFields, rowFault, testRow, testRows, shapeIn, miscount, testTable}
 use Rattle.text.specs.Writing.{textOf}
 use Rattle.text.proofs.Inverse.{write-read}
 
 pub empty-table : testTable (tableOf emptyShape []) ≡ accepted emptyShape []
-unfolding kinds kind unknown contents fieldsOf rangeOf between inside both either pick toNat tableOf emptyShape countsOf layout widths cut rowsOf testRows shapeIn miscount testTable
+unfolding kinds kind unknown contents numbersOf rangeOf between inside both pick some toNat tableOf emptyShape countsOf frontOf allCounts countOf shapeFrom sumTo layout cut rowsOf testRows shapeIn miscount testTable
 empty-table = refl
 
 pub empty-text : readText (textOf emptyShape []) ≡ accepted emptyShape []
@@ -34,7 +35,7 @@ fullRows =
     ++ (concatMap (λ x. x) (replicate limit.exceptions (pos 1 ∷ replicate 8 (pos 0))) ++ replicate (limit.preferences * preferenceFields) (pos 1))
 
 pub full-table : testTable (tableOf fullShape fullRows) ≡ accepted fullShape fullRows
-unfolding kinds kind unknown contents fieldsOf mostRows most rangeOf between inside andThen testField code numbersIn headless missing unless judged both either pick consIf some concatMap toNat rowOf prepend onLine tableOf countsOf layout widths cut rowsOf testFields rowFault testRow testRows shapeIn miscount testTable fullShape fullRows
+unfolding kinds kind unknown contents fieldsOf numbersOf mostRows most rowOnce rangeOf between inside andThen testField code numbersIn filledIn headless missing unless judged both pick consIf some concatMap toNat rowOf prepend onLine tableOf countsOf frontOf allCounts countOf shapeFrom sumTo layout cut rowsOf testFields rowFault testRow testRows shapeIn miscount testTable fullShape fullRows
 full-table = refl
 
 pub full-text : readText (textOf fullShape fullRows) ≡ accepted fullShape fullRows

@@ -1,61 +1,68 @@
 -- What holds of every accepted book (specs/Accepted): from the test of its table, row by row.
--- By induction on the rows of one kind: each row of a block passed its tests, and the rows after the block passed theirs.
+-- By induction on the counts, and within one count on the rows: each row of a block passed its tests, and the rows after the block passed theirs.
 use mathlib.Core.Path.{_≡_, refl, sym, ap, _∙_}
 use mathlib.Core.Bool.{Bool, true, false, not}
 use mathlib.Core.List.{List, [], _∷_, _++_}
-use Prim.Native.Nat.{ℕ, zero, suc, _+_, _-_, _*_, _/_, _%_, _<_, _≤_}
-use native.Mathlib.Nat.{add-zero, zero-mul, div-add-mod', mod-lt, suc-mul, not-suc-le-zero}
+use Prim.Native.Nat.{ℕ, zero, suc, _+_, _*_, _<_, _≤_}
+use native.Mathlib.Nat.{add-zero, zero-mul, suc-mul, mul-le-mul-right, not-suc-le-zero}
 use native.Mathlib.Omega.{arith}
-use lib.Dec.{ltb, leb}
+use lib.Dec.{eqb, leb}
 use lib.IntN.{ℤ, pos, negsuc, negℤ, natAbs}
 use lib.Signed.{leZ}
-use lib.ListN.{length, getD, take, drop, replicate, length-replicate, getD-replicate}
-use lib.Seq.{drop-drop, getD-take, getD-drop}
-use borrow.Author.Tests.{ltb-true, ltb-false, leb-true}
-use Rattle.logic.specs.Tests.{both, pick, consIf, some}
+use lib.ListN.{length, getD, take, drop, replicate, length-drop, getD-replicate}
+use lib.Seq.{drop-drop, getD-take, getD-drop, length-take-le}
+use borrow.Author.Tests.{eqb-true, eqb-false, leb-true}
+use Rattle.logic.specs.Tests.{pick, consIf, some}
 use Rattle.logic.proofs.Decide.{clash}
+use Rattle.logic.proofs.Tests.{both-left, both-right}
 use Rattle.book.specs.declared.Shape.{Shape}
 use Rattle.book.specs.declared.Content.{Content}
 use Rattle.book.specs.declared.Content.the-variants.{Edition, Literal, Exception}
-use Rattle.book.specs.Limits as limit
-use Rattle.book.specs.Kinds.{kinds, kind, contents, fieldsOf, plain, exception, preference, ruleFields, preferenceFields, rangeOf}
+use Rattle.book.specs.Kinds.{kinds, kind, contents, fieldsOf, numbersOf, none, first, last, plain, exception, preference, ruleNumbers, preferenceNumbers, rangeOf}
+use Rattle.book.specs.Counts.{countsOf, countOf, sumTo, startOf, rowNumbers}
+use Rattle.book.proofs.Counts.{sum-next, sum-up}
 use Rattle.text.specs.declared.Field.the-variants.{Value}
 use Rattle.text.specs.Lines.{between, inside, code, numbersIn, headless, missing}
 use Rattle.text.specs.Lines.Numbers.{numbers}
-use Rattle.text.specs.Reading.{readText, tableOf, toNat}
+use Rattle.text.specs.Reading.{readText, tableOf}
 use Rattle.text.specs.Reading.Outcome.{accepted}
-use Rattle.text.specs.Tables.{countsOf, layout, widths, cut, rowsOf, testFields, rowFault, testRows, shapeIn}
-use Rattle.text.specs.Accepted.{ruleNumbers, rowNumbers, Named, Accepted}
-use Rattle.text.proofs.Tests.{both-left, both-right}
-use Rattle.text.proofs.Lines.{first-numbers, fields-tested}
-use Rattle.text.proofs.Rows.{countOf, Within}
-use Rattle.text.proofs.Books.{Sized, in-first}
+use Rattle.text.specs.Tables.{layout, cut, rowsOf, testFields, rowFault, testRows}
+use Rattle.text.specs.Accepted.{rowAt, RowRight, Accepted}
+use Rattle.text.proofs.KindFacts.{unfilled-some, numbers-wide}
+use Rattle.text.proofs.Lines.{first-numbers}
+use Rattle.text.proofs.Layouts.{row-counts, counts-long}
+use Rattle.text.proofs.Books.{in-first}
 use Rattle.text.proofs.Written.{Row-passed, next-row}
-use Rattle.text.proofs.Inverse.{Table, table-passed, read-write}
+use Rattle.text.proofs.Inverse.{Table, shape-back, table-passed, read-write}
 
 -- ---- a block of rows of one kind
 module _ (s s′ : Shape) (k : ℕ) (ks : List ℕ) where
   -- The row after i rows of the kind.
-  abbrev rowAt : List ℤ → ℕ → List ℤ
-  rowAt ws i = take (kind k .fields) (drop (i * kind k .fields) ws)
+  abbrev blockRow : List ℤ → ℕ → List ℤ
+  blockRow ws i = take (kind k .numbers) (drop (i * kind k .numbers) ws)
 
-  block-row : (c : ℕ) (ws ws′ : List ℤ) (at i : ℕ) → i < c → testRows s (cut (replicate c k ++ ks) ws) at ≡ accepted s′ ws′ → Row-passed s k (rowAt ws i) k (rowAt ws i)
+  block-row : (c : ℕ) (ws ws′ : List ℤ) (at i : ℕ) → i < c → testRows s (cut (replicate c k ++ ks) ws) at ≡ accepted s′ ws′ → Row-passed s k (blockRow ws i) k (blockRow ws i)
   block-row zero ws ws′ at i h e = absurd (not-suc-le-zero h)
-  block-row (suc c) ws ws′ at zero h e = rw (zero-mul (kind k .fields)) (next-row s k (replicate c k ++ ks) ws at s′ ws′ e .passed)
+  block-row (suc c) ws ws′ at zero h e = rw (zero-mul (kind k .numbers)) (next-row s k (replicate c k ++ ks) ws at s′ ws′ e .passed)
   block-row (suc c) ws ws′ at (suc i) h e =
       let n = next-row s k (replicate c k ++ ks) ws at s′ ws′ e in
-      let ih = block-row c (drop (kind k .fields) ws) (n .us) (suc at) i (omega arith) (n .then) in
-      let q : kind k .fields + i * kind k .fields ≡ suc i * kind k .fields = omega (arith, suc-mul i (kind k .fields)) in
-      rw (← q) (rw (drop-drop (i * kind k .fields) (kind k .fields) ws) at ih)
+      let ih = block-row c (drop (kind k .numbers) ws) (n .us) (suc at) i (omega arith) (n .then) in
+      let q : kind k .numbers + i * kind k .numbers ≡ suc i * kind k .numbers = omega (arith, suc-mul i (kind k .numbers)) in
+      rw (← q) (rw (drop-drop (i * kind k .numbers) (kind k .numbers) ws) at ih)
 
-  block-rest : (c : ℕ) (ws ws′ : List ℤ) (at : ℕ) → testRows s (cut (replicate c k ++ ks) ws) at ≡ accepted s′ ws′ → (us : List ℤ) × (testRows s (cut ks (drop (c * kind k .fields) ws)) (at + c) ≡ accepted s′ us)
-  block-rest zero ws ws′ at e = (ws′, rw (add-zero at, zero-mul (kind k .fields)) e)
+  block-rest : (c : ℕ) (ws ws′ : List ℤ) (at : ℕ) → testRows s (cut (replicate c k ++ ks) ws) at ≡ accepted s′ ws′ → (us : List ℤ) × (testRows s (cut ks (drop (c * kind k .numbers) ws)) (at + c) ≡ accepted s′ us)
+  block-rest zero ws ws′ at e = (ws′, rw (add-zero at, zero-mul (kind k .numbers)) e)
   block-rest (suc c) ws ws′ at e =
       let n = next-row s k (replicate c k ++ ks) ws at s′ ws′ e in
-      let ih = block-rest c (drop (kind k .fields) ws) (n .us) (suc at) (n .then) in
-      let q : kind k .fields + c * kind k .fields ≡ suc c * kind k .fields = omega (arith, suc-mul c (kind k .fields)) in
+      let ih = block-rest c (drop (kind k .numbers) ws) (n .us) (suc at) (n .then) in
+      let q : kind k .numbers + c * kind k .numbers ≡ suc c * kind k .numbers = omega (arith, suc-mul c (kind k .numbers)) in
       let r : suc at + c ≡ at + suc c = omega arith in
-      (ih .0, rw (← q, ← r) (rw (drop-drop (c * kind k .fields) (kind k .fields) ws) at (ih .1)))
+      (ih .0, rw (← q, ← r) (rw (drop-drop (c * kind k .numbers) (kind k .numbers) ws) at (ih .1)))
+
+-- Past a block of c rows begin the rows of the next kind.
+after-block : (s : Shape) (i c : ℕ) (ws us : List ℤ) (at : ℕ) (ks : List ℕ) {s′ : Shape} → c ≡ countOf s i → testRows s (cut ks (drop (c * kind i .numbers) (drop (startOf s i) ws))) at ≡ accepted s′ us → testRows s (cut ks (drop (startOf s (suc i)) ws)) at ≡ accepted s′ us
+unfolding sumTo
+after-block s i c ws us at ks e t = rw (← e) (rw (drop-drop (c * kind i .numbers) (startOf s i) ws) at t)
 
 -- ---- the numbers of a row
 inside-at : (cs : List Content) (n : ℕ) (vs us : List ℤ) (j : ℕ) → testFields cs n vs ≡ numbers us → j < length cs → inside (rangeOf (getD cs j Edition) n) (getD vs j (pos 0)) ≡ true
@@ -67,168 +74,143 @@ inside-at (c ∷ cs) n (v ∷ vs) us (suc j) e h =
     let g = first-numbers (Value v) (rangeOf c n) (testFields cs n vs) us e in
     inside-at cs n vs (g .1) j (g .3) (omega arith)
 
+fault-parts : (m k : ℕ) (vs : List ℤ) → k < none → rowFault m (kind k) vs ≡ 0 → (headless (kind k) vs ≡ false) × (missing m (kind k) vs ≡ false)
+unfolding rowFault pick
+fault-parts m k vs h e = go (headless (kind k) vs) (missing m (kind k) vs) refl refl e
+  where
+    go : (a b : Bool) → headless (kind k) vs ≡ a → missing m (kind k) vs ≡ b → _≡_ {A = ℕ} (pick a (kind k .unfilled) (pick b 10 0)) 0 → (headless (kind k) vs ≡ false) × (missing m (kind k) vs ≡ false)
+    go true b p q e = absurd (omega (arith, unfilled-some k h))
+    go false true p q e = absurd (omega arith)
+    go false false p q e = (p, q)
+
+-- ---- all rows
+module _ (s s′ : Shape) (ws : List ℤ) where
+  -- The rows of the kinds from place i on, with so many of each.
+  rows-at : (cs : List ℕ) (i : ℕ) (ws′ : List ℤ) (at : ℕ) → ((j : ℕ) → j < length cs → getD cs j 0 ≡ countOf s (i + j)) → testRows s (cut (layout i cs) (drop (startOf s i) ws)) at ≡ accepted s′ ws′
+      → (k r : ℕ) → i ≤ k → k < i + length cs → r < countOf s k → Row-passed s k (rowAt s ws k r) k (rowAt s ws k r)
+  unfolding layout
+  rows-at [] i ws′ at n e k r h g l = absurd (omega arith)
+  rows-at (c ∷ cs) i ws′ at n e k r h g l =
+      let b = block-rest s s′ i (layout (suc i) cs) c (drop (startOf s i) ws) ws′ at e in
+      go (eqb i k) refl (λ f. rows-at cs (suc i) (b .0) (at + c) (λ j m. let p : i + suc j ≡ suc i + j = omega arith in rw p at (n (suc j) (omega arith))) (after-block s i c ws (b .0) (at + c) (layout (suc i) cs) here (b .1)) k r (omega (arith, f)) (omega arith) l)
+    where
+      here : c ≡ countOf s i
+      here = rw (add-zero i) at (n 0 (omega arith))
+
+      first-block : r < countOf s i → Row-passed s i (rowAt s ws i r) i (rowAt s ws i r)
+      first-block l =
+          let p = block-row s s′ i (layout (suc i) cs) c (drop (startOf s i) ws) ws′ at r (rw here l) e in
+          rw (drop-drop (r * kind i .numbers) (startOf s i) ws) at p
+
+      go : (b : Bool) → eqb i k ≡ b → ((i ≡ k → ⊥) → Row-passed s k (rowAt s ws k r) k (rowAt s ws k r)) → Row-passed s k (rowAt s ws k r) k (rowAt s ws k r)
+      go true p ih = let q = eqb-true i k p in rw q at (first-block (rw q l))
+      go false p ih = ih (eqb-false i k p)
+
+-- Row i of the kind at place k, from what it passed.
+row-right : (s : Shape) (ws : List ℤ) (k i : ℕ) → first < k → k < last → Row-passed s k (rowAt s ws k i) k (rowAt s ws k i) → RowRight s ws k i
+row-right s ws k i h g p =
+    let f = fault-parts (s .exceptions) k (rowAt s ws k i) (omega arith) (p .right) in
+    record {
+      ranges = λ j l.
+          rw (getD-take (kind k .numbers) (drop (startOf s k + i * kind k .numbers) ws) j (pos 0) l, getD-drop (startOf s k + i * kind k .numbers) ws j (pos 0))
+          at (inside-at (numbersOf (kind k)) (s .statements) (rowAt s ws k i) (rowAt s ws k i) j (p .fields-pass) (rw (numbers-wide k h g) l));
+      heads = f .0;
+      names = f .1;
+    }
+
+-- ---- accepted books
+none-before : (s : Shape) (ws : List ℤ) → drop (startOf s 1) ws ≡ ws
+unfolding sumTo kind kinds
+none-before s ws = let z : 0 + countOf s 0 * 0 ≡ 0 = omega arith in rw z
+
+-- The facts of an accepted table, and so of an accepted text.
+pub table-facts : (s : Shape) (ws : List ℤ) → Table (tableOf s ws) s ws → Accepted s ws
+unfolding rowsOf
+table-facts s ws t =
+    let b = shape-back s ws in
+    let e : testRows s (cut (layout 1 (countsOf s)) ws) 2 ≡ accepted s ws = rw (b .0, b .1) at (t .pass) in
+    record {
+      limits = rw (b .0) at (t .limits);
+      size = rw (b .0, b .1) at (t .size);
+      rows = λ k i h g l. row-right s ws k i h g (rows-at s s ws (countsOf s) 1 ws 2 (row-counts s) (rw (none-before s ws) e) k i h (rw (counts-long s) g) l);
+    }
+
+pub accepted-facts : (bs : List ℕ) (s : Shape) (ws : List ℤ) → readText bs ≡ accepted s ws → Accepted s ws
+accepted-facts bs s ws e = table-facts s ws (table-passed (tableOf s ws) s ws (read-write bs s ws e .0))
+
+-- ---- what the ranges say
 literal-size : (n : ℕ) (v : ℤ) → inside (rangeOf Literal n) v ≡ true → natAbs v ≤ n
 unfolding inside between rangeOf
 literal-size n (pos m) e = leb-true m n (both-right (leZ (negℤ (pos n)) (pos m)) (leb m n) e)
 literal-size zero (negsuc m) e = absurd (clash (both-left (leZ (pos 0) (negsuc m)) _ e))
 literal-size (suc n) (negsuc m) e = omega (arith, leb-true m n (both-left (leb m n) _ e))
 
-fault-parts : (m k : ℕ) (vs : List ℤ) → rowFault m (kind k) vs ≡ 0 → (headless (kind k) vs ≡ false) × (missing m (kind k) vs ≡ false)
-unfolding rowFault pick
-fault-parts m k vs e = go (headless (kind k) vs) (missing m (kind k) vs) refl refl e
+-- A kind whose numbers are all heads and entries.
+abbrev pub RuleKind : ℕ → Type 0
+RuleKind k = (first < k) × (k < last) × (kind k .numbers ≡ ruleNumbers) × (numbersOf (kind k) ≡ replicate ruleNumbers Literal)
+
+pub plain-rules : RuleKind plain
+unfolding kind kinds numbersOf contents
+plain-rules = (omega arith, omega arith, refl, refl)
+
+pub exception-rules : RuleKind exception
+unfolding kind kinds numbersOf contents
+exception-rules = (omega arith, omega arith, refl, refl)
+
+-- Heads and entries lie in -n to n.
+pub entry-small : (s : Shape) (ws : List ℤ) → Accepted s ws → (k : ℕ) → RuleKind k → (i j : ℕ) → i < countOf s k → j < ruleNumbers → natAbs (getD ws (startOf s k + i * ruleNumbers + j) (pos 0)) ≤ s .statements
+entry-small s ws a k r i j l h =
+    let e = a .rows k i (r .0) (r .1) l .ranges j (rw (r .2) h) in
+    let c : getD (numbersOf (kind k)) j Edition ≡ Literal = ap (λ (l : List Content). getD l j Edition) (r .3) ∙ getD-replicate ruleNumbers j Literal Edition h in
+    let p : startOf s k + i * kind k .numbers + j ≡ startOf s k + i * ruleNumbers + j = ap (λ (w : ℕ). startOf s k + i * w + j) (r .2) in
+    literal-size (s .statements) _ (rw c at (ap (λ (m : ℕ). inside (rangeOf (getD (numbersOf (kind k)) j Edition) (s .statements)) (getD ws m (pos 0))) (sym p) ∙ e))
+
+-- The number of one of m exceptions.
+pub record Named (m : ℕ) (v : ℤ) : Type 0 where
+  pub number : ℕ
+  pub is : v ≡ pos number
+  pub low : 1 ≤ number
+  pub high : number ≤ m
+
+-- Exceptions that a preference names are the book's own.
+some-not : (m : ℕ) (v : ℤ) (vs : List ℤ) → some (λ u. not (leZ u (pos m))) (v ∷ vs) ≡ false → (leZ v (pos m) ≡ true) × (some (λ u. not (leZ u (pos m))) vs ≡ false)
+unfolding some
+some-not m v vs e = go (leZ v (pos m)) e
   where
-    go : (a b : Bool) → headless (kind k) vs ≡ a → missing m (kind k) vs ≡ b → _≡_ {A = ℕ} (pick a 9 (pick b 10 0)) 0 → (headless (kind k) vs ≡ false) × (missing m (kind k) vs ≡ false)
-    go true b p q e = absurd (omega arith)
-    go false true p q e = absurd (omega arith)
-    go false false p q e = (p, q)
+    go : (b : Bool) → elim (not b) [ true ↦ true | false ↦ some (λ u. not (leZ u (pos m))) vs ] ≡ false → (b ≡ true) × (some (λ u. not (leZ u (pos m))) vs ≡ false)
+    go true e = (refl, e)
+    go false e = absurd (clash (sym e))
 
--- Number i of a block is number i % w of row i / w.
-number-at : (ws : List ℤ) (w i : ℕ) → 0 < w → getD (take w (drop (i / w * w) ws)) (i % w) (pos 0) ≡ getD ws i (pos 0)
-number-at ws w i h = getD-take w (drop (i / w * w) ws) (i % w) (pos 0) (mod-lt i h) ∙ (getD-drop (i / w * w) ws (i % w) (pos 0) ∙ ap (λ (j : ℕ). getD ws j (pos 0)) (div-add-mod' i w))
-
--- ---- rules and preferences
-rule-fields : (k : ℕ) → plain ≤ k → k ≤ exception → (kind k .fields ≡ ruleFields) × (fieldsOf (kind k) ≡ replicate ruleFields Literal)
-unfolding kind kinds fieldsOf contents
-rule-fields zero h g = absurd (omega arith)
-rule-fields (suc zero) h g = (refl, refl)
-rule-fields (suc (suc zero)) h g = (refl, refl)
-rule-fields (suc (suc (suc k))) h g = absurd (omega arith)
-
-literal-at : (n : ℕ) (vs : List ℤ) (j : ℕ) → testFields (replicate ruleFields Literal) n vs ≡ numbers vs → j < ruleFields → natAbs (getD vs j (pos 0)) ≤ n
-literal-at n vs j e h =
-    literal-size n (getD vs j (pos 0)) (rw (getD-replicate ruleFields j Literal Edition h) at (inside-at (replicate ruleFields Literal) n vs vs j e (rw (length-replicate ruleFields Literal) h)))
-
-module _ (s s′ : Shape) (k : ℕ) (ks : List ℕ) (c : ℕ) (ws ws′ : List ℤ) (at : ℕ) (e : testRows s (cut (replicate c k ++ ks) ws) at ≡ accepted s′ ws′) where
-  rule-entries : plain ≤ k → k ≤ exception → (i : ℕ) → i < c * ruleFields → natAbs (getD ws i (pos 0)) ≤ s .statements
-  rule-entries h g i l =
-      let f = rule-fields k h g in
-      let p = block-row s s′ k ks c ws ws′ at (i / ruleFields) (omega (arith, div-add-mod' i ruleFields)) e .fields-pass in
-      let q : testFields (replicate ruleFields Literal) (s .statements) (take ruleFields (drop (i / ruleFields * ruleFields) ws)) ≡ numbers (take ruleFields (drop (i / ruleFields * ruleFields) ws)) = rw (f .1, f .0) at p in
-      rw (← number-at ws ruleFields i (omega arith)) (literal-at (s .statements) (take ruleFields (drop (i / ruleFields * ruleFields) ws)) (i % ruleFields) q (mod-lt i (omega arith)))
-
--- A head that passed is not 0.
-head-not : (vs : List ℤ) → headless (kind exception) vs ≡ false → getD vs 0 (pos 0) ≡ pos 0 → ⊥
-unfolding headless kind kinds both between
-head-not vs e f = clash (sym (rw f at e))
-
--- Where some test of a list fails for all, it fails for the first and for the rest.
-first-of : (b x : Bool) → elim (not b) [ true ↦ true | false ↦ x ] ≡ false → b ≡ true
-first-of true x e = refl
-first-of false x e = absurd (clash (sym e))
-
-second-of : (b x : Bool) → elim (not b) [ true ↦ true | false ↦ x ] ≡ false → x ≡ false
-second-of true x e = e
-second-of false x e = absurd (clash (sym e))
-
-bounded : (m n : ℕ) (v : ℤ) → inside (rangeOf Exception n) v ≡ true → leZ v (pos m) ≡ true → (a : ℕ) × (v ≡ pos a) × (1 ≤ a) × (a ≤ m)
+exception-named : (m n : ℕ) (v : ℤ) → inside (rangeOf Exception n) v ≡ true → leZ v (pos m) ≡ true → Named m v
 unfolding inside between rangeOf
-bounded m n (pos a) e f = (a, refl, leb-true 1 a (both-left (leb 1 a) _ e), leb-true a m f)
-bounded m n (negsuc a) e f = absurd (clash (both-left (leZ (pos 1) (negsuc a)) _ e))
+exception-named m n (pos a) e f = record { number = a; is = refl; low = leb-true 1 a (both-left (leb 1 a) _ e); high = leb-true a m f }
+exception-named m n (negsuc a) e f = absurd (clash (both-left (leZ (pos 1) (negsuc a)) _ e))
 
--- Exceptions that passed are the book's own.
-named-in : (m n : ℕ) (vs : List ℤ) (j : ℕ) → testFields (fieldsOf (kind preference)) n vs ≡ numbers vs → missing m (kind preference) vs ≡ false → j < preferenceFields → (a : ℕ) × (getD vs j (pos 0) ≡ pos a) × (1 ≤ a) × (a ≤ m)
-unfolding fieldsOf kind kinds contents missing numbersIn code consIf some
-named-in m n [] j e f h = absurd (let z : _≡_ {A = ℕ} 0 1 = cc (fields-tested (Exception ∷ Exception ∷ []) n [] [] e .1) in omega arith)
-named-in m n (v ∷ []) j e f h = absurd (let z = fields-tested (Exception ∷ Exception ∷ []) n (v ∷ []) (v ∷ []) e .1 in omega arith)
-named-in m n (v ∷ w ∷ vs) zero e f h = bounded m n v (inside-at (Exception ∷ Exception ∷ []) n (v ∷ w ∷ vs) _ 0 e (omega arith)) (first-of (leZ v (pos m)) _ f)
-named-in m n (v ∷ w ∷ vs) (suc zero) e f h = bounded m n w (inside-at (Exception ∷ Exception ∷ []) n (v ∷ w ∷ vs) _ 1 e (omega arith)) (first-of (leZ w (pos m)) _ (second-of (leZ v (pos m)) _ f))
-named-in m n (v ∷ w ∷ vs) (suc (suc j)) e f h = absurd (omega arith)
+two-named : (m : ℕ) (vs : List ℤ) → length vs ≡ preferenceNumbers → missing m (kind preference) vs ≡ false → (j : ℕ) → j < preferenceNumbers → leZ (getD vs j (pos 0)) (pos m) ≡ true
+unfolding missing fieldsOf kind kinds contents numbersIn code consIf
+two-named m [] l e j h = absurd (omega arith)
+two-named m (v ∷ []) l e j h = absurd (omega arith)
+two-named m (v ∷ w ∷ []) l e zero h = some-not m v (w ∷ []) e .0
+two-named m (v ∷ w ∷ []) l e (suc zero) h = some-not m w [] (some-not m v (w ∷ []) e .1) .0
+two-named m (v ∷ w ∷ []) l e (suc (suc j)) h = absurd (omega arith)
+two-named m (v ∷ w ∷ x ∷ vs) l e j h = absurd (omega arith)
 
--- ---- the three blocks of a book
-pub widths-repeat : (c k : ℕ) (ks : List ℕ) → widths (replicate c k ++ ks) ≡ c * kind k .fields + widths ks
-unfolding widths
-widths-repeat zero k ks = omega arith
-widths-repeat (suc c) k ks = rw (widths-repeat c k ks, suc-mul) (omega arith)
+preference-kind : (kind preference .numbers ≡ preferenceNumbers) × (numbersOf (kind preference) ≡ replicate preferenceNumbers Exception)
+unfolding kind kinds numbersOf contents
+preference-kind = (refl, refl)
 
-preference-fields : kind preference .fields ≡ preferenceFields
-unfolding kind kinds
-preference-fields = refl
+start-in : (s : Shape) (k i : ℕ) → k < none → i < countOf s k → startOf s k + i * kind k .numbers + kind k .numbers ≤ rowNumbers s
+start-in s k i h l =
+    let n = sum-next (λ x. x .numbers) s k (startOf s k) (countOf s k) (kind k .numbers) refl refl refl in
+    omega (arith, n, sum-up (λ x. x .numbers) s (k + 1) (omega arith), suc-mul i (kind k .numbers), mul-le-mul-right (kind k .numbers) l)
 
-no-widths : widths [] ≡ 0
-unfolding widths
-no-widths = refl
-
-pub layout-widths : (s : Shape) → widths (layout 1 (countsOf s)) ≡ rowNumbers s
-unfolding layout countsOf
-layout-widths s =
-    let a = widths-repeat (s .plain) plain (replicate (s .exceptions) exception ++ (replicate (s .preferences) preference ++ [])) in
-    let b = widths-repeat (s .exceptions) exception (replicate (s .preferences) preference ++ []) in
-    let c = widths-repeat (s .preferences) preference [] in
-    let p : s .plain * kind plain .fields ≡ s .plain * ruleFields = ap (λ (w : ℕ). s .plain * w) (rule-fields plain (omega arith) (omega arith) .0) in
-    let x : s .exceptions * kind exception .fields ≡ s .exceptions * ruleFields = ap (λ (w : ℕ). s .exceptions * w) (rule-fields exception (omega arith) (omega arith) .0) in
-    let q : s .preferences * kind preference .fields ≡ s .preferences * preferenceFields = ap (λ (w : ℕ). s .preferences * w) preference-fields in
-    omega (arith, a, b, c, p, x, q, no-widths)
-
-module _ (s : Shape) (ws : List ℤ) (e : testRows s (rowsOf s ws) 2 ≡ accepted s ws) where
-  plain-block : testRows s (cut (replicate (s .plain) plain ++ (replicate (s .exceptions) exception ++ (replicate (s .preferences) preference ++ []))) ws) 2 ≡ accepted s ws
-  unfolding rowsOf layout countsOf
-  plain-block = e
-
-  exception-block : (us : List ℤ) × (testRows s (cut (replicate (s .exceptions) exception ++ (replicate (s .preferences) preference ++ [])) (drop (s .plain * ruleFields) ws)) (2 + s .plain) ≡ accepted s us)
-  exception-block =
-      let r = block-rest s s plain (replicate (s .exceptions) exception ++ (replicate (s .preferences) preference ++ [])) (s .plain) ws ws 2 plain-block in
-      (r .0, rw (rule-fields plain (omega arith) (omega arith) .0) at (r .1))
-
-  preference-block : (us : List ℤ) × (testRows s (cut (replicate (s .preferences) preference ++ []) (drop (ruleNumbers s) ws)) (2 + s .plain + s .exceptions) ≡ accepted s us)
-  preference-block =
-      let r = block-rest s s exception (replicate (s .preferences) preference ++ []) (s .exceptions) (drop (s .plain * ruleFields) ws) (exception-block .0) (2 + s .plain) (exception-block .1) in
-      let q : s .plain * ruleFields + s .exceptions * ruleFields ≡ ruleNumbers s = omega arith in
-      (r .0, rw (rule-fields exception (omega arith) (omega arith) .0, drop-drop (s .exceptions * ruleFields) (s .plain * ruleFields) ws, q) at (r .1))
-
-  entries-are : (i : ℕ) → i < ruleNumbers s → natAbs (getD ws i (pos 0)) ≤ s .statements
-  entries-are i h = go (ltb i (s .plain * ruleFields)) refl
-    where
-      go : (b : Bool) → ltb i (s .plain * ruleFields) ≡ b → natAbs (getD ws i (pos 0)) ≤ s .statements
-      go true p = rule-entries s s plain (replicate (s .exceptions) exception ++ (replicate (s .preferences) preference ++ [])) (s .plain) ws ws 2 plain-block (omega arith) (omega arith) i (ltb-true i (s .plain * ruleFields) p)
-      go false p =
-          let l = ltb-false i (s .plain * ruleFields) p in
-          let q : s .plain * ruleFields + (i - s .plain * ruleFields) ≡ i = omega arith in
-          let r = rule-entries s s exception (replicate (s .preferences) preference ++ []) (s .exceptions) (drop (s .plain * ruleFields) ws) (exception-block .0) (2 + s .plain) (exception-block .1) (omega arith) (omega arith) (i - s .plain * ruleFields) (omega arith) in
-          rw (getD-drop (s .plain * ruleFields) ws (i - s .plain * ruleFields) (pos 0), q) at r
-
-  heads-are : (k : ℕ) → k < s .exceptions → getD ws ((s .plain + k) * ruleFields) (pos 0) ≡ pos 0 → ⊥
-  heads-are k h z =
-      let p = block-row s s exception (replicate (s .preferences) preference ++ []) (s .exceptions) (drop (s .plain * ruleFields) ws) (exception-block .0) (2 + s .plain) k h (exception-block .1) in
-      let f = rule-fields exception (omega arith) (omega arith) .0 in
-      let q : s .plain * ruleFields + k * ruleFields + 0 ≡ (s .plain + k) * ruleFields = omega arith in
-      head-not (take (kind exception .fields) (drop (k * kind exception .fields) (drop (s .plain * ruleFields) ws))) (fault-parts (s .exceptions) exception _ (p .right) .0)
-      (rw (f, getD-take ruleFields (drop (k * ruleFields) (drop (s .plain * ruleFields) ws)) 0 (pos 0) (omega arith), drop-drop (k * ruleFields) (s .plain * ruleFields) ws, getD-drop (s .plain * ruleFields + k * ruleFields) ws 0 (pos 0), q) z)
-
-  named-are : (i : ℕ) → i < s .preferences * preferenceFields → Named s (getD ws (ruleNumbers s + i) (pos 0))
-  named-are i h =
-      let w : i / preferenceFields < s .preferences = omega (arith, div-add-mod' i preferenceFields) in
-      let p = block-row s s preference [] (s .preferences) (drop (ruleNumbers s) ws) (preference-block .0) (2 + s .plain + s .exceptions) (i / preferenceFields) w (preference-block .1) in
-      let a = named-in (s .exceptions) (s .statements) _ (i % preferenceFields) (p .fields-pass) (fault-parts (s .exceptions) preference _ (p .right) .1) (mod-lt i (omega arith)) in
-      let n : getD (take (kind preference .fields) (drop (i / preferenceFields * kind preference .fields) (drop (ruleNumbers s) ws))) (i % preferenceFields) (pos 0) ≡ getD ws (ruleNumbers s + i) (pos 0) =
-      rw preference-fields (number-at (drop (ruleNumbers s) ws) preferenceFields i (omega arith) ∙ getD-drop (ruleNumbers s) ws i (pos 0)) in
-      record { number = a .0; is = sym n ∙ a .1; low = a .2; high = a .3 }
-
--- ---- accepted books
-sized-parts : (n : ℕ) → Sized n → (1 ≤ n) × (n ≤ limit.statements)
-unfolding inside between rangeOf
-sized-parts n e = (leb-true 1 n (both-left (leb 1 n) _ e), leb-true n limit.statements (both-right (leb 1 n) _ e))
-
-limits-are : (s : Shape) → Within s → (s .plain ≤ limit.plain) × (s .exceptions ≤ limit.exceptions) × (s .preferences ≤ limit.preferences)
-unfolding countOf countsOf kind kinds
-limits-are s w = (w plain (omega arith) (omega arith), w exception (omega arith) (omega arith), w preference (omega arith) (omega arith))
-
--- The facts of an accepted table, and so of an accepted text.
-pub table-facts : (s : Shape) (ws : List ℤ) → Table (tableOf s ws) s ws → Accepted s ws
-unfolding tableOf shapeIn toNat
-table-facts s ws t =
-    let n = sized-parts (s .statements) (t .sized) in
-    let l = limits-are s (t .within) in
-    record {
-      some-statement = n .0;
-      statements = n .1;
-      plain = l .0;
-      exceptions = l .1;
-      preferences = l .2;
-      size = t .size ∙ layout-widths s;
-      entries = entries-are s ws (t .pass);
-      heads = heads-are s ws (t .pass);
-      named = named-are s ws (t .pass);
-    }
-
-pub accepted-facts : (bs : List ℕ) (s : Shape) (ws : List ℤ) → readText bs ≡ accepted s ws → Accepted s ws
-accepted-facts bs s ws e = table-facts s ws (table-passed (tableOf s ws) s ws (read-write bs s ws e .0))
+pub preference-named : (s : Shape) (ws : List ℤ) → Accepted s ws → (i j : ℕ) → i < countOf s preference → j < preferenceNumbers → Named (s .exceptions) (getD ws (startOf s preference + i * preferenceNumbers + j) (pos 0))
+preference-named s ws a i j l h =
+    let k = preference-kind in
+    let r = a .rows preference i (omega arith) (omega arith) l in
+    let z = startOf s preference + i * kind preference .numbers in
+    let w : length (rowAt s ws preference i) ≡ preferenceNumbers = length-take-le (kind preference .numbers) (drop z ws) (simp length-drop (omega (arith, a .size, start-in s preference i (omega arith) l))) ∙ k .0 in
+    let g = rw (getD-take (kind preference .numbers) (drop z ws) j (pos 0) (rw (k .0) h), getD-drop z ws j (pos 0)) at (two-named (s .exceptions) (rowAt s ws preference i) w (r .names) j h) in
+    let c : getD (numbersOf (kind preference)) j Edition ≡ Exception = ap (λ (l : List Content). getD l j Edition) (k .1) ∙ getD-replicate preferenceNumbers j Exception Edition h in
+    let e = exception-named (s .exceptions) (s .statements) (getD ws (z + j) (pos 0)) (rw c at (r .ranges j (rw (k .0) h))) g in
+    rw (ap (λ (m : ℕ). startOf s preference + i * m + j) (k .0)) at e

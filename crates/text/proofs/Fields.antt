@@ -12,8 +12,8 @@ use borrow.Author.Tests.{eqb-true}
 use Rattle.text.specs.declared.Field.{Field}
 use Rattle.text.specs.declared.Field.the-variants.{Value, Misspelt}
 use Rattle.logic.specs.Tests.{both, either, pick}
-use Rattle.text.specs.Fields.{columnOf, columns, written, digitOf, sizeOf, minusIn, signed, same, readColumns, spelt, firstField}
-use Rattle.text.proofs.Tests.{both-left, both-right, all, all-at}
+use Rattle.text.specs.Fields.{columnOf, columns, written, digitOf, sizeOf, minusIn, signed, same, readColumns, spelt, firstField, misspelling}
+use Rattle.logic.proofs.Tests.{both-left, both-right, all, all-at}
 
 pub same-eq : (xs ys : List ℕ) → same xs ys ≡ true → xs ≡ ys
 unfolding same
@@ -33,7 +33,7 @@ isNeg (negsuc m) n = eqb m n
 
 abbrev is : (ℤ → Bool) → Field → Bool
 is f (Value z) = f z
-is f Misspelt = false
+is f (Misspelt q) = false
 
 abbrev tripPos : ℕ → Bool
 tripPos v = is (λ z. isPos z v) (firstField (written (pos v)))
@@ -57,12 +57,12 @@ Short (negsuc m) = m < 999
 is-pos : (x : Field) (v : ℕ) → is (λ z. isPos z v) x ≡ true → x ≡ Value (pos v)
 is-pos (Value (pos m)) v e = rw (eqb-true m v e)
 is-pos (Value (negsuc m)) v e = absurd (let z : _≡_ {A = ℕ} 0 1 = cc in omega arith)
-is-pos Misspelt v e = absurd (let z : _≡_ {A = ℕ} 0 1 = cc in omega arith)
+is-pos (Misspelt q) v e = absurd (let z : _≡_ {A = ℕ} 0 1 = cc in omega arith)
 
 is-neg : (x : Field) (v : ℕ) → is (λ z. isNeg z v) x ≡ true → x ≡ Value (negsuc v)
 is-neg (Value (negsuc m)) v e = rw (eqb-true m v e)
 is-neg (Value (pos m)) v e = absurd (let z : _≡_ {A = ℕ} 0 1 = cc in omega arith)
-is-neg Misspelt v e = absurd (let z : _≡_ {A = ℕ} 0 1 = cc in omega arith)
+is-neg (Misspelt q) v e = absurd (let z : _≡_ {A = ℕ} 0 1 = cc in omega arith)
 
 field-read : (v : ℤ) → Short v → firstField (written v) ≡ Value v
 unfolding Short
@@ -99,7 +99,7 @@ value-of : (neg : Bool) (m : ℕ) (bs : List ℕ) (v : ℤ) → readColumns neg 
 unfolding readColumns pick
 value-of neg m bs v e = go (same (columns neg m) bs) refl e
   where
-    go : (b : Bool) → same (columns neg m) bs ≡ b → pick b (Value (signed neg m)) Misspelt ≡ Value v → written v ≡ bs
+    go : (b : Bool) → same (columns neg m) bs ≡ b → pick b (Value (signed neg m)) (Misspelt misspelling) ≡ Value v → written v ≡ bs
     go true p e = let q : signed neg m ≡ v = cc in rw (← q, signed-columns neg m) (same-eq (columns neg m) bs p)
     go false p e = absurd (let z : _≡_ {A = ℕ} 0 1 = cc in omega arith)
 

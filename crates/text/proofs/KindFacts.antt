@@ -15,13 +15,10 @@ use Rattle.logic.proofs.Decide.{clash}
 use Rattle.book.specs.declared.Kind.{Kind}
 use Rattle.book.specs.declared.Content.{Content}
 use Rattle.book.specs.declared.Content.the-variants.{Statements, Exception, Total}
-use Rattle.book.specs.Kinds.{kinds, kind, unknown, contents, fieldsOf, none, first, exception, last}
+use Rattle.book.specs.Kinds.{kinds, kind, unknown, contents, fieldsOf, numbersOf, none, first, exception, last}
+use Rattle.book.proofs.Counts.{many}
 use Rattle.text.specs.Lines.{seek, kindFor, code, numbersIn}
-use Rattle.text.proofs.Tests.{both-left, both-right, agree, agreed, all, all-at, pairs-at}
-
-pub many : length kinds ≡ none
-unfolding kinds
-many = refl
+use Rattle.logic.proofs.Tests.{both-left, both-right, agree, agreed, all, all-at, pairs-at}
 
 -- ---- which kind may come
 -- A kind may come if none after it has come; before the first line only the first may.
@@ -33,7 +30,7 @@ letters : all (λ (next : ℕ). all (λ (k : ℕ). eqb (kindFor next (kind k .le
 unfolding kindFor seek kinds kind unknown pick both either
 letters = refl
 
-past : (next b : ℕ) → none ≤ next → kindFor next b ≡ none
+pub past : (next b : ℕ) → none ≤ next → kindFor next b ≡ none
 unfolding kindFor seek
 past next b h = rw (drop-of-length-le kinds {i = next} (rw many h))
 
@@ -90,9 +87,9 @@ unfolding both either
 may-come next k p h g = rw (lt-ltb k none g, le-leb next k h, lt-ltb 0 next p)
 
 -- ---- what a kind is
--- It has as many contents as fields; it is a row if it stands between the first kind and the last; no letter is a line feed; no line is wide.
+-- It has as many contents as fields; it is a row if it stands between the first kind and the last; no letter is a line feed.
 abbrev fit : ℕ → Bool
-fit k = both (eqb (length (fieldsOf (kind k))) (kind k .fields)) (both (agree (kind k .row) (both (ltb first k) (ltb k last))) (both (not (eqb (kind k .letter) 10)) (leb (kind k .fields) 9)))
+fit k = both (eqb (length (fieldsOf (kind k))) (kind k .fields)) (both (agree (kind k .row) (both (ltb first k) (ltb k last))) (not (eqb (kind k .letter) 10)))
 
 fits : all fit none ≡ true
 unfolding kinds kind unknown contents fieldsOf both
@@ -109,11 +106,38 @@ row-is k h = agreed (kind k .row) (both (ltb first k) (ltb k last)) (both-left _
 
 pub letter-plain : (k : ℕ) → k < none → kind k .letter ≡ 10 → ⊥
 letter-plain k h e =
-    eqb-false (kind k .letter) 10 (not-true _ (both-left _ _ (both-right (agree (kind k .row) (both (ltb first k) (ltb k last))) _ (both-right (eqb (length (fieldsOf (kind k))) (kind k .fields)) _ (fit-at k h))))) e
+    eqb-false (kind k .letter) 10 (not-true _ (both-right (agree (kind k .row) (both (ltb first k) (ltb k last))) _ (both-right (eqb (length (fieldsOf (kind k))) (kind k .fields)) _ (fit-at k h)))) e
 
-pub narrow : (k : ℕ) → k < none → kind k .fields ≤ 9
-narrow k h =
-    leb-true (kind k .fields) 9 (both-right (not (eqb (kind k .letter) 10)) _ (both-right (agree (kind k .row) (both (ltb first k) (ltb k last))) _ (both-right (eqb (length (fieldsOf (kind k))) (kind k .fields)) _ (fit-at k h))))
+-- Its refusals have numbers.
+pub over-some : (k : ℕ) → k < none → 0 < kind k .over
+unfolding kinds kind unknown
+over-some k h = ltb-true 0 (kind k .over) (all-at (λ (j : ℕ). ltb 0 (kind j .over)) none k refl h)
+
+pub unfilled-some : (k : ℕ) → k < none → 0 < kind k .unfilled
+unfolding kinds kind unknown
+unfilled-some k h = ltb-true 0 (kind k .unfilled) (all-at (λ (j : ℕ). ltb 0 (kind j .unfilled)) none k refl h)
+
+-- It gives the table as many numbers as it has fields if it is a row, and else none; its heads are fields.
+pub numbers-are : (k : ℕ) → k < none → kind k .numbers ≡ pick (kind k .row) (kind k .fields) 0
+unfolding kinds kind unknown pick
+numbers-are k h = eqb-true _ _ (all-at (λ (j : ℕ). eqb (kind j .numbers) (pick (kind j .row) (kind j .fields) 0)) none k refl h)
+
+pub heads-in : (k : ℕ) → k < none → kind k .heads ≤ kind k .fields
+unfolding kinds kind unknown
+heads-in k h = leb-true (kind k .heads) (kind k .fields) (all-at (λ (j : ℕ). leb (kind j .heads) (kind j .fields)) none k refl h)
+
+pub numbers-fields : (k : ℕ) → first < k → k < last → kind k .numbers ≡ kind k .fields
+unfolding both pick
+numbers-fields k h g =
+    let r : kind k .row ≡ true = row-is k (omega arith) ∙ rw (lt-ltb first k h, lt-ltb k last g) in
+    numbers-are k (omega arith) ∙ ap (λ (b : Bool). pick b (kind k .fields) 0) r
+
+pub numbers-same : (k : ℕ) → first < k → k < last → numbersOf (kind k) ≡ fieldsOf (kind k)
+unfolding numbersOf fieldsOf
+numbers-same k h g = rw (numbers-fields k h g)
+
+pub numbers-wide : (k : ℕ) → first < k → k < last → length (numbersOf (kind k)) ≡ kind k .numbers
+numbers-wide k h g = ap length (numbers-same k h g) ∙ (width-is k (omega arith) ∙ sym (numbers-fields k h g))
 
 -- It has a field.
 pub some-field : (k : ℕ) → k < none → 0 < kind k .fields

@@ -3,13 +3,17 @@
 use mathlib.Core.Path.{_≡_, refl, sym, ap, _∙_}
 use mathlib.Core.Bool.{Bool, true, false}
 use mathlib.Core.List.{List, [], _∷_, _++_}
-use Prim.Native.Nat.{ℕ, zero, suc, _+_, _<_, _≤_}
-use native.Mathlib.Nat.{add-zero}
+use Prim.Native.Nat.{ℕ, zero, suc, _+_, _*_, _<_, _≤_}
+use native.Mathlib.Nat.{add-zero, suc-mul}
 use native.Mathlib.Omega.{arith}
 use lib.Dec.{eqb}
-use lib.ListN.{length, getD, replicate}
+use lib.ListN.{length, getD, replicate, List·getD-append}
 use borrow.Author.Tests.{eqb-true, eqb-false, eq-eqb, ne-eqb}
 use Rattle.logic.specs.Tests.{pick}
+use Rattle.book.specs.declared.Kind.{Kind}
+use Rattle.book.specs.declared.Shape.{Shape}
+use Rattle.book.specs.Kinds.{kinds, kind, none, first, last}
+use Rattle.book.specs.Counts.{countsOf, allCounts, countOf, sumTo, rowNumbers}
 use Rattle.text.specs.Tables.{layout}
 
 -- How often a kind occurs.
@@ -90,6 +94,66 @@ rising-layout (c ∷ cs) i n ks e r o =
         let q : suc i + j ≡ i + suc j = omega arith in
         rw q (sym (occurs-repeat c i (i + suc j) us (λ z. omega arith)) ∙ (ap (occurs (i + suc j)) (sym e) ∙ o (suc j) (omega arith)))
 
+-- ---- sums over rows
+-- The sum over kinds of a number that each has.
+unfoldable pub sumBy : (Kind → ℕ) → List ℕ → ℕ
+sumBy f [] = 0
+sumBy f (k ∷ ks) = f (kind k) + sumBy f ks
+
+-- How many numbers rows of these kinds have.
+abbrev pub widths : List ℕ → ℕ
+widths ks = sumBy (λ x. x .numbers) ks
+
+pub sum-append : (f : Kind → ℕ) (ks js : List ℕ) → sumBy f (ks ++ js) ≡ sumBy f ks + sumBy f js
+unfolding sumBy
+sum-append f [] js = omega arith
+sum-append f (k ∷ ks) js = rw (sum-append f ks js) (omega arith)
+
+sum-repeat : (f : Kind → ℕ) (c k : ℕ) → sumBy f (replicate c k) ≡ c * f (kind k)
+unfolding sumBy
+sum-repeat f zero k = omega arith
+sum-repeat f (suc c) k = rw (sum-repeat f c k, suc-mul) (omega arith)
+
+-- The rows of the kinds from place i on come after those of the kinds before it.
+pub layout-sum : (f : Kind → ℕ) (s : Shape) (cs : List ℕ) (i : ℕ) → ((j : ℕ) → j < length cs → getD cs j 0 ≡ countOf s (i + j)) → sumTo f s i + sumBy f (layout i cs) ≡ sumTo f s (i + length cs)
+unfolding layout sumBy sumTo
+layout-sum f s [] i h = rw (add-zero i, add-zero (sumTo f s i))
+layout-sum f s (c ∷ cs) i h =
+    let q : i + suc (length cs) ≡ suc i + length cs = omega arith in
+    let e : c ≡ countOf s i = rw (add-zero i) at (h 0 (omega arith)) in
+    let ih = layout-sum f s cs (suc i) (λ j g. let p : i + suc j ≡ suc i + j = omega arith in rw p at (h (suc j) (omega arith))) in
+    rw (q, sum-append f (replicate c i) (layout (suc i) cs), sum-repeat f c i, e) (omega (arith, ih))
+
+-- The counts of a shape by place.
+pub row-counts : (s : Shape) (j : ℕ) → j < length (countsOf s) → getD (countsOf s) j 0 ≡ countOf s (1 + j)
+unfolding countOf allCounts
+row-counts s j h = let q : 1 + j ≡ suc j = omega arith in rw q (sym (List·getD-append (countsOf s) (1 ∷ []) 0 j h))
+
+pub counts-long : (s : Shape) → 1 + length (countsOf s) ≡ last
+unfolding countsOf
+counts-long s = refl
+
+once-first : (f : Kind → ℕ) (s : Shape) → sumTo f s 1 ≡ f (kind first)
+unfolding sumTo countOf allCounts
+once-first f s = omega arith
+
+once-last : (f : Kind → ℕ) (s : Shape) → sumTo f s none ≡ sumTo f s last + f (kind last)
+unfolding sumTo countOf allCounts countsOf
+once-last f s = omega arith
+
+-- All lines: B, the rows, Z.
+pub all-sum : (f : Kind → ℕ) (s : Shape) → f (kind first) + sumBy f (layout 1 (countsOf s)) + f (kind last) ≡ sumTo f s none
+all-sum f s =
+    let l = rw (counts-long s) at (layout-sum f s (countsOf s) 1 (row-counts s)) in
+    omega (arith, once-first f s, once-last f s, l)
+
+ends-none : (kind first .numbers ≡ 0) × (kind last .numbers ≡ 0)
+unfolding kind kinds
+ends-none = (refl, refl)
+
+pub layout-widths : (s : Shape) → widths (layout 1 (countsOf s)) ≡ rowNumbers s
+layout-widths s = omega (arith, all-sum (λ x. x .numbers) s, ends-none .0, ends-none .1)
+
 -- ---- layouts
 repeat-rising : (c i n : ℕ) (ks : List ℕ) → i < n → Rising i n ks → Rising i n (replicate c i ++ ks)
 repeat-rising zero i n ks h r = r
@@ -108,3 +172,7 @@ occurs-layout (c ∷ cs) i zero =
 occurs-layout (c ∷ cs) i (suc j) =
     let q : i + suc j ≡ suc i + j = omega arith in
     rw q (occurs-repeat c i (suc i + j) (layout (suc i) cs) (λ e. omega arith) ∙ occurs-layout cs (suc i) j)
+
+-- The rows of a book.
+pub rows-rising : (s : Shape) → Rising 1 last (layout 1 (countsOf s))
+rows-rising s = layout-rising (countsOf s) 1 last (omega (arith, counts-long s))

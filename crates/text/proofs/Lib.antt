@@ -1,4 +1,3 @@
-pub mod Tests
 pub mod Fields
 pub mod KindFacts
 pub mod Lines
@@ -9,6 +8,7 @@ pub mod Runs
 pub mod Books
 pub mod Written
 pub mod Inverse
+pub mod Fronts
 pub mod Facts
 pub mod Refusals
 pub mod Lent

@@ -57,7 +57,7 @@ fields-read (f ∷ fs) n (v ∷ vs) s e = rw (read-written v (writtenAll vs) (s 
 pub first-numbers : (x : Field) (r : Range) (y : Numbers) (vs : List ℤ) → testField x r y ≡ numbers vs
     → (v : ℤ) × (ws : List ℤ) × (x ≡ Value v) × (y ≡ numbers ws) × (vs ≡ v ∷ ws)
 unfolding testField pick andThen
-first-numbers Misspelt r y vs e = absurd (let z : _≡_ {A = ℕ} 0 1 = cc in omega arith)
+first-numbers (Misspelt q) r y vs e = absurd (let z : _≡_ {A = ℕ} 0 1 = cc in omega arith)
 first-numbers (Value v) r (fault q) vs e = go (inside r v) e
   where
     go : (b : Bool) → pick b (fault q) (fault (r .fault)) ≡ numbers vs → (u : ℤ) × (ws : List ℤ) × (Value v ≡ Value u) × (fault q ≡ numbers ws) × (vs ≡ u ∷ ws)

@@ -12,24 +12,24 @@ use lib.ListN.{length, getD, take, drop, length-drop}
 use lib.Seq.{length-take-le}
 use borrow.Author.Tests.{eqb-true}
 use Rattle.logic.specs.Lists.{Among}
-use Rattle.logic.specs.Tests.{either, pick, every}
+use Rattle.logic.specs.Tests.{either, pick, every, some}
 use Rattle.logic.proofs.Decide.{clash}
 use Rattle.book.specs.declared.Shape.{Shape}
 use Rattle.book.specs.declared.Content.{Content}
 use Rattle.book.specs.declared.Content.the-variants.{Edition, Statements, Literal, Exception, Total}
-use Rattle.book.specs.Kinds.{kinds, kind, unknown, contents, fieldsOf, none, first, last, plain, exception, preference, rangeOf, Range}
+use Rattle.book.specs.Kinds.{kinds, kind, unknown, contents, numbersOf, none, first, last, front, rangeOf, Range}
+use Rattle.book.specs.Counts.{countsOf, rowNumbers}
 use Rattle.text.specs.declared.Field.the-variants.{Value}
 use Rattle.text.specs.Lines.{Numbers, Line, inside, andThen, testField, headless, missing, unless, judged}
 use Rattle.text.specs.Lines.Numbers.{numbers, fault}
 use Rattle.text.specs.Lines.Line.{line, wrong}
 use Rattle.text.specs.Reading.{Outcome, prepend, onLine}
 use Rattle.text.specs.Reading.Outcome.{accepted, refused}
-use Rattle.text.specs.Tables.{countsOf, layout, widths, cut, rowsOf, testFields, rowFault, testRow, testRows, shapeIn, miscount, testTable}
-use Rattle.text.proofs.Tests.{all, all-at}
-use Rattle.text.proofs.KindFacts.{width-is}
-use Rattle.text.proofs.Layouts.{Rising}
+use Rattle.text.specs.Tables.{layout, cut, rowsOf, testFields, rowFault, testRow, testRows, shapeIn, miscount, testTable}
+use Rattle.logic.proofs.Tests.{all, all-at}
+use Rattle.text.proofs.KindFacts.{numbers-wide}
+use Rattle.text.proofs.Layouts.{Rising, sumBy, widths, layout-widths, rows-rising}
 use Rattle.text.proofs.Rows.{row-yes}
-use Rattle.text.proofs.Inverse.{rows-rising}
 
 abbrev pub Refused : ℕ → Type 0
 Refused q = Among q (6 ∷ 8 ∷ 9 ∷ 10 ∷ 16 ∷ [])
@@ -48,8 +48,8 @@ abbrev sixes : List Content → Bool
 sixes cs = every (λ c. eqb (rangeOf c 0 .fault) 6) cs
 
 -- All fields of rows refuse by 6.
-row-sixes : all (λ (k : ℕ). either (not (kind k .row)) (sixes (fieldsOf (kind k)))) none ≡ true
-unfolding kinds kind unknown contents fieldsOf either every rangeOf
+row-sixes : all (λ (k : ℕ). either (not (kind k .row)) (sixes (numbersOf (kind k)))) none ≡ true
+unfolding kinds kind unknown contents numbersOf either every rangeOf
 row-sixes = refl
 
 first-fault : (v : ℤ) (r : Range) (y : Numbers) (q : ℕ) → testField (Value v) r y ≡ fault q → (r .fault ≡ 6) → ((p : ℕ) → y ≡ fault p → p ≡ 6) → q ≡ 6
@@ -74,34 +74,39 @@ fields-fault (c ∷ cs) n (v ∷ vs) q l s e =
     let t = every-first (eqb (rangeOf c 0 .fault) 6) (sixes cs) s in
     first-fault v (rangeOf c n) (testFields cs n vs) q e (fault-same c n ∙ eqb-true (rangeOf c 0 .fault) 6 (t .0)) (λ p f. fields-fault cs n vs p (omega arith) (t .1) f)
 
-whole-fault : (m k : ℕ) (vs : List ℤ) (q : ℕ) → rowFault m (kind k) vs ≡ suc q → Refused (suc q)
+-- A row that lacks a head is refused by 9, whatever its kind.
+row-nines : all (λ (k : ℕ). eqb (kind k .unfilled) 9) none ≡ true
+unfolding kinds kind unknown
+row-nines = refl
+
+whole-fault : (m k : ℕ) (vs : List ℤ) (q : ℕ) → k < none → rowFault m (kind k) vs ≡ suc q → Refused (suc q)
 unfolding rowFault pick
-whole-fault m k vs q e = go (headless (kind k) vs) (missing m (kind k) vs) e
+whole-fault m k vs q h e = go (headless (kind k) vs) (missing m (kind k) vs) e
   where
-    go : (a b : Bool) → _≡_ {A = ℕ} (pick a 9 (pick b 10 0)) (suc q) → Refused (suc q)
-    go true b e = inr (inr (inl e))
+    go : (a b : Bool) → _≡_ {A = ℕ} (pick a (kind k .unfilled) (pick b 10 0)) (suc q) → Refused (suc q)
+    go true b e = inr (inr (inl (sym (eqb-true (kind k .unfilled) 9 (all-at (λ (j : ℕ). eqb (kind j .unfilled) 9) none k row-nines h)) ∙ e)))
     go false true e = inr (inr (inr (inl e)))
     go false false e = absurd (omega arith)
 
-judged-wrong : (m k : ℕ) (x : Numbers) (q : ℕ) → ((p : ℕ) → x ≡ fault p → p ≡ 6) → judged (rowFault m (kind k)) k x ≡ wrong q → Refused q
+judged-wrong : (m k : ℕ) (x : Numbers) (q : ℕ) → k < none → ((p : ℕ) → x ≡ fault p → p ≡ 6) → judged (rowFault m (kind k)) k x ≡ wrong q → Refused q
 unfolding judged unless
-judged-wrong m k (fault p) q f e = let z : p ≡ q = cc in inl (sym (f p refl) ∙ z)
-judged-wrong m k (numbers vs) q f e = go (rowFault m (kind k) vs) refl e
+judged-wrong m k (fault p) q h f e = let z : p ≡ q = cc in inl (sym (f p refl) ∙ z)
+judged-wrong m k (numbers vs) q h f e = go (rowFault m (kind k) vs) refl e
   where
     go : (p : ℕ) → rowFault m (kind k) vs ≡ p → unless p (line k vs) ≡ wrong q → Refused q
     go zero r e = absurd (let z : _≡_ {A = ℕ} 0 1 = cc in omega arith)
-    go (suc p) r e = let z : suc p ≡ q = cc in rw z at (whole-fault m k vs p r)
+    go (suc p) r e = let z : suc p ≡ q = cc in rw z at (whole-fault m k vs p h r)
 
 or-then : (a b : Bool) → either (not a) b ≡ true → a ≡ true → b ≡ true
 unfolding either
 or-then true b e f = e
 or-then false b e f = absurd (clash f)
 
-row-wrong : (s : Shape) (k : ℕ) (vs : List ℤ) (q : ℕ) → first < k → k < last → length vs ≡ kind k .fields → testRow s (record { place = k; nums = vs }) ≡ wrong q → Refused q
+row-wrong : (s : Shape) (k : ℕ) (vs : List ℤ) (q : ℕ) → first < k → k < last → length vs ≡ kind k .numbers → testRow s (record { place = k; nums = vs }) ≡ wrong q → Refused q
 unfolding testRow
 row-wrong s k vs q h g l e =
-    let x = or-then (kind k .row) (sixes (fieldsOf (kind k))) (all-at (λ (k : ℕ). either (not (kind k .row)) (sixes (fieldsOf (kind k)))) none k row-sixes (omega arith)) (row-yes k h g) in
-    judged-wrong (s .exceptions) k (testFields (fieldsOf (kind k)) (s .statements) vs) q (λ p f. fields-fault (fieldsOf (kind k)) (s .statements) vs p (l ∙ sym (width-is k (omega arith))) x f) e
+    let x = or-then (kind k .row) (sixes (numbersOf (kind k))) (all-at (λ (k : ℕ). either (not (kind k .row)) (sixes (numbersOf (kind k)))) none k row-sixes (omega arith)) (row-yes k h g) in
+    judged-wrong (s .exceptions) k (testFields (numbersOf (kind k)) (s .statements) vs) q (omega arith) (λ p f. fields-fault (numbersOf (kind k)) (s .statements) vs p (l ∙ sym (numbers-wide k h g)) x f) e
 
 -- ---- the rows
 on-refused : (l : Line) (at : ℕ) (o : Outcome) (q p : ℕ) → onLine l at (λ k vs. o) ≡ refused q p → (l ≡ wrong q) ⊎ (o ≡ refused q p)
@@ -111,29 +116,27 @@ on-refused (line k vs) at (accepted s ws) q p e = absurd (let z : _≡_ {A = ℕ
 on-refused (line k vs) at (refused r l) q p e = inr e
 
 rows-refused : (ks : List ℕ) (s : Shape) (ws : List ℤ) (at m q p : ℕ) → first < m → Rising m last ks → length ws ≡ widths ks → testRows s (cut ks ws) at ≡ refused q p → Refused q
-unfolding cut testRows widths
+unfolding cut testRows sumBy
 rows-refused [] s ws at m q p b r l e = absurd (let z : _≡_ {A = ℕ} 0 1 = cc in omega arith)
 rows-refused (k ∷ ks) s ws at m q p b r l e =
-    ⊎-elim (λ x. row-wrong s k (take (kind k .fields) ws) q (omega (arith, r .0)) (r .1) (length-take-le (kind k .fields) ws (omega arith)) x)
-    (λ y. rows-refused ks s (drop (kind k .fields) ws) (suc at) k q p (omega (arith, r .0)) (r .2) (length-drop (kind k .fields) ws ∙ omega arith) y)
-    (on-refused (testRow s (record { place = k; nums = take (kind k .fields) ws })) at (testRows s (cut ks (drop (kind k .fields) ws)) (suc at)) q p e)
+    ⊎-elim (λ x. row-wrong s k (take (kind k .numbers) ws) q (omega (arith, r .0)) (r .1) (length-take-le (kind k .numbers) ws (omega arith)) x)
+    (λ y. rows-refused ks s (drop (kind k .numbers) ws) (suc at) k q p (omega (arith, r .0)) (r .2) (length-drop (kind k .numbers) ws ∙ omega arith) y)
+    (on-refused (testRow s (record { place = k; nums = take (kind k .numbers) ws })) at (testRows s (cut ks (drop (kind k .numbers) ws)) (suc at)) q p e)
 
 -- ---- the table
 pub table-refused : (t : List ℤ) (q p : ℕ) → testTable t ≡ refused q p → Refused q
-unfolding testTable pick either rowsOf
+unfolding testTable pick rowsOf
 table-refused t q p e =
-    go (ltb (length t) 4) (inside (rangeOf Statements 0) (getD t 0 (pos 0))) (miscount plain (getD t 1 (pos 0))) (miscount exception (getD t 2 (pos 0))) (miscount preference (getD t 3 (pos 0))) (eqb (length t) (4 + widths (layout 1 (countsOf (shapeIn t))))) refl e
+    go (ltb (length t) front) (inside (rangeOf Statements 0) (getD t 0 (pos 0))) (some (miscount t) kinds) (eqb (length t) (front + rowNumbers (shapeIn t))) refl e
   where
     is : (n l : ℕ) → refused n l ≡ refused q p → n ≡ q
     is n l e = cc
 
-    go : (a b x y z w : Bool) → eqb (length t) (4 + widths (layout 1 (countsOf (shapeIn t)))) ≡ w
-        → pick a (refused 16 0) (pick (not b) (refused 6 1) (pick (either x (either y z)) (refused 8 1) (pick (not w) (refused 16 0) (testRows (shapeIn t) (cut (layout 1 (countsOf (shapeIn t))) (drop 4 t)) 2)))) ≡ refused q p → Refused q
-    go true b x y z w l e = inr (inr (inr (inr (inl (is 16 0 e)))))
-    go false false x y z w l e = inl (is 6 1 e)
-    go false true true y z w l e = inr (inl (is 8 1 e))
-    go false true false true z w l e = inr (inl (is 8 1 e))
-    go false true false false true w l e = inr (inl (is 8 1 e))
-    go false true false false false false l e = inr (inr (inr (inr (inl (is 16 0 e)))))
-    go false true false false false true l e =
-        rows-refused (layout 1 (countsOf (shapeIn t))) (shapeIn t) (drop 4 t) 2 1 q p (omega arith) (rows-rising (shapeIn t)) (length-drop 4 t ∙ omega (arith, eqb-true (length t) _ l)) e
+    go : (a b x w : Bool) → eqb (length t) (front + rowNumbers (shapeIn t)) ≡ w
+        → pick a (refused 16 0) (pick (not b) (refused 6 1) (pick x (refused 8 1) (pick (not w) (refused 16 0) (testRows (shapeIn t) (cut (layout 1 (countsOf (shapeIn t))) (drop front t)) 2)))) ≡ refused q p → Refused q
+    go true b x w l e = inr (inr (inr (inr (inl (is 16 0 e)))))
+    go false false x w l e = inl (is 6 1 e)
+    go false true true w l e = inr (inl (is 8 1 e))
+    go false true false false l e = inr (inr (inr (inr (inl (is 16 0 e)))))
+    go false true false true l e =
+        rows-refused (layout 1 (countsOf (shapeIn t))) (shapeIn t) (drop front t) 2 1 q p (omega arith) (rows-rising (shapeIn t)) (length-drop front t ∙ omega (arith, eqb-true (length t) _ l, layout-widths (shapeIn t))) e

@@ -11,35 +11,30 @@ use lib.IntN.{ℤ, pos}
 use lib.Signed.{leZ}
 use lib.ListN.{length, getD, take, drop, length-set}
 use lib.Seq.{getD-set-same, getD-set-other}
-use borrow.Author.Tests.{eqb-true, eqb-false, lt-ltb, le-leb, lt-leb, leb-true, leb-false}
+use borrow.Author.Tests.{eqb-true, eqb-false, lt-ltb, le-ltb, le-leb, lt-leb, leb-true, leb-false}
 use Rattle.logic.specs.Tests.{both, pick, consIf, some}
+use Rattle.book.specs.declared.Kind.{Kind}
 use Rattle.book.specs.declared.Shape.{Shape}
 use Rattle.book.specs.declared.Content.the-variants.{Exception, Total}
-use Rattle.book.specs.Kinds.{kinds, kind, contents, fieldsOf, none, first, last, plain, exception, preference, most, mostRows, rangeOf}
+use Rattle.book.specs.Kinds.{kinds, kind, contents, fieldsOf, numbersOf, none, first, last, plain, exception, preference, rowOnce, mostRows, rangeOf}
+use Rattle.book.specs.Counts.{countsOf, allCounts, countOf, shapeFrom, total, InLimits}
+use Rattle.book.proofs.Counts.{sum-all}
 use Rattle.text.specs.declared.State.{State}
-use Rattle.text.specs.Lines.{Numbers, between, inside, andThen, testField, code, numbersIn, headless, missing, miscounted, wholeOf, unless, judged}
+use Rattle.text.specs.Lines.{Numbers, between, inside, andThen, testField, code, numbersIn, filledIn, headless, missing, miscounted, wholeOf, unless, judged}
 use Rattle.text.specs.Lines.Numbers.{numbers, fault}
 use Rattle.text.specs.Lines.Line.{line}
 use Rattle.text.specs.Reading.{Outcome, lastOr, after, step, rowOf, prepend, shapeOf, readEnd, onLine}
 use Rattle.text.specs.Reading.Outcome.{accepted}
-use Rattle.text.specs.Tables.{countsOf, cut, testFields, rowFault, testRow, testRows}
-use Rattle.text.specs.Writing.{lastRow, total}
-use Rattle.text.proofs.KindFacts.{may-come, row-is, no-statements, no-total, no-exception}
+use Rattle.text.specs.Tables.{cut, testFields, rowFault, testRow, testRows}
+use Rattle.text.specs.Writing.{lastRow}
+use Rattle.text.proofs.KindFacts.{may-come, row-is, numbers-same, no-statements, no-total, no-exception}
 use Rattle.text.proofs.Lines.{runRow}
 use Rattle.text.proofs.Texts.{run}
 use Rattle.text.proofs.Layouts.{occurs, Rising, occurs-same, occurs-other, occurs-none, occurs-below}
 
--- How many rows of the kind at place k a book of this shape has.
-unfoldable pub countOf : Shape → ℕ → ℕ
-countOf s k = getD (0 ∷ countsOf s) k 0
-
--- No kind of row is over its limit.
-abbrev pub Within : Shape → Type 0
-Within s = (k : ℕ) → first < k → k < last → countOf s k ≤ kind k .limit
-
-pub few-rows : (s : Shape) → Within s → total s ≤ mostRows
-unfolding total mostRows most kinds kind countOf countsOf pick
-few-rows s w = omega (arith, w plain (omega arith) (omega arith), w exception (omega arith) (omega arith), w preference (omega arith) (omega arith))
+pub few-rows : (s : Shape) → InLimits s → total s ≤ mostRows
+unfolding mostRows
+few-rows s l = sum-all rowOnce s l
 
 -- ---- what a row does to the state
 pub row-yes : (k : ℕ) → first < k → k < last → kind k .row ≡ true
@@ -117,7 +112,7 @@ no-some : {A : Type 0} (f : A → Bool) (xs : List A) → xs ≡ [] → some f x
 unfolding some
 no-some f xs e = rw e
 
-module _ (st : State) (s : Shape) (k : ℕ) (ks : List ℕ) (vs : List ℤ) (w : Within s) (f : Fits st s (k ∷ ks)) where
+module _ (st : State) (s : Shape) (k : ℕ) (ks : List ℕ) (vs : List ℤ) (w : InLimits s) (f : Fits st s (k ∷ ks)) where
   row-low : first < k
   row-low = omega (arith, f .begun, f .rising .0)
 
@@ -127,11 +122,11 @@ module _ (st : State) (s : Shape) (k : ℕ) (ks : List ℕ) (vs : List ℤ) (w :
   under-limit : leb (kind k .limit) (getD (st .counts) k 0) ≡ false
   under-limit =
       lt-leb (kind k .limit) (getD (st .counts) k 0)
-      (omega (arith, w k row-low (f .rising .1), f .counts-are k row-low (f .rising .1), occurs-same k k ks refl))
+      (omega (arith, w .counts k, f .counts-are k row-low (f .rising .1), occurs-same k k ks refl))
 
   -- The exceptions have all come before the first line that may name one.
   same-missing : missing (getD (st .counts) exception 0) (kind k) vs ≡ missing (s .exceptions) (kind k) vs
-  unfolding missing countOf countsOf
+  unfolding missing countOf allCounts countsOf
   same-missing = go (leb k exception) refl
     where
       go : (b : Bool) → leb k exception ≡ b
@@ -167,10 +162,10 @@ judged-on f k (numbers vs) at a b h = go (f vs)
     go zero = ap (prepend (rowOf k vs)) (h vs)
     go (suc q) = refl
 
-row-run : (st : State) (s : Shape) (k : ℕ) (ks : List ℕ) (vs : List ℤ) → Within s → Fits st s (k ∷ ks) → runRow st k vs ≡ testRow s (record { place = k; nums = vs })
+row-run : (st : State) (s : Shape) (k : ℕ) (ks : List ℕ) (vs : List ℤ) → InLimits s → Fits st s (k ∷ ks) → runRow st k vs ≡ testRow s (record { place = k; nums = vs })
 unfolding runRow testRow pick
 row-run st s k ks vs w f =
-    rw (may-come (st .next) k (f .begun) (f .rising .0) (omega (arith, f .rising .1)))
+    rw (may-come (st .next) k (f .begun) (f .rising .0) (omega (arith, f .rising .1)), numbers-same k (omega (arith, f .begun, f .rising .0)) (f .rising .1))
     (judged-same (wholeOf st k) (rowFault (s .exceptions) (kind k)) k (testFields (fieldsOf (kind k)) (st .statements) vs) (λ us. same-whole st s k ks us w f)
     ∙ ap (λ (n : ℕ). judged (rowFault (s .exceptions) (kind k)) k (testFields (fieldsOf (kind k)) n vs)) (f .same-n))
 
@@ -183,9 +178,14 @@ z-limit : kind last .limit ≡ 1
 unfolding kind kinds
 z-limit = refl
 
-z-head : (vs : List ℤ) → headless (kind last) vs ≡ false
-unfolding headless kind kinds both
-z-head vs = refl
+-- A kind that asks for no head lacks none.
+pub no-heads : (x : Kind) (vs : List ℤ) → x .filled ≡ 0 → headless x vs ≡ false
+unfolding headless
+no-heads x vs e = le-ltb (filledIn (take (x .heads) vs)) (x .filled) (omega arith)
+
+pub ends-unfilled : (kind first .filled ≡ 0) × (kind last .filled ≡ 0)
+unfolding kind kinds
+ends-unfilled = (refl, refl)
 
 z-missing : (m n : ℕ) → missing m (kind last) (pos n ∷ []) ≡ false
 unfolding missing numbersIn code consIf some fieldsOf contents kind kinds
@@ -213,7 +213,7 @@ z-counted m = z-miscounted m (pos m) ∙ rw (le-leb m m (omega arith))
 
 z-whole : (st : State) → getD (st .counts) last 0 ≡ 0 → wholeOf st last (pos (st .rows) ∷ []) ≡ 0
 unfolding wholeOf pick
-z-whole st e = rw (z-head (pos (st .rows) ∷ []), z-missing (getD (st .counts) exception 0) (st .rows), z-counted (st .rows), e, z-limit)
+z-whole st e = rw (no-heads (kind last) (pos (st .rows) ∷ []) (ends-unfilled .1), z-missing (getD (st .counts) exception 0) (st .rows), z-counted (st .rows), e, z-limit)
 
 z-judged : (f : List ℤ → ℕ) (vs : List ℤ) → f vs ≡ 0 → judged f last (numbers vs) ≡ line last vs
 unfolding judged unless
@@ -230,7 +230,7 @@ z-statements st vs = rw (no-statements last vs (omega arith) (λ e. omega arith)
 
 -- The shape at the end is the one that was to come.
 end-shape : (st : State) (s : Shape) (vs : List ℤ) → Fits st s [] → shapeOf (step st last vs) ≡ s
-unfolding shapeOf countOf countsOf
+unfolding shapeFrom countOf allCounts countsOf
 end-shape st s vs f = λ i. record { statements = same-n i; plain = count plain (omega arith) (omega arith) i; exceptions = count exception (omega arith) (omega arith) i; preferences = count preference (omega arith) (omega arith) i }
   where
     same-n : step st last vs .statements ≡ s .statements
@@ -248,14 +248,14 @@ unfolding rowOf kind kinds pick
 z-nums vs = refl
 
 -- ---- all the rows to come, and Z
-pub run-rows : (ks : List ℕ) (ws : List ℤ) (st : State) (s : Shape) (at : ℕ) → Within s → Fits st s ks → run (cut ks ws ++ (lastRow (total s) ∷ [])) st at ≡ testRows s (cut ks ws) at
+pub run-rows : (ks : List ℕ) (ws : List ℤ) (st : State) (s : Shape) (at : ℕ) → InLimits s → Fits st s ks → run (cut ks ws ++ (lastRow (total s) ∷ [])) st at ≡ testRows s (cut ks ws) at
 unfolding cut run testRows testRow lastRow onLine prepend
 run-rows [] ws st s at w f =
     let m : total s ≡ st .rows = omega (arith, f .rows-are) in
     rw (m, z-row st (f .begun) (f .not-ended) (f .unclosed) (rw (← m) (few-rows s w)), end-run st (pos (st .rows) ∷ []) (suc at), end-shape st s (pos (st .rows) ∷ []) f, z-nums (pos (st .rows) ∷ []))
 run-rows (k ∷ ks) ws st s at w f =
-    rw (row-run st s k ks (take (kind k .fields) ws) w f)
-    (judged-on (rowFault (s .exceptions) (kind k)) k (testFields (fieldsOf (kind k)) (s .statements) (take (kind k .fields) ws)) at
-    (λ j vs. run (cut ks (drop (kind k .fields) ws) ++ (lastRow (total s) ∷ [])) (step st j vs) (suc at))
-    (λ j vs. testRows s (cut ks (drop (kind k .fields) ws)) (suc at))
-    (λ vs. run-rows ks (drop (kind k .fields) ws) (step st k vs) s (suc at) w (fits-next st s k ks vs f)))
+    rw (row-run st s k ks (take (kind k .numbers) ws) w f)
+    (judged-on (rowFault (s .exceptions) (kind k)) k (testFields (numbersOf (kind k)) (s .statements) (take (kind k .numbers) ws)) at
+    (λ j vs. run (cut ks (drop (kind k .numbers) ws) ++ (lastRow (total s) ∷ [])) (step st j vs) (suc at))
+    (λ j vs. testRows s (cut ks (drop (kind k .numbers) ws)) (suc at))
+    (λ vs. run-rows ks (drop (kind k .numbers) ws) (step st k vs) s (suc at) w (fits-next st s k ks vs f)))

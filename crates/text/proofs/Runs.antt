@@ -16,29 +16,30 @@ use Rattle.logic.specs.Tests.{pick}
 use Rattle.logic.proofs.Decide.{clash}
 use Rattle.book.specs.declared.Shape.{Shape}
 use Rattle.book.specs.Kinds.{kinds, kind, contents, fieldsOf, none, first, last, exception}
+use Rattle.book.specs.Counts.{countsOf, allCounts, countOf, shapeFrom}
 use Rattle.text.specs.declared.State.{State}
 use Rattle.text.specs.Lines.{between, headless, missing, miscounted, wholeOf}
 use Rattle.text.specs.Reading.{after, step, rowOf, shapeOf, readEnd}
 use Rattle.text.specs.Reading.Outcome.{accepted, refused}
-use Rattle.text.specs.Tables.{Row, countsOf, widths, cut}
+use Rattle.text.specs.Tables.{Row, cut}
 use Rattle.text.specs.Writing.{lastRow}
-use Rattle.text.proofs.Tests.{both-left, both-right}
-use Rattle.text.proofs.KindFacts.{known, not-before, width-is}
+use Rattle.logic.proofs.Tests.{both-left, both-right}
+use Rattle.text.proofs.KindFacts.{known, not-before, width-is, over-some, unfilled-some, numbers-fields}
 use Rattle.text.proofs.Lines.{runRow, Passed, row-passed}
 use Rattle.text.proofs.Texts.{run, went}
-use Rattle.text.proofs.Layouts.{occurs, Rising, occurs-none}
-use Rattle.text.proofs.Rows.{countOf, row-next, row-rows, row-statements, row-nums, step-long, step-same, step-other, step-occurs, z-miscounted, z-statements, z-nums}
+use Rattle.text.proofs.Layouts.{occurs, Rising, occurs-none, sumBy, widths}
+use Rattle.text.proofs.Rows.{row-next, row-rows, row-statements, row-nums, step-long, step-same, step-other, step-occurs, z-miscounted, z-statements, z-nums}
 
 -- ---- what a line that passed shows
-whole-parts : (st : State) (k : ℕ) (vs : List ℤ) → wholeOf st k vs ≡ 0 → (getD (st .counts) k 0 < kind k .limit) × (miscounted (st .rows) (kind k) vs ≡ false)
+whole-parts : (st : State) (k : ℕ) (vs : List ℤ) → k < none → wholeOf st k vs ≡ 0 → (getD (st .counts) k 0 < kind k .limit) × (miscounted (st .rows) (kind k) vs ≡ false)
 unfolding wholeOf pick
-whole-parts st k vs e =
+whole-parts st k vs h e =
     go (leb (kind k .limit) (getD (st .counts) k 0)) (headless (kind k) vs) (missing (getD (st .counts) exception 0) (kind k) vs) (miscounted (st .rows) (kind k) vs) refl refl e
   where
-    go : (a b c d : Bool) → leb (kind k .limit) (getD (st .counts) k 0) ≡ a → miscounted (st .rows) (kind k) vs ≡ d → _≡_ {A = ℕ} (pick a 8 (pick b 9 (pick c 10 (pick d 11 0)))) 0
+    go : (a b c d : Bool) → leb (kind k .limit) (getD (st .counts) k 0) ≡ a → miscounted (st .rows) (kind k) vs ≡ d → _≡_ {A = ℕ} (pick a (kind k .over) (pick b (kind k .unfilled) (pick c 10 (pick d 11 0)))) 0
         → (getD (st .counts) k 0 < kind k .limit) × (miscounted (st .rows) (kind k) vs ≡ false)
-    go true b c d p q e = absurd (omega arith)
-    go false true c d p q e = absurd (omega arith)
+    go true b c d p q e = absurd (omega (arith, over-some k h))
+    go false true c d p q e = absurd (omega (arith, unfilled-some k h))
     go false false true d p q e = absurd (omega arith)
     go false false false true p q e = absurd (omega arith)
     go false false false false p q e = (leb-false (kind k .limit) (getD (st .counts) k 0) p, q)
@@ -78,7 +79,7 @@ z-count st vs k h = step-other st last vs k (λ e. omega arith)
 
 -- The counts of a state, as a shape has them.
 shape-counts : (st : State) (k : ℕ) → first < k → k < last → countOf (shapeOf st) k ≡ getD (st .counts) k 0
-unfolding countOf countsOf shapeOf
+unfolding countOf allCounts countsOf shapeFrom
 shape-counts st zero h g = absurd (omega arith)
 shape-counts st (suc zero) h g = refl
 shape-counts st (suc (suc zero)) h g = refl
@@ -95,12 +96,12 @@ pub record Form (st : State) (s : Shape) (rs : List Row) (ws : List ℤ) : Type 
   pub counts-are : (k : ℕ) → first < k → k < last → getD (st .counts) k 0 + occurs k ks ≡ countOf s k
   pub few : (k : ℕ) → first < k → k < last → getD (st .counts) k 0 ≤ kind k .limit → countOf s k ≤ kind k .limit
 
-cut-first : (k : ℕ) (ks : List ℕ) (vs us : List ℤ) → length vs ≡ kind k .fields → cut (k ∷ ks) (vs ++ us) ≡ record { place = k; nums = vs } ∷ cut ks us
+cut-first : (k : ℕ) (ks : List ℕ) (vs us : List ℤ) → length vs ≡ kind k .numbers → cut (k ∷ ks) (vs ++ us) ≡ record { place = k; nums = vs } ∷ cut ks us
 unfolding cut
-cut-first k ks vs us e = rw (take-at vs us (kind k .fields) e, drop-at vs us (kind k .fields) e)
+cut-first k ks vs us e = rw (take-at vs us (kind k .numbers) e, drop-at vs us (kind k .numbers) e)
 
-widths-more : (k : ℕ) (ks : List ℕ) → widths (k ∷ ks) ≡ kind k .fields + widths ks
-unfolding widths
+widths-more : (k : ℕ) (ks : List ℕ) → widths (k ∷ ks) ≡ kind k .numbers + widths ks
+unfolding sumBy
 widths-more k ks = refl
 
 cut-none : (ws : List ℤ) → cut [] ws ≡ []
@@ -108,11 +109,11 @@ unfolding cut
 cut-none ws = refl
 
 widths-none : widths [] ≡ 0
-unfolding widths
+unfolding sumBy
 widths-none = refl
 
 -- A row before lines of such a form.
-form-row : (st : State) (s : Shape) (k : ℕ) (vs us : List ℤ) (rs : List Row) → first < k → k < last → st .next ≤ k → length (st .counts) ≡ none → length vs ≡ kind k .fields → getD (st .counts) k 0 < kind k .limit
+form-row : (st : State) (s : Shape) (k : ℕ) (vs us : List ℤ) (rs : List Row) → first < k → k < last → st .next ≤ k → length (st .counts) ≡ none → length vs ≡ kind k .numbers → getD (st .counts) k 0 < kind k .limit
     → Form (step st k vs) s rs us → Form st s (record { place = k; nums = vs } ∷ rs) (vs ++ us)
 form-row st s k vs us rs h g p l w u f =
     record {
@@ -146,7 +147,7 @@ form-last st s vs us rs p a b c d n =
     }
 
 end-statements : (st : State) (vs : List ℤ) → shapeOf (step st last vs) .statements ≡ st .statements
-unfolding shapeOf
+unfolding shapeFrom
 end-statements st vs = z-statements st vs
 
 row-is : (r : Row) (k : ℕ) (vs : List ℤ) → r .place ≡ k → r .nums ≡ vs → r ≡ record { place = k; nums = vs }
@@ -169,7 +170,7 @@ form-next st s r rs ws us k vs at b l p e t ih = go (ltb k last) refl
     as-row : k < last → Form st s (record { place = k; nums = vs } ∷ rs) ws
     as-row h =
         rw (e, row-nums k vs (omega (arith, in-place)) h)
-        (form-row st s k vs us rs (omega (arith, in-place)) h in-place l wide (whole-parts st k vs (p .right) .0) (ih h))
+        (form-row st s k vs us rs (omega (arith, in-place)) h in-place l (wide ∙ sym (numbers-fields k (omega (arith, in-place)) h)) (whole-parts st k vs (known (st .next) k (p .placed)) (p .right) .0) (ih h))
 
     as-last : k ≡ last → run rs (step st last vs) at ≡ accepted s us → vs ≡ pos (st .rows) ∷ [] → ws ≡ rowOf last vs ++ us → Form st s (record { place = last; nums = vs } ∷ rs) ws
     as-last q t v f =
@@ -180,7 +181,7 @@ form-next st s r rs ws us k vs at b l p e t ih = go (ltb k last) refl
     go true x = rw here (as-row (ltb-true k last x))
     go false x =
         let q : k ≡ last = omega (arith, ltb-false k last x, known (st .next) k (p .placed)) in
-        let v : vs ≡ pos (st .rows) ∷ [] = one-number vs (st .rows) (rw q at (p .wide) ∙ z-wide) (rw q at (whole-parts st k vs (p .right) .1)) in
+        let v : vs ≡ pos (st .rows) ∷ [] = one-number vs (st .rows) (rw q at (p .wide) ∙ z-wide) (rw q at (whole-parts st k vs (known (st .next) k (p .placed)) (p .right) .1)) in
         rw (here, q) (as-last q (rw q at t) v (rw q at e))
 
 pub formed : (rs : List Row) (st : State) (at : ℕ) (s : Shape) (ws : List ℤ) → 0 < st .next → st .next ≤ last → length (st .counts) ≡ none → run rs st at ≡ accepted s ws → Form st s rs ws

@@ -10,12 +10,13 @@ use lib.Dec.{T, eqb}
 use lib.IntN.{ℤ, pos, negsuc}
 use lib.ListN.{length}
 use Rattle.logic.specs.Tests.{both, either, pick, consIf, some}
-use Rattle.book.specs.Kinds.{kinds, kind, unknown, contents, fieldsOf, bytes, width, most, longest, mostRows, rangeOf}
+use Rattle.book.specs.Kinds.{kinds, kind, unknown, contents, fieldsOf, numbersOf, bytes, most, longest, rowOnce, mostRows, rangeOf}
+use Rattle.book.specs.Counts.{countsOf, frontOf, allCounts, countOf, shapeFrom, sumTo}
 use Rattle.text.specs.Fields.{columnOf, columns, digitOf, sizeOf, minusIn, signed, same, readColumns, spelt, firstField}
-use Rattle.text.specs.Lines.{toFirst, lines, seek, kindFor, between, inside, andThen, testField, readFields, code, numbersIn, headless, missing, miscounted, wholeOf, unless, judged, readRest, readKind, readLine}
-use Rattle.text.specs.Reading.{Outcome, start, toNat, lastOr, after, step, rowOf, prepend, shapeOf, readEnd, onLine, readLines, lastByte, readText, tableOf}
+use Rattle.text.specs.Lines.{toFirst, lines, seek, kindFor, between, inside, andThen, testField, readFields, code, numbersIn, filledIn, headless, missing, miscounted, wholeOf, unless, judged, readRest, readKind, readLine}
+use Rattle.text.specs.Reading.{Outcome, start, toNat, lastOr, after, step, rowOf, prepend, readEnd, onLine, readLines, lastByte, readText, tableOf}
 use Rattle.text.specs.Reading.Outcome.{accepted, refused}
-use Rattle.text.specs.Tables.{countsOf, layout, widths, cut, rowsOf, testFields, rowFault, testRow, testRows, shapeIn, miscount, testTable}
+use Rattle.text.specs.Tables.{layout, cut, rowsOf, testFields, rowFault, testRow, testRows, shapeIn, miscount, testTable}
 
 -- The bytes of a text.
 abbrev ascii : String → List ℕ
@@ -74,7 +75,7 @@ pub texts-right : T (texts
     (10, 3, "B   1   1\nX   1   0   0   0   0   0   0   0   0\nP   1   2\nZ   2\n") ∷
     (11, 2, "B   1   1\nZ   1\n") ∷
     (11, 4, "B   1   1\nR   0   0   0   0   0   0   0   0   0\nR   0   0   0   0   0   0   0   0   0\nZ   1\n") ∷ []))
-unfolding kinds kind unknown contents fieldsOf bytes width most longest mostRows rangeOf both either pick consIf some columnOf columns digitOf sizeOf minusIn signed same readColumns spelt firstField toFirst lines seek kindFor between inside andThen testField readFields code numbersIn headless missing miscounted wholeOf unless judged readRest readKind readLine start toNat lastOr after step rowOf prepend shapeOf readEnd onLine readLines lastByte readText tableOf
+unfolding kinds kind unknown contents fieldsOf bytes most longest rowOnce mostRows shapeFrom frontOf rangeOf both either pick consIf some columnOf columns digitOf sizeOf minusIn signed same readColumns spelt firstField toFirst lines seek kindFor between inside andThen testField readFields code numbersIn filledIn headless missing miscounted wholeOf unless judged readRest readKind readLine start toNat lastOr after step rowOf prepend readEnd onLine readLines lastByte readText tableOf
 texts-right = tt
 
 pub tables-right : T (tables
@@ -93,5 +94,5 @@ pub tables-right : T (tables
     (6, 4, pos 1 ∷ pos 1 ∷ pos 1 ∷ pos 1 ∷ pos 0 ∷ pos 0 ∷ pos 0 ∷ pos 0 ∷ pos 0 ∷ pos 0 ∷ pos 0 ∷ pos 0 ∷ pos 0 ∷ pos 1 ∷ pos 0 ∷ pos 0 ∷ pos 0 ∷ pos 0 ∷ pos 0 ∷ pos 0 ∷ pos 0 ∷ pos 0 ∷ pos 0 ∷ pos 1 ∷ []) ∷
     (0, 24, pos 1 ∷ pos 1 ∷ pos 1 ∷ pos 1 ∷ pos 0 ∷ pos 0 ∷ pos 0 ∷ pos 0 ∷ pos 0 ∷ pos 0 ∷ pos 0 ∷ pos 0 ∷ pos 0 ∷ pos 1 ∷ pos 0 ∷ pos 0 ∷ pos 0 ∷ pos 0 ∷ pos 0 ∷ pos 0 ∷ pos 0 ∷ pos 0 ∷ pos 1 ∷ pos 1 ∷ []) ∷
     (0, 4, pos 48 ∷ pos 0 ∷ pos 0 ∷ pos 0 ∷ []) ∷ []))
-unfolding kinds kind unknown contents fieldsOf most mostRows rangeOf both either pick consIf some between inside andThen testField code numbersIn headless missing unless judged toNat rowOf prepend onLine tableOf countsOf layout widths cut rowsOf testFields rowFault testRow testRows shapeIn miscount testTable
+unfolding kinds kind unknown contents fieldsOf numbersOf most rowOnce mostRows rangeOf both pick consIf some between inside andThen testField code numbersIn filledIn headless missing unless judged toNat rowOf prepend onLine tableOf countsOf frontOf allCounts countOf shapeFrom sumTo layout cut rowsOf testFields rowFault testRow testRows shapeIn miscount testTable
 tables-right = tt

@@ -3,38 +3,37 @@
 use mathlib.Core.Path.{_≡_, refl, ap, _∙_}
 use mathlib.Core.Bool.{true}
 use mathlib.Core.List.{List, [], _∷_, _++_}
-use Prim.Native.Nat.{ℕ, zero, suc, _+_, _*_, _<_, _≤_}
-use native.Mathlib.Nat.{add-zero, suc-mul, mul-le-mul-right}
+use Prim.Native.Nat.{ℕ, zero, suc, _+_, _<_, _≤_}
 use native.Mathlib.Omega.{arith}
 use lib.Dec.{leb}
 use lib.IntN.{ℤ, pos, negsuc, negℤ}
 use lib.Signed.{leZ}
-use lib.ListN.{length, getD, take, drop, replicate, length-append, length-drop, take-append-drop}
-use lib.Seq.{drop-cons}
+use lib.ListN.{length, take, drop, length-append, length-drop, take-append-drop}
 use borrow.Author.Tests.{leb-true}
 use Rattle.logic.specs.Lists.{Every}
 use Rattle.logic.specs.Tests.{pick}
 use Rattle.logic.proofs.Decide.{clash}
-use Rattle.book.specs.declared.Kind.{Kind}
 use Rattle.book.specs.declared.Shape.{Shape}
 use Rattle.book.specs.declared.Content.{Content}
 use Rattle.book.specs.declared.Content.the-variants.{Edition, Statements, Literal, Exception, Total}
-use Rattle.book.specs.Kinds.{kinds, kind, unknown, fieldsOf, bytes, none, first, last, most, longest, mostRows, rangeOf}
+use Rattle.book.specs.Kinds.{kinds, kind, numbersOf, bytes, first, last, most, longest, rowOnce, mostRows, rangeOf}
+use Rattle.book.specs.Counts.{countsOf, total, textBytes, InLimits}
+use Rattle.book.proofs.Counts.{sum-all}
 use Rattle.text.specs.declared.Field.the-variants.{Value}
 use Rattle.text.specs.Lines.{between, inside, lineOf, unlines}
 use Rattle.text.specs.Lines.Numbers.{numbers}
 use Rattle.text.specs.Lines.Line.{line}
 use Rattle.text.specs.Reading.{rowOf}
 use Rattle.text.specs.Reading.Outcome.{accepted}
-use Rattle.text.specs.Tables.{Row, countsOf, layout, widths, cut, rowsOf, testFields, rowFault, testRow, testRows}
-use Rattle.text.specs.Writing.{firstRow, lastRow, total, bookRows, rowLines, textOf}
-use Rattle.text.proofs.Tests.{both-left, both-right}
+use Rattle.text.specs.Tables.{Row, layout, cut, rowsOf, testFields, rowFault, testRow, testRows}
+use Rattle.text.specs.Writing.{firstRow, lastRow, bookRows, rowLines, textOf}
+use Rattle.logic.proofs.Tests.{both-left, both-right}
 use Rattle.text.proofs.Fields.{Short}
-use Rattle.text.proofs.KindFacts.{many, width-is}
+use Rattle.text.proofs.KindFacts.{numbers-wide, numbers-fields}
 use Rattle.text.proofs.Lines.{judged-line, fields-tested, first-numbers, fields-length}
 use Rattle.text.proofs.Texts.{Writable, went}
-use Rattle.text.proofs.Layouts.{Rising}
-use Rattle.text.proofs.Rows.{countOf, Within, row-nums}
+use Rattle.text.proofs.Layouts.{Rising, sumBy, widths, sum-append, all-sum}
+use Rattle.text.proofs.Rows.{row-nums}
 use Rattle.text.proofs.Books.{Sized, in-first}
 
 -- ---- numbers in range have four columns
@@ -50,7 +49,7 @@ high-short a (pos m) b g e = omega (arith, leb-true m b (both-right (leb a m) (l
 high-short a (negsuc m) b g e = absurd (clash (both-left (leZ (pos a) (negsuc m)) _ e))
 
 pub content-short : (c : Content) (n : ℕ) (v : ℤ) → n < 1000 → inside (rangeOf c n) v ≡ true → Short v
-unfolding inside rangeOf mostRows most kinds pick
+unfolding inside rangeOf mostRows most kinds rowOnce pick
 content-short Edition n v h e = high-short 1 v _ (omega arith) e
 content-short Statements n v h e = high-short 1 v _ (omega arith) e
 content-short Literal n v h e = low-short n v n h (omega arith) e
@@ -75,23 +74,23 @@ small-n n e = omega (arith, leb-true n _ (both-right (leb 1 n) _ e))
 pub record Row-passed (s : Shape) (k : ℕ) (us : List ℤ) (j : ℕ) (vs : List ℤ) : Type 0 where
   pub kind-is : k ≡ j
   pub nums-are : vs ≡ us
-  pub wide : length us ≡ length (fieldsOf (kind k))
+  pub wide : length us ≡ length (numbersOf (kind k))
   pub right : rowFault (s .exceptions) (kind k) us ≡ 0
-  pub fields-pass : testFields (fieldsOf (kind k)) (s .statements) us ≡ numbers us
+  pub fields-pass : testFields (numbersOf (kind k)) (s .statements) us ≡ numbers us
 
 pub tested-row : (s : Shape) (k : ℕ) (us : List ℤ) (j : ℕ) (vs : List ℤ) → testRow s (record { place = k; nums = us }) ≡ line j vs → Row-passed s k us j vs
 unfolding testRow
 tested-row s k us j vs e =
-    let x = judged-line (rowFault (s .exceptions) (kind k)) k (testFields (fieldsOf (kind k)) (s .statements) us) j vs e in
-    let y = fields-tested (fieldsOf (kind k)) (s .statements) us vs (x .0) in
+    let x = judged-line (rowFault (s .exceptions) (kind k)) k (testFields (numbersOf (kind k)) (s .statements) us) j vs e in
+    let y = fields-tested (numbersOf (kind k)) (s .statements) us vs (x .0) in
     record { kind-is = x .1; nums-are = y .0; wide = y .1; right = rw (y .0) at (x .2); fields-pass = rw (y .0) at (x .0) }
 
 -- The rest of rows that were accepted.
 pub record Rest (s : Shape) (k : ℕ) (ks : List ℕ) (ws : List ℤ) (at : ℕ) (s′ : Shape) (ws′ : List ℤ) : Type 0 where
   pub us : List ℤ
-  pub passed : Row-passed s k (take (kind k .fields) ws) k (take (kind k .fields) ws)
-  pub then : testRows s (cut ks (drop (kind k .fields) ws)) (suc at) ≡ accepted s′ us
-  pub all : ws′ ≡ rowOf k (take (kind k .fields) ws) ++ us
+  pub passed : Row-passed s k (take (kind k .numbers) ws) k (take (kind k .numbers) ws)
+  pub then : testRows s (cut ks (drop (kind k .numbers) ws)) (suc at) ≡ accepted s′ us
+  pub all : ws′ ≡ rowOf k (take (kind k .numbers) ws) ++ us
 
 join-rest : (s : Shape) (k : ℕ) (vs us ws′ : List ℤ) (j : ℕ) (ts : List ℤ) → Row-passed s k vs j ts → ws′ ≡ rowOf j ts ++ us → Row-passed s k vs k vs × (ws′ ≡ rowOf k vs ++ us)
 join-rest s k vs us ws′ j ts p e =
@@ -100,18 +99,18 @@ join-rest s k vs us ws′ j ts p e =
 pub next-row : (s : Shape) (k : ℕ) (ks : List ℕ) (ws : List ℤ) (at : ℕ) (s′ : Shape) (ws′ : List ℤ) → testRows s (cut (k ∷ ks) ws) at ≡ accepted s′ ws′ → Rest s k ks ws at s′ ws′
 unfolding testRows cut
 next-row s k ks ws at s′ ws′ e =
-    let w = went (testRow s (record { place = k; nums = take (kind k .fields) ws })) at (λ j vs. testRows s (cut ks (drop (kind k .fields) ws)) (suc at)) s′ ws′ e in
-    let q = join-rest s k (take (kind k .fields) ws) (w .us) ws′ (w .k) (w .vs) (tested-row s k (take (kind k .fields) ws) (w .k) (w .vs) (w .is)) (w .all) in
+    let w = went (testRow s (record { place = k; nums = take (kind k .numbers) ws })) at (λ j vs. testRows s (cut ks (drop (kind k .numbers) ws)) (suc at)) s′ ws′ e in
+    let q = join-rest s k (take (kind k .numbers) ws) (w .us) ws′ (w .k) (w .vs) (tested-row s k (take (kind k .numbers) ws) (w .k) (w .vs) (w .is)) (w .all) in
     record { us = w .us; passed = q .0; then = w .then; all = q .1 }
 
 pub rows-tested : (ks : List ℕ) (s : Shape) (ws : List ℤ) (at m : ℕ) (s′ : Shape) (ws′ : List ℤ) → first < m → Rising m last ks → length ws ≡ widths ks → testRows s (cut ks ws) at ≡ accepted s′ ws′ → (s′ ≡ s) × (ws′ ≡ ws)
-unfolding testRows cut widths
+unfolding testRows cut sumBy
 rows-tested [] s [] at m s′ ws′ b r l e = (cc, cc)
 rows-tested [] s (w ∷ ws) at m s′ ws′ b r l e = absurd (omega arith)
 rows-tested (k ∷ ks) s ws at m s′ ws′ b r l e =
     let n = next-row s k ks ws at s′ ws′ e in
-    let ih = rows-tested ks s (drop (kind k .fields) ws) (suc at) k s′ (n .us) (omega (arith, r .0)) (r .2) (length-drop (kind k .fields) ws ∙ omega arith) (n .then) in
-    (ih .0, join-nums k (kind k .fields) ws ws′ (n .us) (omega (arith, r .0)) (r .1) (ih .1) (n .all))
+    let ih = rows-tested ks s (drop (kind k .numbers) ws) (suc at) k s′ (n .us) (omega (arith, r .0)) (r .2) (length-drop (kind k .numbers) ws ∙ omega arith) (n .then) in
+    (ih .0, join-nums k (kind k .numbers) ws ws′ (n .us) (omega (arith, r .0)) (r .1) (ih .1) (n .all))
   where
     join-nums : (k f : ℕ) (ws ws′ us : List ℤ) → first < k → k < last → us ≡ drop f ws → ws′ ≡ rowOf k (take f ws) ++ us → ws′ ≡ ws
     join-nums k f ws ws′ us h g d a = a ∙ rw (row-nums k (take f ws) h g, d) (take-append-drop f ws)
@@ -123,18 +122,13 @@ rows-writable (k ∷ ks) s ws at m s′ ws′ b r h e =
     let n = next-row s k ks ws at s′ ws′ e in (
       record {
         known = omega (arith, r .1);
-        short = all-short (fieldsOf (kind k)) (s .statements) (take (kind k .fields) ws) (take (kind k .fields) ws) h (n .passed .fields-pass);
-        wide = n .passed .wide ∙ width-is k (omega (arith, r .1));
+        short = all-short (numbersOf (kind k)) (s .statements) (take (kind k .numbers) ws) (take (kind k .numbers) ws) h (n .passed .fields-pass);
+        wide = n .passed .wide ∙ (numbers-wide k (omega (arith, r .0)) (r .1) ∙ numbers-fields k (omega (arith, r .0)) (r .1));
       },
-      rows-writable ks s (drop (kind k .fields) ws) (suc at) k s′ (n .us) (omega (arith, r .0)) (r .2) h (n .then),
+      rows-writable ks s (drop (kind k .numbers) ws) (suc at) k s′ (n .us) (omega (arith, r .0)) (r .2) h (n .then),
     )
 
 -- ---- how long the text is
--- The bytes of lines of these kinds, with their line feeds.
-unfoldable pub bytesOf : List ℕ → ℕ
-bytesOf [] = 0
-bytesOf (k ∷ ks) = bytes (kind k) + bytesOf ks
-
 unfoldable pub places : List Row → List ℕ
 places [] = []
 places (r ∷ rs) = r .place ∷ places rs
@@ -143,46 +137,15 @@ line-bytes : (k : ℕ) (vs : List ℤ) (bs : List ℕ) → length vs ≡ kind k 
 unfolding lineOf bytes
 line-bytes k vs bs e = simp length-append (omega (arith, fields-length vs, e))
 
-pub text-bytes : (rs : List Row) → Every Writable rs → length (unlines (rowLines rs)) ≡ bytesOf (places rs)
-unfolding rowLines unlines bytesOf places
+pub text-bytes : (rs : List Row) → Every Writable rs → length (unlines (rowLines rs)) ≡ sumBy bytes (places rs)
+unfolding rowLines unlines sumBy places
 text-bytes [] w = refl
 text-bytes (r ∷ rs) w = line-bytes (r .place) (r .nums) (unlines (rowLines rs)) (w .0 .wide) ∙ ap (λ (m : ℕ). bytes (kind (r .place)) + m) (text-bytes rs (w .1))
 
 places-cut : (ks : List ℕ) (ws : List ℤ) (rs : List Row) → places (cut ks ws ++ rs) ≡ ks ++ places rs
 unfolding places cut
 places-cut [] ws rs = refl
-places-cut (k ∷ ks) ws rs = rw (places-cut ks (drop (kind k .fields) ws) rs)
-
-bytes-append : (ks js : List ℕ) → bytesOf (ks ++ js) ≡ bytesOf ks + bytesOf js
-unfolding bytesOf
-bytes-append [] js = omega arith
-bytes-append (k ∷ ks) js = rw (bytes-append ks js) (omega arith)
-
-bytes-repeat : (c k : ℕ) → bytesOf (replicate c k) ≡ c * bytes (kind k)
-unfolding bytesOf
-bytes-repeat zero k = omega arith
-bytes-repeat (suc c) k = rw (bytes-repeat c k, suc-mul) (omega arith)
-
-most-is : (x : Kind) (xs : List Kind) → most bytes (x ∷ xs) ≡ x .limit * bytes x + most bytes xs
-unfolding most
-most-is x xs = refl
-
--- The kinds from place i on, each as often as it may.
-most-from : (i : ℕ) → i < none → most bytes (drop i kinds) ≡ kind i .limit * bytes (kind i) + most bytes (drop (suc i) kinds)
-unfolding kind
-most-from i h = rw (drop-cons kinds i unknown (rw many h)) (most-is (getD kinds i unknown) (drop (suc i) kinds))
-
-bytes-none : (m : ℕ) → bytesOf [] + m ≤ m
-unfolding bytesOf
-bytes-none m = omega arith
-
-long-first : longest ≡ bytes (kind first) + most bytes (drop 1 kinds)
-unfolding longest most bytes kind kinds
-long-first = refl
-
-long-last : most bytes (drop last kinds) ≡ bytes (kind last)
-unfolding most bytes kind kinds
-long-last = refl
+places-cut (k ∷ ks) ws rs = rw (places-cut ks (drop (kind k .numbers) ws) rs)
 
 places-first : (n : ℕ) (rs : List Row) → places (firstRow n ∷ rs) ≡ first ∷ places rs
 unfolding places firstRow
@@ -192,35 +155,19 @@ places-last : (m : ℕ) → places (lastRow m ∷ []) ≡ last ∷ []
 unfolding places lastRow
 places-last m = refl
 
-all-bytes : (ks : List ℕ) → bytesOf (first ∷ (ks ++ (last ∷ []))) ≡ bytes (kind first) + bytesOf ks + bytes (kind last)
-unfolding bytesOf
-all-bytes ks = rw (bytes-append ks (last ∷ [])) (omega arith)
-
-layout-bytes : (cs : List ℕ) (i : ℕ) → i + length cs ≤ none → ((j : ℕ) → j < length cs → getD cs j 0 ≤ kind (i + j) .limit) → bytesOf (layout i cs) + most bytes (drop (i + length cs) kinds) ≤ most bytes (drop i kinds)
-unfolding layout
-layout-bytes [] i h u = rw (add-zero i) (bytes-none (most bytes (drop i kinds)))
-layout-bytes (c ∷ cs) i h u =
-    let a = bytes-append (replicate c i) (layout (suc i) cs) in
-    let b = bytes-repeat c i in
-    let q : c ≤ kind i .limit = rw (add-zero i) at (u 0 (omega arith)) in
-    let m = mul-le-mul-right (bytes (kind i)) q in
-    let e : i + suc (length cs) ≡ suc i + length cs = omega arith in
-    let ih = layout-bytes cs (suc i) (omega arith) (λ j g. let f : i + suc j ≡ suc i + j = omega arith in rw f at (u (suc j) (omega arith))) in
-    rw (e, a, b, most-from i (omega arith)) (omega (arith, ih, m))
-
 places-book : (s : Shape) (ws : List ℤ) → places (bookRows s ws) ≡ first ∷ (layout 1 (countsOf s) ++ (last ∷ []))
 unfolding bookRows rowsOf firstRow
 places-book s ws = rw (places-first (s .statements) (cut (layout 1 (countsOf s)) ws ++ (lastRow (total s) ∷ [])), places-cut (layout 1 (countsOf s)) ws (lastRow (total s) ∷ []), places-last (total s))
 
--- The bytes of a book of this shape.
-pub book-bytes : (s : Shape) (ws : List ℤ) → Every Writable (bookRows s ws) → length (textOf s ws) ≡ bytes (kind first) + bytesOf (layout 1 (countsOf s)) + bytes (kind last)
-unfolding textOf
-book-bytes s ws w = text-bytes (bookRows s ws) w ∙ (rw (places-book s ws) (all-bytes (layout 1 (countsOf s))))
+all-bytes : (ks : List ℕ) → sumBy bytes (first ∷ (ks ++ (last ∷ []))) ≡ bytes (kind first) + sumBy bytes ks + bytes (kind last)
+unfolding sumBy
+all-bytes ks = rw (sum-append bytes ks (last ∷ [])) (omega arith)
 
-pub text-fits : (s : Shape) (ws : List ℤ) → Within s → Every Writable (bookRows s ws) → length (textOf s ws) ≤ longest
-unfolding countsOf countOf
-text-fits s ws u w =
-    let b = layout-bytes (s .plain ∷ s .exceptions ∷ s .preferences ∷ []) 1 (omega arith) (λ j h. let q : 1 + j ≡ suc j = omega arith in rw q (u (suc j) (omega arith) (omega arith))) in
-    let t : longest ≡ bytes (kind first) + most bytes (drop 1 kinds) = long-first in
-    let z : most bytes (drop last kinds) ≡ bytes (kind last) = long-last in
-    omega (arith, book-bytes s ws w, b, t, z)
+-- The bytes of a book of this shape.
+pub book-bytes : (s : Shape) (ws : List ℤ) → Every Writable (bookRows s ws) → length (textOf s ws) ≡ textBytes s
+unfolding textOf
+book-bytes s ws w = text-bytes (bookRows s ws) w ∙ (rw (places-book s ws) (all-bytes (layout 1 (countsOf s)) ∙ all-sum bytes s))
+
+pub text-fits : (s : Shape) (ws : List ℤ) → InLimits s → Every Writable (bookRows s ws) → length (textOf s ws) ≤ longest
+unfolding longest
+text-fits s ws l w = omega (arith, book-bytes s ws w, sum-all bytes s l)

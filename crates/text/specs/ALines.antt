@@ -15,14 +15,18 @@ unfoldable pub from : ℕ → ℕ → List ℕ
 from i zero = []
 from i (suc n) = i ∷ from (suc i) n
 
--- The exceptions taken, ascending, then zeros: as many numbers as a book may have exceptions.
-unfoldable pub takenFields : ℕ → List ℕ
-takenFields taken = take limit.exceptions (keep (λ i. member i taken) (from 1 limit.exceptions) ++ replicate limit.exceptions 0)
+-- How many fields for exceptions a line has in a book with so many exceptions: one number for all books, as many as a book may have.
+unfoldable pub lineFields : ℕ → ℕ
+lineFields exceptions = limit.exceptions
+
+-- The exceptions taken of the first w, ascending, then zeros: w numbers.
+unfoldable pub takenFields : ℕ → ℕ → List ℕ
+takenFields w taken = take w (keep (λ i. member i taken) (from 1 w) ++ replicate w 0)
 
 -- What the pair says of statement i: held `+`, denied `-`, else `.`.
 unfoldable pub mark : Pair → ℕ → ℕ
 mark p i = pick (member i (p .held)) 43 (pick (member i (p .denied)) 45 46)
 
--- The line of a pair in a book of n statements.
-unfoldable pub aLine : ℕ → Pair → List ℕ
-aLine n p = 65 ∷ (writtenAll (map pos (size (p .taken) ∷ takenFields (p .taken))) ++ (map (mark p) (from 1 n) ++ (10 ∷ [])))
+-- The line of a pair in a book of n statements, with w fields for exceptions.
+unfoldable pub aLine : ℕ → ℕ → Pair → List ℕ
+aLine w n p = 65 ∷ (writtenAll (map pos (size (p .taken) ∷ takenFields w (p .taken))) ++ (map (mark p) (from 1 n) ++ (10 ∷ [])))

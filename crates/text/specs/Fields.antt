@@ -53,9 +53,13 @@ same [] (y ∷ ys) = false
 same (x ∷ xs) [] = false
 same (x ∷ xs) (y ∷ ys) = both (eqb x y) (same xs ys)
 
+-- The refusal of columns that are misspelt.
+abbrev pub misspelling : ℕ
+misspelling = 5
+
 -- Columns that are how the number of this sign and size is written have that number; all others are misspelt.
 unfoldable pub readColumns : Bool → ℕ → List ℕ → Field
-readColumns neg m bs = pick (same (columns neg m) bs) (Value (signed neg m)) Misspelt
+readColumns neg m bs = pick (same (columns neg m) bs) (Value (signed neg m)) (Misspelt misspelling)
 
 -- What four columns are: the number that they are how to write, or misspelt.
 unfoldable pub spelt : ℕ → ℕ → ℕ → ℕ → Field

@@ -6,7 +6,7 @@ use mathlib.Core.List.{List, [], _∷_, _++_}
 use lib.Dec.{eqb, ltb, leb}
 use lib.IntN.{ℤ, pos}
 use lib.Signed.{leZ}
-use lib.ListN.{getD, length, drop}
+use lib.ListN.{getD, length, take, drop}
 use Rattle.logic.specs.Tests.{both, pick, consIf, some}
 use Rattle.book.specs.declared.Kind.{Kind}
 use Rattle.book.specs.declared.Content.{Content}
@@ -62,9 +62,9 @@ unfoldable pub andThen : ℤ → Numbers → Numbers
 andThen v (numbers vs) = numbers (v ∷ vs)
 andThen v (fault q) = fault q
 
--- A field, its range, and what the fields after it give: 5 misspelt; then the range's own refusal, 7 for the edition, else 6.
+-- A field, its range, and what the fields after it give: its own refusal if it is misspelt, 5; then the range's, 7 for the edition, else 6.
 unfoldable pub testField : Field → Range → Numbers → Numbers
-testField Misspelt r rest = fault 5
+testField (Misspelt q) r rest = fault q
 testField (Value v) r rest = pick (inside r v) (andThen v rest) (fault (r .fault))
 
 -- The fields of these contents at the front of the bytes, in a book of n statements.
@@ -87,9 +87,14 @@ numbersIn c [] vs = []
 numbersIn c (d ∷ ds) [] = []
 numbersIn c (d ∷ ds) (v ∷ vs) = consIf (eqb (code c) (code d)) v (numbersIn c ds vs)
 
--- 9: a kind that needs a head ("exception with head 0"), and its first number is 0.
+-- How many of the numbers are filled: not 0.
+unfoldable pub filledIn : List ℤ → ℕ
+filledIn [] = 0
+filledIn (v ∷ vs) = pick (between (pos 0) (pos 0) v) (filledIn vs) (suc (filledIn vs))
+
+-- 9: fewer heads are filled than the kind asks for ("exception with head 0").
 unfoldable pub headless : Kind → List ℤ → Bool
-headless x vs = both (x .headed) (between (pos 0) (pos 0) (getD vs 0 (pos 0)))
+headless x vs = ltb (filledIn (take (x .heads) vs)) (x .filled)
 
 -- 10: a field names an exception past the m that the book has ("P names a missing exception").
 unfoldable pub missing : ℕ → Kind → List ℤ → Bool
@@ -99,11 +104,12 @@ missing m x vs = some (λ v. not (leZ v (pos m))) (numbersIn Exception (fieldsOf
 unfoldable pub miscounted : ℕ → Kind → List ℤ → Bool
 miscounted m x vs = some (λ v. not (between (pos m) (pos m) v)) (numbersIn Total (fieldsOf x) vs)
 
--- The refusal of a line of the kind at place k as a whole, after the lines before it: 8 one over its limit, then 9, 10, 11; 0 if none.
+-- The refusal of a line of the kind at place k as a whole, after the lines before it: the kind's own one over its limit, 8, then its own
+-- for heads that are missing, 9, then 10, 11; 0 if none.
 unfoldable pub wholeOf : State → ℕ → List ℤ → ℕ
 wholeOf st k vs =
-    pick (leb (kind k .limit) (getD (st .counts) k 0)) 8
-    (pick (headless (kind k) vs) 9
+    pick (leb (kind k .limit) (getD (st .counts) k 0)) (kind k .over)
+    (pick (headless (kind k) vs) (kind k .unfilled)
     (pick (missing (getD (st .counts) exception 0) (kind k) vs) 10
     (pick (miscounted (st .rows) (kind k) vs) 11 0)))
 

@@ -1,13 +1,14 @@
 -- Read (document 01, 'Six operations', 1, and 'Turned down, by place'): from a text to a book's shape and rows, or a refusal with its line.
 use Prim.Native.Nat.{ℕ, suc}
-use mathlib.Core.List.{List, [], _∷_, _++_}
+use mathlib.Core.List.{List, [], _∷_, _++_, map}
 use lib.Dec.{eqb, ltb}
 use lib.IntN.{ℤ, pos, negsuc}
 use lib.ListN.{getD, length, replicate, drop, set}
 use Rattle.logic.specs.Tests.{pick}
 use Rattle.book.specs.declared.Shape.{Shape}
 use Rattle.book.specs.declared.Content.the-variants.{Statements}
-use Rattle.book.specs.Kinds.{kind, fieldsOf, none, plain, exception, preference, longest}
+use Rattle.book.specs.Kinds.{kind, fieldsOf, none, longest}
+use Rattle.book.specs.Counts.{frontOf, shapeFrom}
 use Rattle.text.specs.declared.State.{State}
 use Rattle.text.specs.declared.Reading.{Reading}
 use Rattle.text.specs.declared.Reading.the-variants.{Accepted, Refused}
@@ -56,14 +57,9 @@ unfoldable pub prepend : List ℤ → Outcome → Outcome
 prepend vs (accepted s ws) = accepted s (vs ++ ws)
 prepend vs (refused q l) = refused q l
 
--- n and the counts of R, X and P at the end.
-unfoldable pub shapeOf : State → Shape
-shapeOf st = record {
-  statements = st .statements;
-  plain = getD (st .counts) plain 0;
-  exceptions = getD (st .counts) exception 0;
-  preferences = getD (st .counts) preference 0;
-}
+-- n and the counts of the kinds at the end.
+abbrev pub shapeOf : State → Shape
+shapeOf st = shapeFrom (st .statements) (st .counts)
 
 -- After the last line, `at` being the number of the line after it: "a missing Z counts as the line after the last".
 unfoldable pub readEnd : State → ℕ → Outcome
@@ -79,6 +75,32 @@ unfoldable pub readLines : List (List ℕ) → State → ℕ → Outcome
 readLines [] st at = readEnd st at
 readLines (l ∷ ls) st at = onLine (readLine st l) at (λ k vs. readLines ls (step st k vs) (suc at))
 
+-- ---- a book in front of lines
+-- A book's shape and rows, the lines left after its Z and the number of the first of them; or a refusal's number and line.
+pub data Front : Type 0 where
+  found : Shape → List ℤ → List (List ℕ) → ℕ → Front
+  stopped : ℕ → ℕ → Front
+
+unfoldable pub withRow : List ℤ → Front → Front
+withRow vs (found s ws ls at) = found s (vs ++ ws) ls at
+withRow vs (stopped q at) = stopped q at
+
+unfoldable pub onFront : Line → ℕ → (ℕ → List ℤ → Front) → Front
+onFront (wrong q) at rest = stopped q at
+onFront (line k vs) at rest = withRow (rowOf k vs) (rest k vs)
+
+-- The book in front of the lines, which are not looked at after its Z; lines counted from `at`.
+unfoldable pub readBook : List (List ℕ) → State → ℕ → Front
+readBook [] st at = pick (eqb (st .next) none) (found (shapeOf st) [] [] at) (stopped 3 at)
+readBook (l ∷ ls) st at = pick (eqb (st .next) none) (found (shapeOf st) [] (l ∷ ls) at) (onFront (readLine st l) at (λ k vs. readBook ls (step st k vs) (suc at)))
+
+-- Nothing may follow it: a line after Z is refused by 3. So read, the lines give what `readLines` gives (proofs/Fronts, `alone-lines`).
+unfoldable pub alone : Front → Outcome
+alone (found s ws [] at) = accepted s ws
+alone (found s ws (l ∷ ls) at) = refused 3 at
+alone (stopped q at) = refused q at
+
+-- ---- the text as a whole
 -- The last byte; 0 for an empty text.
 unfoldable pub lastByte : List ℕ → ℕ
 lastByte [] = 0
@@ -92,7 +114,7 @@ readText bs = pick (ltb longest (length bs)) (refused 1 0) (pick (eqb (lastByte 
 -- ---- the lent slice
 -- The number table: n, the counts of R, X and P, the rows in line order.
 unfoldable pub tableOf : Shape → List ℤ → List ℤ
-tableOf s ws = pos (s .statements) ∷ pos (s .plain) ∷ pos (s .exceptions) ∷ pos (s .preferences) ∷ ws
+tableOf s ws = map pos (frontOf s) ++ ws
 
 -- A slice with the list in front of it, and the rest as it was.
 unfoldable pub over : {A : Type 0} → List A → List A → List A

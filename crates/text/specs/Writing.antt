@@ -1,5 +1,5 @@
 -- Write (document 01, 'Six operations', 6): from a number table to its text, "the inverse of Read".
-use Prim.Native.Nat.{ℕ, _+_}
+use Prim.Native.Nat.{ℕ}
 use mathlib.Core.List.{List, [], _∷_, _++_}
 use lib.Dec.{ltb}
 use lib.IntN.{ℤ, pos}
@@ -7,6 +7,7 @@ use lib.ListN.{length}
 use Rattle.logic.specs.Tests.{pick}
 use Rattle.book.specs.declared.Shape.{Shape}
 use Rattle.book.specs.Kinds.{first, last}
+use Rattle.book.specs.Counts.{total}
 use Rattle.text.specs.declared.Writing.{Writing}
 use Rattle.text.specs.declared.Writing.the-variants.{Written, Refused}
 use Rattle.text.specs.Lines.{lineOf, unlines}
@@ -21,10 +22,6 @@ firstRow n = record { place = first; nums = pos 1 ∷ pos n ∷ [] }
 -- The line Z: the number of R, X and P lines.
 unfoldable pub lastRow : ℕ → Row
 lastRow m = record { place = last; nums = pos m ∷ [] }
-
--- How many rows a book of this shape has.
-unfoldable pub total : Shape → ℕ
-total s = s .plain + s .exceptions + s .preferences
 
 -- The lines of a book: B, the rows, Z.
 unfoldable pub bookRows : Shape → List ℤ → List Row

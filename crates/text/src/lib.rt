@@ -2,10 +2,10 @@
 use book::Book;
 use book::Shape;
 
-// What four columns are: a number, or misspelt.
+// What four columns are: a number, or misspelt, with the number of the refusal.
 pub enum Field {
     Value(i32),
-    Misspelt,
+    Misspelt(u32),
 }
 
 // What is known before a line: the place of the first kind that may come, the statements, how many lines of each kind

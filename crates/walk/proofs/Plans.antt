@@ -79,6 +79,13 @@ module _ (ws : List ℕ) (n : ℕ) (ranks : List ℕ) (root : Bounds) where
   refuted-none lo hi b o z eb p d e =
       record { none = λ v m i. let k = p .keeps .kept v m (rw eb i) in d .no (not-true z e) (sub-trans (k .lo) (k .hi)) }
 
+  -- A range is no wider than itself, and wider than a wider one is wider.
+  pub wider-same : (s : Range) → Wider ws n ranks root s s
+  wider-same s = record { still = λ g. g }
+
+  pub wider-then : (s r u : Range) → Wider ws n ranks root s r → Wider ws n ranks root r u → Wider ws n ranks root s u
+  wider-then s r u f g = record { still = λ x. g .still (f .still x) }
+
   pub wider-yes : (s r : Range) → NoView ws n ranks root (r .lo) (r .hi) → Wider ws n ranks root s r
   wider-yes s r f = record { still = λ g. f }
 

@@ -23,22 +23,24 @@ use queue::waiting;
 pub mod marking;
 pub mod ranges;
 
-// Whether a set was admitted, how much may still be spent on marking sets without a view, and where it was admitted bounds at rest for the
-// views that have it, and how many of these the store has.
+// Whether a set was admitted, how much may still be spent on marking sets without a view, how many nodes searches have visited for sets without
+// one, and where it was admitted bounds at rest for the views that have it, and how many of these the store has.
 pub struct Admission {
     pub ok: bool,
     pub credit: u64,
+    pub doubt: u64,
     pub rest: Rest,
     pub count: usize,
 }
 
 // The set was not admitted: the bounds tell nothing.
-pub fn refused(root: Bounds, credit: u64) -> Admission
+pub fn refused(root: Bounds, credit: u64, doubt: u64) -> Admission
     ensures { λ r. ⌜ r .ok ≡ false ⌝ }
 {
     Admission {
         ok: false,
         credit,
+        doubt,
         rest: Rest {
             bounds: root,
             live: waiting::everything(),
@@ -88,6 +90,65 @@ pub fn mark_around(
     left
 }
 
+// How many nodes searches may visit for sets that turn out to have no view before ranges of such sets are looked for by shaving.
+const DOUBT: u64 = 8192;
+
+// So few sets newly marked are not worth a look for ranges.
+const SCANT: u64 = 16;
+
+// No range was worth it: none is looked for any more.
+const NEVER: u64 = 0x8000_0000_0000_0000;
+
+// How many nodes the search for the views of a set may visit before its bounds are shaved: at first, and while ranges are being found.
+const FUEL: u64 = 4096;
+
+const LITTLE: u64 = 64;
+
+// Which of the two it is: the little one only where the last look for a range was worth it.
+pub fn fuel_for(doubt: u64) -> u64 {
+    if doubt == DOUBT {
+        return LITTLE;
+    }
+    FUEL
+}
+
+// Marks a range of sets around t, which has no view as a search has found, once such searches have visited so many nodes. The result is how
+// many they have visited: DOUBT where the next one is to be tried at once, NEVER where no range is looked for any more.
+pub fn mark_shaven(
+    words: &[u64],
+    n: usize,
+    ranks: &[u64],
+    index: &Index,
+    root: Bounds,
+    t: u64,
+    doubt: u64,
+    marks: &mut Marks,
+) -> u64
+    requires { ⌜ (n * 8 ≤ length (now words)) × (length (now ranks) ≤ 64) × Chains (now words) n (now index) ⌝ }
+    ensures { λ _. ⌜ (NoView (now (words .entry)) n (now (ranks .entry)) root t t → MarksRight (now (words .entry)) n (now (ranks .entry)) root (now (marks .entry)) (now (marks .exit))) ⌝ }
+{
+    if doubt < DOUBT {
+        return doubt;
+    }
+    if NEVER <= doubt {
+        return NEVER;
+    }
+    let s = ranges::shaven(words, n, ranks, index, root, t);
+    let earned = marking::mark(
+        marks,
+        Strike {
+            lo: s.lo,
+            hi: s.hi,
+            but: 0xffff_ffff_ffff_ffff,
+            any: 0,
+        },
+    );
+    if earned < SCANT {
+        return NEVER;
+    }
+    DOUBT
+}
+
 // Whether a resolution can have the set t, where there is a view that has it. That marks the sets that the view surpasses. Where `known` is true,
 // every set before t in the order has been walked with these marks: if a view had a proper subset of t, then t would be marked.
 pub fn tested(
@@ -125,6 +186,7 @@ pub fn admits(
     t: u64,
     known: bool,
     credit: u64,
+    doubt: u64,
     marks: &mut Marks,
     store: &mut [u64],
     cap: usize,
@@ -134,37 +196,41 @@ pub fn admits(
 {
     let place = t as usize;
     if marks[place] != 0 {
-        return refused(root, credit);
+        return refused(root, credit, doubt);
     }
     if t ^ (t & root.hi.taken) != 0 {
-        return refused(root, credit);
+        return refused(root, credit, doubt);
     }
     if root.lo.taken ^ (root.lo.taken & t) != 0 {
-        return refused(root, credit);
+        return refused(root, credit, doubt);
     }
     let rest = ranges::narrowed(words, n, ranks, index, root, t, t);
     let b = rest.bounds;
     if !sets::within(b.lo, b.hi) {
         let left = mark_around(words, n, ranks, index, root, t, credit, marks);
-        return refused(root, left);
+        return refused(root, left, doubt);
     }
-    let count = few::collect(words, n, ranks, index, rest, store, cap);
-    if count == 0 {
-        return refused(root, credit);
+    let s = few::collect(words, n, ranks, index, rest, store, cap, fuel_for(doubt));
+    if s.count == 0 {
+        let d = std::num::wrapping_add_u64(doubt, s.visited);
+        let left = mark_shaven(words, n, ranks, index, root, t, d, marks);
+        return refused(root, credit, left);
     }
     let ok = tested(words, n, ranks, index, root, t, known, marks);
     Admission {
         ok,
         credit,
+        doubt,
         rest,
-        count,
+        count: s.count,
     }
 }
 
-// How far a page is filled, and what may still be spent on marking.
+// How far a page is filled, what may still be spent on marking, and how many nodes searches have visited for sets without a view.
 pub struct Filled {
     pub at: usize,
     pub credit: u64,
+    pub doubt: u64,
 }
 
 // Puts the resolutions with the set t on the page; where `after` is true only those later than the task's point, which has that set. Where
@@ -197,13 +263,15 @@ pub fn list_set(
         t,
         known,
         filled.credit,
+        filled.doubt,
         marks,
         store,
         cap,
     );
     let credit = a.credit;
+    let doubt = a.doubt;
     if !a.ok {
-        return Filled { at, credit };
+        return Filled { at, credit, doubt };
     }
     let r = few::list(
         words,
@@ -219,7 +287,11 @@ pub fn list_set(
         out,
         at,
     );
-    Filled { at: r, credit }
+    Filled {
+        at: r,
+        credit,
+        doubt,
+    }
 }
 
 // Puts the resolutions with the sets from place `from` on on the page, until it is full. The table is the order of the sets. Where `known` is
@@ -301,6 +373,7 @@ pub fn first_page(
     let filled = Filled {
         at: 0,
         credit: CREDIT,
+        doubt: 0,
     };
     let table = order::table();
     walk(
@@ -337,6 +410,7 @@ pub fn page_after(
     let filled = Filled {
         at: 0,
         credit: CREDIT,
+        doubt: 0,
     };
     let table = order::table();
     let place = place_of(&table, t);

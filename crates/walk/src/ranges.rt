@@ -7,6 +7,7 @@ ghost use Rattle.bounds.specs.Sound.{Propagated, withSets};
 ghost use Rattle.queue.specs.Chains.{Chains};
 ghost use Rattle.walk.specs.Plans.{NoView, Wider};
 use masks::Bounds;
+use probe::shaving;
 use queue::Rest;
 use queue::index;
 use queue::index::Index;
@@ -187,4 +188,80 @@ pub fn widened(words: &[u64], n: usize, ranks: &[u64], index: &Index, root: Boun
         return s;
     }
     Range { lo: t, hi: t }
+}
+
+// Whether shaving shows that no view has a set of exceptions of the range.
+pub fn barren(words: &[u64], n: usize, ranks: &[u64], index: &Index, root: Bounds, s: Range) -> bool
+    requires { ⌜ (n * 8 ≤ length (now words)) × (length (now ranks) ≤ 64) × Chains (now words) n (now index) ⌝ }
+    ensures { λ r. ⌜ (r ≡ true → NoView (now (words .entry)) n (now (ranks .entry)) root (s .lo) (s .hi)) ⌝ }
+{
+    let rest = narrowed(words, n, ranks, index, root, s.lo, s.hi);
+    let shaved = shaving::shaved(words, n, ranks, index, rest);
+    let b = shaved.bounds;
+    !sets::within(b.lo, b.hi)
+}
+
+// The range s where the exception at place e may be taken or not, if shaving shows that this has no view either; else s itself.
+pub fn freed(
+    words: &[u64],
+    n: usize,
+    ranks: &[u64],
+    index: &Index,
+    root: Bounds,
+    s: Range,
+    e: u64,
+) -> Range
+    requires { ⌜ (n * 8 ≤ length (now words)) × (length (now ranks) ≤ 64) × Chains (now words) n (now index) × (e < 64) ⌝ }
+    ensures { λ r. ⌜ Wider (now (words .entry)) n (now (ranks .entry)) root s r ⌝ }
+{
+    let bit = 1 << e;
+    let wide = Range {
+        lo: s.lo ^ (s.lo & bit),
+        hi: s.hi | bit,
+    };
+    if barren(words, n, ranks, index, root, wide) {
+        return wide;
+    }
+    s
+}
+
+// The range s after each exception has been freed in it, as far as shaving shows that no view is lost.
+pub fn all_freed(
+    words: &[u64],
+    n: usize,
+    ranks: &[u64],
+    index: &Index,
+    root: Bounds,
+    s: Range,
+) -> Range
+    requires { ⌜ (n * 8 ≤ length (now words)) × (length (now ranks) ≤ 64) × Chains (now words) n (now index) ⌝ }
+    ensures { λ r. ⌜ Wider (now (words .entry)) n (now (ranks .entry)) root s r ⌝ }
+{
+    let mut r = s;
+    let mut e = 0;
+    while e < ranks.len() {
+        r = freed(words, n, ranks, index, root, r, e as u64);
+        e += 1;
+    }
+    r
+}
+
+// A range of sets without a view around one that has none, by shaving: all sets if there is no view at all; else, where shaving alone shows
+// that t has none, t with each exception freed as far as that goes.
+pub fn shaven(words: &[u64], n: usize, ranks: &[u64], index: &Index, root: Bounds, t: u64) -> Range
+    requires { ⌜ (n * 8 ≤ length (now words)) × (length (now ranks) ≤ 64) × Chains (now words) n (now index) ⌝ }
+    ensures { λ r. ⌜ Wider (now (words .entry)) n (now (ranks .entry)) root (record { lo = t; hi = t }) r ⌝ }
+{
+    let all = Range {
+        lo: 0,
+        hi: 0xffff_ffff_ffff_ffff,
+    };
+    if barren(words, n, ranks, index, root, all) {
+        return all;
+    }
+    let own = Range { lo: t, hi: t };
+    if !barren(words, n, ranks, index, root, own) {
+        return own;
+    }
+    all_freed(words, n, ranks, index, root, own)
 }

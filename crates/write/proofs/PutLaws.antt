@@ -1,76 +1,36 @@
 -- Lines stored into a lent buffer: a line, the lines of one kind, the rows kind after kind, the whole text.
--- Each loop: what is left to put, from here, gives the final buffer.
+-- Each loop puts pieces (crate logic, proofs/Stores): a line each, and the lines of a kind each.
 use mathlib.Core.Path.{_≡_, refl, sym, ap, _∙_}
 use mathlib.Core.Bool.{Bool, true, false}
 use mathlib.Core.List.{List, [], _∷_, _++_, append-assoc}
 use Prim.Native.Nat.{ℕ, zero, suc, _+_, _-_, _*_, _<_, _≤_}
-use native.Mathlib.Nat.{suc-mul, zero-mul, zero-add}
+use native.Mathlib.Nat.{suc-mul, zero-mul, add-zero, mul-le-mul-right}
 use native.Mathlib.Numerals.{add-one}
 use native.Mathlib.Omega.{arith}
 use lib.Dec.{ltb}
 use lib.IntN.{ℤ, pos}
-use lib.ListN.{getD, drop, take, set, length, replicate, length-drop, length-append, length-take, drop-of-length-le, List·getD-eq-default}
-use lib.Seq.{sets, drop-cons, drop-drop, getD-take, getD-drop, length-take-le}
+use lib.ListN.{getD, drop, take, set, length, replicate, length-drop, length-append, length-take, List·getD-eq-default}
+use lib.Seq.{sets, drop-drop, getD-take, getD-drop, length-take-le}
 use mir.Syntax.{w32}
 use mir.Val.{toZ}
 use mir.Facts.{toZ-pos}
 use borrow.Author.Tests.{ltb-true, ltb-false}
-use Rattle.logic.proofs.Stores.{sets-append}
+use Rattle.logic.specs.Tests.{pick}
+use Rattle.logic.proofs.Stores.{sets-append, pieces, Putting}
 use Rattle.book.specs.declared.Kind.{Kind}
 use Rattle.book.specs.declared.Shape.{Shape}
-use Rattle.book.specs.Kinds.{kinds, kind, none, first, last, bytes}
+use Rattle.book.specs.Kinds.{kinds, kind, none, first, last, front, bytes, rowOnce, most}
+use Rattle.book.specs.Counts.{countsOf, allCounts, countOf, sumTo, startOf, rowNumbers, textBytes, total, InLimits}
+use Rattle.book.proofs.Counts.{sum-next, sum-all}
 use Rattle.text.specs.Fields.{writtenAll}
 use Rattle.text.specs.Lines.{lineOf, unlines}
-use Rattle.text.specs.Tables.{Row, countsOf, layout, widths, cut, rowsOf}
-use Rattle.text.specs.Writing.{firstRow, lastRow, total, bookRows, rowLines, textOf}
+use Rattle.text.specs.Tables.{Row, cut, rowsOf}
+use Rattle.text.specs.Writing.{firstRow, lastRow, bookRows, rowLines, textOf}
+use Rattle.text.proofs.KindFacts.{numbers-fields}
 use Rattle.text.proofs.Lines.{fields-length}
-use Rattle.text.proofs.KindFacts.{narrow}
-use Rattle.text.proofs.Facts.{widths-repeat}
 use Rattle.fields.specs.Short.{isShort, allShort}
-use Rattle.write.specs.Testing.{Bounded}
-use Rattle.write.specs.Lengths.{allCounts, sumBytes, textBytes}
-use Rattle.write.proofs.TableLaws.{toCome, three, count-at, come-more, come-none, less, spread-start, spread-next, spread-in}
-
--- ---- how long a line is
-pub kind-bytes : (x : Kind) (k : ℕ) → x ≡ kind k → k < none → (2 + 4 * x .fields ≡ bytes (kind k)) × (2 + 4 * x .fields < 1000)
-unfolding bytes
-kind-bytes x k e h = rw e (refl, omega (arith, narrow k h))
-
-pub kind-nine : (x : Kind) (k : ℕ) → x ≡ kind k → k < none → x .fields ≤ 9
-kind-nine x k e h = rw e (narrow k h)
-
--- ---- how long a text is
-five : (s : Shape) → length (allCounts s) ≡ none
-unfolding allCounts countsOf
-five s = refl
-
-pub text-small : (s : Shape) → Bounded s → textBytes s ≤ 1000000
-unfolding textBytes sumBytes allCounts countsOf bytes kind kinds
-text-small s b = omega (arith, b .plain, b .exceptions, b .preferences)
-
--- The bytes counted so far and those of the kinds to come.
-unfoldable pub Summing : Shape → ℕ → ℕ → Type 0
-Summing s k n = n + sumBytes k (drop k (allCounts s)) ≡ textBytes s
-
-pub summing-start : (s : Shape) → Summing s 0 0
-unfolding Summing textBytes
-summing-start s = zero-add _
-
-module _ (s : Shape) (k n : ℕ) (g : Summing s k n) where
-  sum-more : k < none → (c b : ℕ) → c ≡ getD (allCounts s) k 0 → b ≡ bytes (kind k) → n + c * b + sumBytes (suc k) (drop (suc k) (allCounts s)) ≡ textBytes s
-  unfolding Summing sumBytes
-  sum-more h c b ec e = rw (e, ec) (let q = rw (drop-cons (allCounts s) k 0 (rw (five s) h)) at g in omega (arith, q))
-
-  pub summing-small : k < none → Bounded s → (c b : ℕ) → c ≡ getD (allCounts s) k 0 → b ≡ bytes (kind k) → n + c * b ≤ 1000000
-  summing-small h u c b ec e = omega (arith, sum-more h c b ec e, text-small s u)
-
-  pub summing-next : k < none → (c b : ℕ) → c ≡ getD (allCounts s) k 0 → b ≡ bytes (kind k) → Summing s (k + 1) (n + c * b)
-  unfolding Summing
-  summing-next h c b ec e = rw (add-one k) (sum-more h c b ec e)
-
-  pub summing-end : none ≤ k → n ≡ textBytes s
-  unfolding Summing sumBytes
-  summing-end h = let q = rw (drop-of-length-le (allCounts s) {i = k} (rw (five s) h)) at g in omega (arith, q)
+use Rattle.write.specs.Parts.{linesAt, rowsText}
+use Rattle.write.proofs.TableLaws.{toCome, come-more, come-none, rows-in, start-on, start-first}
 
 -- ---- numbers that four columns hold
 short-zero : isShort (pos 0)
@@ -123,197 +83,148 @@ unfolding rowLines
 lines-append [] qs = refl
 lines-append (r ∷ rs) qs = rw (lines-append rs qs)
 
-first-line : (k : ℕ) (ks : List ℕ) (ws : List ℤ) → unlines (rowLines (cut (k ∷ ks) ws)) ≡ (lineOf k (take (kind k .fields) ws) ++ (10 ∷ [])) ++ unlines (rowLines (cut ks (drop (kind k .fields) ws)))
+first-line : (k : ℕ) (ks : List ℕ) (ws : List ℤ) → unlines (rowLines (cut (k ∷ ks) ws)) ≡ (lineOf k (take (kind k .numbers) ws) ++ (10 ∷ [])) ++ unlines (rowLines (cut ks (drop (kind k .numbers) ws)))
 unfolding cut rowLines unlines
-first-line k ks ws = sym (append-assoc (lineOf k (take (kind k .fields) ws)) (10 ∷ []) (unlines (rowLines (cut ks (drop (kind k .fields) ws)))))
+first-line k ks ws = sym (append-assoc (lineOf k (take (kind k .numbers) ws)) (10 ∷ []) (unlines (rowLines (cut ks (drop (kind k .numbers) ws)))))
 
 line-long : (k : ℕ) (vs : List ℤ) → length vs ≡ kind k .fields → length (lineOf k vs ++ (10 ∷ [])) ≡ bytes (kind k)
 unfolding lineOf bytes
 line-long k vs e = simp length-append (omega (arith, fields-length vs, e))
 
--- A line put, and what is left after it.
-put-first : (l m : List ℕ) (at k : ℕ) (ks : List ℕ) (t : List ℤ) (f b w : ℕ) → b ≡ bytes (kind k) → w ≡ kind k .fields → f + kind k .fields ≤ length t → m ≡ sets l at (lineOf k (take (kind k .fields) (drop f t)) ++ (10 ∷ []))
-    → sets m (at + b) (unlines (rowLines (cut ks (drop (f + w) t)))) ≡ sets l at (unlines (rowLines (cut (k ∷ ks) (drop f t))))
-put-first l m at k ks t f b w eb ew h em =
-    let n : b ≡ length (lineOf k (take (kind k .fields) (drop f t)) ++ (10 ∷ [])) = eb ∙ sym (line-long k (take (kind k .fields) (drop f t)) (part-long t f (kind k .fields) h)) in
-    rw (first-line k ks (drop f t), sets-append (lineOf k (take (kind k .fields) (drop f t)) ++ (10 ∷ [])) (unlines (rowLines (cut ks (drop (kind k .fields) (drop f t))))) l at, ← em, ← n, drop-drop (kind k .fields) f t, ← ew)
+-- ---- the lines of one kind, each a piece
+-- Line i of the rows of the kind at place k, their numbers from a place of the table on.
+abbrev pub lineAt : ℕ → List ℤ → ℕ → ℕ → List ℕ
+lineAt k t from i = lineOf k (take (kind k .numbers) (drop (from + i * kind k .numbers) t)) ++ (10 ∷ [])
 
--- ---- the lines of one kind
-module _ (k : ℕ) (t : List ℤ) (l₀ : List ℕ) (at from c : ℕ) where
-  -- What is left, from line i on, at a place of the buffer and one of the table.
-  unfoldable pub ToPut : List ℕ → ℕ → ℕ → ℕ → Type 0
-  ToPut l a f i = sets l a (unlines (rowLines (cut (replicate (c - i) k) (drop f t)))) ≡ sets l₀ at (unlines (rowLines (cut (replicate c k) (drop from t))))
-
-  pub put-start : ToPut l₀ at from 0
-  unfolding ToPut
-  put-start = let e : c - 0 ≡ c = omega arith in rw e
-
-  pub put-next : (l m : List ℕ) (a f i b w : ℕ) → i < c → b ≡ bytes (kind k) → w ≡ kind k .fields → f + kind k .fields ≤ length t → m ≡ sets l a (lineOf k (take (kind k .fields) (drop f t)) ++ (10 ∷ []))
-      → ToPut l a f i → ToPut m (a + b) (f + w) (i + 1)
-  unfolding ToPut
-  put-next l m a f i b w h eb ew g em inv = put-first l m a k (replicate (c - (i + 1)) k) t f b w eb ew g em ∙ (rw (less c i h) at inv)
-
-  pub put-end : (l : List ℕ) (a f i : ℕ) → c ≤ i → ToPut l a f i → l ≡ sets l₀ at (unlines (rowLines (cut (replicate c k) (drop from t))))
-  unfolding ToPut cut rowLines unlines
-  put-end l a f i h inv = let z : c - i ≡ 0 = omega arith in rw z at inv
-
-pub record Putting (k : ℕ) (t : List ℤ) (l₀ l : List ℕ) (at from c w b i a f : ℕ) : Type 0 where
-  pub few : i ≤ c
-  pub wide : w ≡ kind k .fields
-  pub long : b ≡ bytes (kind k)
-  pub same-size : length l ≡ length l₀
-  pub in-table : f + (c - i) * w ≡ from + c * w
-  pub in-buffer : a + (c - i) * b ≡ at + c * b
-  pub left : ToPut k t l₀ at from c l a f i
-
-pub putting-start : (k : ℕ) (t : List ℤ) (l₀ : List ℕ) (at from c w b : ℕ) → w ≡ kind k .fields → b ≡ bytes (kind k) → Putting k t l₀ l₀ at from c w b 0 at from
-putting-start k t l₀ at from c w b ew eb = record { few = omega arith; wide = ew; long = eb; same-size = refl; in-table = spread-start from c w; in-buffer = spread-start at c b; left = put-start k t l₀ at from c }
-
-module _ (k : ℕ) (t : List ℤ) (l₀ l : List ℕ) (at from c w b i a f : ℕ) (g : Putting k t l₀ l at from c w b i a f) (h : i < c) where
-  pub putting-table : from + c * kind k .fields ≤ length t → f + kind k .fields ≤ length t
-  putting-table u = rw (← g .wide) (spread-in f c i w (from + c * w) (length t) h (g .in-table) (rw (g .wide) u))
-
-  pub putting-buffer : at + c * bytes (kind k) ≤ length l₀ → a + bytes (kind k) ≤ length l
-  putting-buffer u = rw (← g .long, g .same-size) (spread-in a c i b (at + c * b) (length l₀) h (g .in-buffer) (rw (g .long) u))
-
-  pub putting-next : (m : List ℕ) → length m ≡ length l → from + c * kind k .fields ≤ length t → m ≡ sets l a (lineOf k (take (kind k .fields) (drop f t)) ++ (10 ∷ [])) → Putting k t l₀ m at from c w b (i + 1) (a + b) (f + w)
-  putting-next m n u em =
-      record {
-        few = omega arith;
-        wide = g .wide;
-        long = g .long;
-        same-size = n ∙ g .same-size;
-        in-table = spread-next f c i w (from + c * w) h (g .in-table);
-        in-buffer = spread-next a c i b (at + c * b) h (g .in-buffer);
-        left = put-next k t l₀ at from c l m a f i b w h (g .long) (g .wide) (putting-table u) em (g .left);
-      }
-
-pub putting-end : (k : ℕ) (t : List ℤ) (l₀ l : List ℕ) (at from c w b i a f : ℕ) → Putting k t l₀ l at from c w b i a f → c ≤ i → l ≡ sets l₀ at (unlines (rowLines (cut (replicate c k) (drop from t))))
-putting-end k t l₀ l at from c w b i a f g h = put-end k t l₀ at from c l a f i h (g .left)
-
--- ---- the rows, kind after kind
-cut-append : (c k : ℕ) (ks : List ℕ) (ws : List ℤ) → cut (replicate c k ++ ks) ws ≡ cut (replicate c k) ws ++ cut ks (drop (c * kind k .fields) ws)
-unfolding cut
-cut-append zero k ks ws = rw (zero-mul (kind k .fields))
-cut-append (suc c) k ks ws =
-    let e : kind k .fields + c * kind k .fields ≡ suc c * kind k .fields = omega (arith, suc-mul c (kind k .fields)) in
-    rw (cut-append c k ks (drop (kind k .fields) ws), drop-drop (c * kind k .fields) (kind k .fields) ws, e)
-
-no-bytes : (k : ℕ) (ws : List ℤ) → length (unlines (rowLines (cut (replicate 0 k) ws))) ≡ 0 * bytes (kind k)
+no-lines : (k : ℕ) (ws : List ℤ) → unlines (rowLines (cut (replicate 0 k) ws)) ≡ []
 unfolding cut rowLines unlines
-no-bytes k ws = sym (zero-mul (bytes (kind k)))
+no-lines k ws = refl
 
-block-bytes : (c k : ℕ) (ws : List ℤ) → c * kind k .fields ≤ length ws → length (unlines (rowLines (cut (replicate c k) ws))) ≡ c * bytes (kind k)
-block-bytes zero k ws h = no-bytes k ws
-block-bytes (suc c) k ws h =
-    let e = suc-mul c (kind k .fields) in
-    let a = line-long k (take (kind k .fields) ws) (length-take-le (kind k .fields) ws (omega arith)) in
-    let ih = block-bytes c k (drop (kind k .fields) ws) (rw (length-drop (kind k .fields) ws) (omega arith)) in
-    ap length (first-line k (replicate c k) ws) ∙ (length-append (lineOf k (take (kind k .fields) ws) ++ (10 ∷ [])) (unlines (rowLines (cut (replicate c k) (drop (kind k .fields) ws)))) ∙ omega (arith, a, ih, suc-mul c (bytes (kind k))))
+lines-from : (k : ℕ) (t : List ℤ) (from i c : ℕ) → unlines (rowLines (cut (replicate c k) (drop (from + i * kind k .numbers) t))) ≡ pieces (lineAt k t from) i c
+unfolding pieces
+lines-from k t from i zero = no-lines k (drop (from + i * kind k .numbers) t)
+lines-from k t from i (suc c) =
+    let e : from + i * kind k .numbers + kind k .numbers ≡ from + suc i * kind k .numbers = omega (arith, suc-mul i (kind k .numbers)) in
+    first-line k (replicate c k) (drop (from + i * kind k .numbers) t) ∙ ap (λ (l : List ℕ). lineAt k t from i ++ l) (rw (drop-drop (kind k .numbers) (from + i * kind k .numbers) t, e) (lines-from k t from (suc i) c))
 
--- Lines of one kind put, and what is left after them.
-put-block : (l m : List ℕ) (a k c : ℕ) (ks : List ℕ) (t : List ℤ) (f b w : ℕ) → b ≡ bytes (kind k) → w ≡ kind k .fields → f + c * kind k .fields ≤ length t → m ≡ sets l a (unlines (rowLines (cut (replicate c k) (drop f t))))
-    → sets m (a + c * b) (unlines (rowLines (cut ks (drop (f + c * w) t)))) ≡ sets l a (unlines (rowLines (cut (replicate c k ++ ks) (drop f t))))
-put-block l m a k c ks t f b w eb ew h em =
-    let n : c * b ≡ length (unlines (rowLines (cut (replicate c k) (drop f t)))) = ap (λ (x : ℕ). c * x) eb ∙ sym (block-bytes c k (drop f t) (rw (length-drop f t) (omega arith))) in
+pub lines-are : (k : ℕ) (t : List ℤ) (from c : ℕ) → linesAt k t from c ≡ pieces (lineAt k t from) 0 c
+unfolding linesAt
+lines-are k t from c = let e : from + 0 * kind k .numbers ≡ from = omega arith in rw e at (lines-from k t from 0 c)
+
+module _ (k : ℕ) (low : first < k) (high : k < last) (t : List ℤ) (from c : ℕ) (h : from + c * kind k .numbers ≤ length t) where
+  pub line-in-table : (i : ℕ) → i < c → from + i * kind k .numbers + kind k .fields ≤ length t
+  line-in-table i l = omega (arith, numbers-fields k low high, suc-mul i (kind k .numbers), mul-le-mul-right (kind k .numbers) l)
+
+  piece-long : (i : ℕ) → i < c → length (lineAt k t from i) ≡ bytes (kind k)
+  piece-long i l =
+      let e = numbers-fields k low high in
+      line-long k _ (part-long t (from + i * kind k .numbers) (kind k .numbers) (omega (arith, line-in-table i l, e)) ∙ e)
+
+  -- A line put is its piece.
+  pub line-piece : (i : ℕ) (l m : List ℕ) (a f : ℕ) → f ≡ from + i * kind k .numbers → m ≡ sets l a (lineOf k (take (kind k .fields) (drop f t)) ++ (10 ∷ [])) → m ≡ sets l a (lineAt k t from i)
+  line-piece i l m a f ef em = em ∙ rw (ef, numbers-fields k low high)
+
+  pieces-long : (n i : ℕ) → i + n ≤ c → length (pieces (lineAt k t from) i n) ≡ n * bytes (kind k)
+  unfolding pieces
+  pieces-long zero i l = sym (zero-mul (bytes (kind k)))
+  pieces-long (suc n) i l = length-append (lineAt k t from i) (pieces (lineAt k t from) (suc i) n) ∙ omega (arith, piece-long i (omega arith), pieces-long n (suc i) (omega arith), suc-mul n (bytes (kind k)))
+
+  pub all-long : length (pieces (lineAt k t from) 0 c) ≡ c * bytes (kind k)
+  all-long = pieces-long c 0 (omega arith)
+
+  pub kind-long : length (linesAt k t from c) ≡ c * bytes (kind k)
+  kind-long = ap length (lines-are k t from c) ∙ all-long
+
+  -- Where the next line goes, and where the numbers of the line after it begin.
+  pub next-line : (i a b : ℕ) → i < c → b ≡ bytes (kind k) → a + b ≡ a + length (lineAt k t from i)
+  next-line i a b l e = omega (arith, e, piece-long i l)
+
+  pub line-room : (i a m : ℕ) → i < c → a + length (lineAt k t from i) ≤ m → a + bytes (kind k) ≤ m
+  line-room i a m l h = omega (arith, piece-long i l)
+
+pub next-numbers : (k from i f w : ℕ) → f ≡ from + i * kind k .numbers → w ≡ kind k .numbers → f + w ≡ from + (i + 1) * kind k .numbers
+next-numbers k from i f w e ew = omega (arith, e, ew, suc-mul i (kind k .numbers), add-one i, ap (λ (j : ℕ). j * kind k .numbers) (add-one i))
+
+-- ---- the rows, the lines of each kind a piece
+cut-append : (c k : ℕ) (ks : List ℕ) (ws : List ℤ) → cut (replicate c k ++ ks) ws ≡ cut (replicate c k) ws ++ cut ks (drop (c * kind k .numbers) ws)
+unfolding cut
+cut-append zero k ks ws = rw (zero-mul (kind k .numbers))
+cut-append (suc c) k ks ws =
+    let e : kind k .numbers + c * kind k .numbers ≡ suc c * kind k .numbers = omega (arith, suc-mul c (kind k .numbers)) in
+    rw (cut-append c k ks (drop (kind k .numbers) ws), drop-drop (c * kind k .numbers) (kind k .numbers) ws, e)
+
+block-append : (c k : ℕ) (ks : List ℕ) (t : List ℤ) (from : ℕ) → unlines (rowLines (cut (replicate c k ++ ks) (drop from t))) ≡ linesAt k t from c ++ unlines (rowLines (cut ks (drop (from + c * kind k .numbers) t)))
+unfolding linesAt
+block-append c k ks t from =
     rw (
-      cut-append c k ks (drop f t),
-      lines-append (cut (replicate c k) (drop f t)) (cut ks (drop (c * kind k .fields) (drop f t))),
-      unlines-append (rowLines (cut (replicate c k) (drop f t))) (rowLines (cut ks (drop (c * kind k .fields) (drop f t)))),
-      sets-append (unlines (rowLines (cut (replicate c k) (drop f t)))) (unlines (rowLines (cut ks (drop (c * kind k .fields) (drop f t))))) l a,
-      ← em,
-      ← n,
-      drop-drop (c * kind k .fields) f t,
-      ← ew,
+      cut-append c k ks (drop from t),
+      drop-drop (c * kind k .numbers) from t,
+      lines-append (cut (replicate c k) (drop from t)) (cut ks (drop (from + c * kind k .numbers) t)),
+      unlines-append (rowLines (cut (replicate c k) (drop from t))) (rowLines (cut ks (drop (from + c * kind k .numbers) t))),
     )
 
-pub record Filling (t : List ℤ) (s : Shape) (l₀ l : List ℕ) (at k a f : ℕ) : Type 0 where
-  pub low : first < k
-  pub high : k ≤ last
-  pub same-size : length l ≡ length l₀
-  pub in-table : f + widths (toCome s k) ≡ length t
-  pub in-buffer : a + sumBytes k (drop (k - 1) (countsOf s)) ≡ at + sumBytes 1 (countsOf s)
-  pub left : sets l a (unlines (rowLines (cut (toCome s k) (drop f t)))) ≡ sets l₀ at (unlines (rowLines (rowsOf s (drop 4 t))))
+-- The lines of the kind of row at place j + 1.
+abbrev pub blockAt : Shape → List ℤ → ℕ → List ℕ
+blockAt s t j = linesAt (j + 1) t (front + startOf s (j + 1)) (countOf s (j + 1))
 
-pub filling-start : (t : List ℤ) (s : Shape) (l₀ : List ℕ) (at : ℕ) → length t ≡ 4 + widths (layout 1 (countsOf s)) → Filling t s l₀ l₀ at 1 at 4
-unfolding rowsOf
-filling-start t s l₀ at e = record { low = omega arith; high = omega arith; same-size = refl; in-table = sym e; in-buffer = refl; left = refl }
-
-sum-cons : (k c : ℕ) (cs : List ℕ) → sumBytes k (c ∷ cs) ≡ c * bytes (kind k) + sumBytes (suc k) cs
-unfolding sumBytes
-sum-cons k c cs = refl
-
-sum-come : (s : Shape) (k c : ℕ) → c ≡ getD (allCounts s) k 0 → first < k → k < last → sumBytes k (drop (k - 1) (countsOf s)) ≡ c * bytes (kind k) + sumBytes (k + 1) (drop (k + 1 - 1) (countsOf s))
-sum-come s k c e h g =
-    let a : k + 1 - 1 ≡ suc (k - 1) = omega arith in
-    rw (drop-cons (countsOf s) (k - 1) 0 (rw (three s) (omega arith)), sum-cons k, count-at s k h g, e, a, add-one k)
-
-module _ (t : List ℤ) (s : Shape) (l₀ l : List ℕ) (at k a f : ℕ) (g : Filling t s l₀ l at k a f) (h : k < last) (c : ℕ) (ec : c ≡ getD (allCounts s) k 0) where
-  come : toCome s k ≡ replicate c k ++ toCome s (k + 1)
-  come = come-more s k c ec (g .low) h
-
-  table-on : f + c * kind k .fields + widths (toCome s (k + 1)) ≡ length t
-  table-on = sym (let q = ap widths come ∙ widths-repeat c k (toCome s (k + 1)) in omega (arith, q, g .in-table))
-
-  buffer-on : a + c * bytes (kind k) + sumBytes (k + 1) (drop (k + 1 - 1) (countsOf s)) ≡ at + sumBytes 1 (countsOf s)
-  buffer-on = sym (let q = sum-come s k c ec (g .low) h in omega (arith, q, g .in-buffer))
-
-  pub filling-table : f + c * kind k .fields ≤ length t
-  filling-table = omega (arith, table-on)
-
-  pub filling-buffer : at + sumBytes 1 (countsOf s) ≤ length l₀ → a + c * bytes (kind k) ≤ length l
-  filling-buffer u = omega (arith, buffer-on, g .same-size)
-
-  module _ (x : Kind) (ex : x ≡ kind k) (b : ℕ) (eb : b ≡ bytes (kind k)) where
-    pub filling-in : f + c * x .fields ≤ length t
-    filling-in = rw ex filling-table
-
-    pub filling-to : at + sumBytes 1 (countsOf s) ≤ length l₀ → a + c * b ≤ length l
-    filling-to u = rw eb (filling-buffer u)
-
-    pub filling-next : (m : List ℕ) → length m ≡ length l → m ≡ sets l a (unlines (rowLines (cut (replicate c k) (drop f t)))) → Filling t s l₀ m at (k + 1) (a + c * b) (f + c * x .fields)
-    filling-next m n em =
-        record {
-          low = omega (arith, g .low);
-          high = omega arith;
-          same-size = n ∙ g .same-size;
-          in-table = rw ex table-on;
-          in-buffer = rw eb buffer-on;
-          left = put-block l m a k c (toCome s (k + 1)) t f b (x .fields) eb (ap (λ (y : Kind). y .fields) ex) filling-table em ∙ (ap (λ (ks : List ℕ). sets l a (unlines (rowLines (cut ks (drop f t))))) (sym come) ∙ g .left);
-        }
-
-nothing-left : (l : List ℕ) (a : ℕ) (ws : List ℤ) → sets l a (unlines (rowLines (cut [] ws))) ≡ l
-unfolding cut rowLines unlines
-nothing-left l a ws = refl
-
-pub filling-end : (t : List ℤ) (s : Shape) (l₀ l : List ℕ) (at k a f : ℕ) → Filling t s l₀ l at k a f → last ≤ k → l ≡ sets l₀ at (unlines (rowLines (rowsOf s (drop 4 t))))
-filling-end t s l₀ l at k a f g h = sym (nothing-left l a (drop f t)) ∙ (ap (λ (ks : List ℕ). sets l a (unlines (rowLines (cut ks (drop f t))))) (sym (come-none s k h)) ∙ g .left)
-
--- ---- the whole text
-nothing : (ws : List ℤ) → length (unlines (rowLines (cut [] ws))) ≡ 0
+nothing : (ws : List ℤ) → unlines (rowLines (cut [] ws)) ≡ []
 unfolding cut rowLines unlines
 nothing ws = refl
 
-layout-bytes : (cs : List ℕ) (k : ℕ) (ws : List ℤ) → widths (layout k cs) ≤ length ws → length (unlines (rowLines (cut (layout k cs) ws))) ≡ sumBytes k cs
-unfolding layout sumBytes
-layout-bytes [] k ws h = nothing ws
-layout-bytes (c ∷ cs) k ws h =
-    let q = widths-repeat c k (layout (suc k) cs) in
-    let a = block-bytes c k ws (omega (arith, q)) in
-    let ih = layout-bytes cs (suc k) (drop (c * kind k .fields) ws) (rw (length-drop (c * kind k .fields) ws) (omega (arith, q))) in
-    rw (
-      cut-append c k (layout (suc k) cs) ws,
-      lines-append (cut (replicate c k) ws) (cut (layout (suc k) cs) (drop (c * kind k .fields) ws)),
-      unlines-append (rowLines (cut (replicate c k) ws)) (rowLines (cut (layout (suc k) cs) (drop (c * kind k .fields) ws))),
-      length-append,
-      a,
-      ih,
-    )
+come-blocks : (s : Shape) (t : List ℤ) (n j : ℕ) → j + 1 + n ≡ last → unlines (rowLines (cut (toCome s (j + 1)) (drop (front + startOf s (j + 1)) t))) ≡ pieces (blockAt s t) j n
+unfolding pieces
+come-blocks s t zero j e = ap (λ (ks : List ℕ). unlines (rowLines (cut ks (drop (front + startOf s (j + 1)) t)))) (come-none s (j + 1) (omega arith)) ∙ nothing _
+come-blocks s t (suc n) j e =
+    let p = start-on s (j + 1) (front + startOf s (j + 1)) (countOf s (j + 1)) (kind (j + 1) .numbers) refl refl refl in
+    let q : suc j + 1 ≡ j + 1 + 1 = omega arith in
+    ap (λ (ks : List ℕ). unlines (rowLines (cut ks (drop (front + startOf s (j + 1)) t)))) (come-more s (j + 1) (countOf s (j + 1)) refl (omega arith) (omega arith))
+    ∙ (block-append (countOf s (j + 1)) (j + 1) (toCome s (j + 1 + 1)) t (front + startOf s (j + 1))
+    ∙ ap (λ (l : List ℕ). blockAt s t j ++ l) (rw (p, ← q) (come-blocks s t n (suc j) (omega arith))))
 
-pub text-parts : (s : Shape) → textBytes s ≡ bytes (kind first) + sumBytes 1 (countsOf s) + bytes (kind last)
-unfolding textBytes allCounts countsOf sumBytes
-text-parts s = omega arith
+pub rows-are : (s : Shape) (t : List ℤ) → rowsText s t ≡ pieces (blockAt s t) 0 (last - 1)
+unfolding rowsText rowsOf
+rows-are s t = let e = start-first s in rw (← e) at (come-blocks s t (last - 1) 0 (omega arith))
 
+module _ (s : Shape) (t : List ℤ) (l : length t ≡ front + rowNumbers s) where
+  pub block-long : (k : ℕ) → first < k → k < last → length (linesAt k t (front + startOf s k) (countOf s k)) ≡ countOf s k * bytes (kind k)
+  block-long k h g = kind-long k h g t (front + startOf s k) (countOf s k) (rows-in t s k (front + startOf s k) (countOf s k) l (omega arith) refl refl)
+
+  blocks-long : (n j : ℕ) → j + 1 + n ≡ last → sumTo bytes s (j + 1) + length (pieces (blockAt s t) j n) ≡ sumTo bytes s last
+  unfolding pieces
+  blocks-long zero j e = let q : j + 1 ≡ last = omega arith in rw q (add-zero (sumTo bytes s last))
+  blocks-long (suc n) j e =
+      let q : suc j + 1 ≡ j + 1 + 1 = omega arith in
+      let b = block-long (j + 1) (omega arith) (omega arith) in
+      let m = sum-next bytes s (j + 1) (sumTo bytes s (j + 1)) (countOf s (j + 1)) (bytes (kind (j + 1))) refl refl refl in
+      let ih = rw q at (blocks-long n (suc j) (omega arith)) in
+      omega (arith, length-append (blockAt s t j) (pieces (blockAt s t) (suc j) n), b, m, ih)
+
+  -- The bytes of B, of the rows and of Z are all.
+  pub rows-long : bytes (kind first) + length (rowsText s t) + bytes (kind last) ≡ textBytes s
+  unfolding sumTo countOf allCounts countsOf
+  rows-long = omega (arith, ap length (rows-are s t), blocks-long (last - 1) 0 (omega arith))
+
+  module _ (k : ℕ) (low : first < k) (high : k < last) (a f c : ℕ) (ec : c ≡ countOf s k) (ef : f ≡ front + startOf s k) where
+    block-is : blockAt s t (k - 1) ≡ linesAt k t f c
+    block-is = let e : k - 1 + 1 ≡ k = omega arith in rw (e, ec, ef)
+
+    pub block-room : (m : ℕ) → a + length (blockAt s t (k - 1)) ≤ m → a + c * bytes (kind k) ≤ m
+    block-room m h = omega (arith, ap length block-is, rw (← ec, ← ef) at (block-long k low high))
+
+    pub block-piece : (x m : List ℕ) → m ≡ sets x a (linesAt k t f c) → m ≡ sets x a (blockAt s t (k - 1))
+    block-piece x m e = e ∙ ap (sets x a) (sym block-is)
+
+    pub block-next : (b : ℕ) → b ≡ bytes (kind k) → a + c * b ≡ a + length (blockAt s t (k - 1))
+    block-next b e = let z = rw (← ec, ← ef) at (block-long k low high) in rw (e) (omega (arith, ap length block-is, z))
+
+-- The kind after the one at place k.
+pub next-place : (f : ℕ → List ℕ) (n : ℕ) (l₀ : List ℕ) (at : ℕ) (m : List ℕ) (b k : ℕ) → first < k → Putting f n l₀ at m b (k - 1 + 1) → Putting f n l₀ at m b (k + 1 - 1)
+next-place f n l₀ at m b k h g = let e : k - 1 + 1 ≡ k + 1 - 1 = omega arith in rw e at g
+
+pub kind-rows : (x : Kind) (k : ℕ) → x ≡ kind k → (t : List ℤ) (s : Shape) (f c : ℕ) → length t ≡ front + rowNumbers s → k < none → f ≡ front + startOf s k → c ≡ countOf s k → f + c * x .numbers ≤ length t
+kind-rows x k e t s f c l h ef ec = rw e (rows-in t s k f c l h ef ec)
+
+-- ---- the whole text
 -- The text of a book in its three parts.
 text-lines : (s : Shape) (ws : List ℤ)
     → textOf s ws ≡ (lineOf first (pos 1 ∷ pos (s .statements) ∷ []) ++ (10 ∷ [])) ++ (unlines (rowLines (rowsOf s ws)) ++ (lineOf last (pos (total s) ∷ []) ++ (10 ∷ [])))
@@ -346,40 +257,43 @@ last-part : (a : ℤ) → take (kind last .fields) (drop 0 (a ∷ [])) ≡ a ∷
 unfolding kind kinds
 last-part a = refl
 
-pub first-short : (s : Shape) → Bounded s → allShort (pos 1 ∷ toZ w32 (s .statements) ∷ [])
+pub first-short : (s : Shape) → InLimits s → allShort (pos 1 ∷ toZ w32 (s .statements) ∷ [])
 unfolding allShort isShort
-first-short s b zero = omega arith
-first-short s b (suc zero) = rw (toZ-pos w32 {n = s .statements} (omega (arith, b .statements))) (omega (arith, b .statements))
-first-short s b (suc (suc i)) = omega arith
+first-short s l zero = omega arith
+first-short s l (suc zero) = rw (toZ-pos w32 {n = s .statements} (omega (arith, l .statements))) (omega (arith, l .statements))
+first-short s l (suc (suc i)) = omega arith
 
-pub last-short : (s : Shape) → Bounded s → allShort (toZ w32 (s .plain + s .exceptions + s .preferences) ∷ [])
+rows-few : (s : Shape) → InLimits s → total s < 10000
+unfolding most kinds rowOnce pick
+rows-few s l = omega (arith, sum-all rowOnce s l)
+
+pub last-fits : (s : Shape) (n : ℕ) → InLimits s → n ≡ total s → n < 2147483648
+last-fits s n l e = omega (arith, e, rows-few s l)
+
+pub last-short : (s : Shape) (n : ℕ) → InLimits s → n ≡ total s → allShort (toZ w32 n ∷ [])
 unfolding allShort isShort
-last-short s b zero = rw (toZ-pos w32 {n = s .plain + s .exceptions + s .preferences} (omega (arith, b .plain, b .exceptions, b .preferences))) (omega (arith, b .plain, b .exceptions, b .preferences))
-last-short s b (suc i) = omega arith
+last-short s n l e zero = rw (toZ-pos w32 {n = n} (omega (arith, e, rows-few s l))) (omega (arith, e, rows-few s l))
+last-short s n l e (suc i) = omega arith
 
-module _ (l m₁ m₂ m₃ : List ℕ) (s : Shape) (t : List ℤ) (b z n : ℕ) (u : Bounded s) (h : length t ≡ 4 + widths (layout 1 (countsOf s))) (eb : b ≡ bytes (kind first)) (ez : z ≡ bytes (kind last)) (en : n ≡ textBytes s)
-    (e₁ : m₁ ≡ sets l 0 (lineOf first (take (kind first .fields) (drop 0 (pos 1 ∷ toZ w32 (s .statements) ∷ []))) ++ (10 ∷ []))) (e₂ : m₂ ≡ sets m₁ b (unlines (rowLines (rowsOf s (drop 4 t)))))
-    (e₃ : m₃ ≡ sets m₂ (n - z) (lineOf last (take (kind last .fields) (drop 0 (toZ w32 (s .plain + s .exceptions + s .preferences) ∷ []))) ++ (10 ∷ []))) where
+module _ (l m₁ m₂ m₃ : List ℕ) (s : Shape) (t : List ℤ) (b z n r : ℕ) (u : InLimits s) (h : length t ≡ front + rowNumbers s) (eb : b ≡ bytes (kind first)) (ez : z ≡ bytes (kind last)) (en : n ≡ textBytes s) (er : r ≡ total s)
+    (e₁ : m₁ ≡ sets l 0 (lineOf first (take (kind first .fields) (drop 0 (pos 1 ∷ toZ w32 (s .statements) ∷ []))) ++ (10 ∷ []))) (e₂ : m₂ ≡ sets m₁ b (rowsText s t))
+    (e₃ : m₃ ≡ sets m₂ (n - z) (lineOf last (take (kind last .fields) (drop 0 (toZ w32 r ∷ []))) ++ (10 ∷ []))) where
   first-is : m₁ ≡ sets l 0 (lineOf first (pos 1 ∷ pos (s .statements) ∷ []) ++ (10 ∷ []))
   first-is = e₁ ∙ rw (first-part (pos 1) (toZ w32 (s .statements)), toZ-pos w32 {n = s .statements} (omega (arith, u .statements)))
 
   last-is : m₃ ≡ sets m₂ (n - z) (lineOf last (pos (total s) ∷ []) ++ (10 ∷ []))
-  unfolding total
-  last-is = e₃ ∙ rw (last-part (toZ w32 (s .plain + s .exceptions + s .preferences)), toZ-pos w32 {n = s .plain + s .exceptions + s .preferences} (omega (arith, u .plain, u .exceptions, u .preferences)))
+  last-is = e₃ ∙ rw (last-part (toZ w32 r), er, toZ-pos w32 {n = total s} (omega (arith, rows-few s u)))
 
-  rows-long : length (unlines (rowLines (rowsOf s (drop 4 t)))) ≡ sumBytes 1 (countsOf s)
-  unfolding rowsOf
-  rows-long = layout-bytes (countsOf s) 1 (drop 4 t) (rw (length-drop 4 t) (omega arith))
-
-  pub text-put : m₃ ≡ sets l 0 (textOf s (drop 4 t))
+  pub text-put : m₃ ≡ sets l 0 (textOf s (drop front t))
+  unfolding rowsText
   text-put =
       let p : 0 + length (lineOf first (pos 1 ∷ pos (s .statements) ∷ []) ++ (10 ∷ [])) ≡ b = omega (arith, first-long (s .statements), eb) in
-      let q : b + length (unlines (rowLines (rowsOf s (drop 4 t)))) ≡ n - z = omega (arith, rows-long, eb, ez, en, text-parts s) in
+      let q : b + length (unlines (rowLines (rowsOf s (drop front t)))) ≡ n - z = omega (arith, rows-long s t h, eb, ez, en) in
       last-is
       ∙ sym (rw (
-        text-lines s (drop 4 t),
-        sets-append (lineOf first (pos 1 ∷ pos (s .statements) ∷ []) ++ (10 ∷ [])) (unlines (rowLines (rowsOf s (drop 4 t))) ++ (lineOf last (pos (total s) ∷ []) ++ (10 ∷ []))) l 0,
-        sets-append (unlines (rowLines (rowsOf s (drop 4 t)))) (lineOf last (pos (total s) ∷ []) ++ (10 ∷ [])) (sets l 0 (lineOf first (pos 1 ∷ pos (s .statements) ∷ []) ++ (10 ∷ []))) (0 + length (lineOf first (pos 1 ∷ pos (s .statements) ∷ []) ++ (10 ∷ []))),
+        text-lines s (drop front t),
+        sets-append (lineOf first (pos 1 ∷ pos (s .statements) ∷ []) ++ (10 ∷ [])) (unlines (rowLines (rowsOf s (drop front t))) ++ (lineOf last (pos (total s) ∷ []) ++ (10 ∷ []))) l 0,
+        sets-append (unlines (rowLines (rowsOf s (drop front t)))) (lineOf last (pos (total s) ∷ []) ++ (10 ∷ [])) (sets l 0 (lineOf first (pos 1 ∷ pos (s .statements) ∷ []) ++ (10 ∷ []))) (0 + length (lineOf first (pos 1 ∷ pos (s .statements) ∷ []) ++ (10 ∷ []))),
         p,
         q,
         ← first-is,
@@ -387,10 +301,10 @@ module _ (l m₁ m₂ m₃ : List ℕ) (s : Shape) (t : List ℤ) (b z n : ℕ) 
       ))
 
 -- How long the text of a table of this shape is.
-pub text-bytes : (s : Shape) (t : List ℤ) → length t ≡ 4 + widths (layout 1 (countsOf s)) → length (textOf s (drop 4 t)) ≡ textBytes s
-unfolding rowsOf
+pub text-bytes : (s : Shape) (t : List ℤ) → length t ≡ front + rowNumbers s → length (textOf s (drop front t)) ≡ textBytes s
+unfolding rowsText
 text-bytes s t h =
-    let a = layout-bytes (countsOf s) 1 (drop 4 t) (rw (length-drop 4 t) (omega arith)) in
-    ap length (text-lines s (drop 4 t))
-    ∙ (length-append (lineOf first (pos 1 ∷ pos (s .statements) ∷ []) ++ (10 ∷ [])) (unlines (rowLines (rowsOf s (drop 4 t))) ++ (lineOf last (pos (total s) ∷ []) ++ (10 ∷ [])))
-    ∙ (let b = length-append (unlines (rowLines (rowsOf s (drop 4 t)))) (lineOf last (pos (total s) ∷ []) ++ (10 ∷ [])) in omega (arith, a, b, first-long (s .statements), last-long (total s), text-parts s)))
+    let a = rows-long s t h in
+    ap length (text-lines s (drop front t))
+    ∙ (length-append (lineOf first (pos 1 ∷ pos (s .statements) ∷ []) ++ (10 ∷ [])) (unlines (rowLines (rowsOf s (drop front t))) ++ (lineOf last (pos (total s) ∷ []) ++ (10 ∷ [])))
+    ∙ (let b = length-append (unlines (rowLines (rowsOf s (drop front t)))) (lineOf last (pos (total s) ∷ []) ++ (10 ∷ [])) in omega (arith, a, b, first-long (s .statements), last-long (total s))))

@@ -3,24 +3,24 @@
 use mathlib.Core.Path.{_≡_, refl, sym, ap, _∙_}
 use mathlib.Core.Bool.{Bool, true, false, not}
 use mathlib.Core.List.{List, [], _∷_}
-use Prim.Native.Nat.{ℕ, suc, _+_, _<_, _≤_}
+use Prim.Native.Nat.{ℕ, zero, suc, _+_, _<_, _≤_}
 use native.Mathlib.Nat.{add-zero}
 use native.Mathlib.Numerals.{add-one}
 use native.Mathlib.Omega.{arith}
 use lib.IntN.{ℤ, pos}
 use lib.Signed.{mag, leZ}
 use lib.ListN.{getD, drop, take, length, drop-of-length-le, length-drop}
-use lib.Seq.{drop-cons, getD-take, getD-drop, length-take-le}
-use Rattle.logic.specs.Tests.{both, either, pick, some}
+use lib.Seq.{drop-cons, take-take, length-take-le}
+use Rattle.logic.specs.Tests.{either, pick, some}
 use Rattle.book.specs.declared.Kind.{Kind}
 use Rattle.book.specs.declared.Content.{Content}
 use Rattle.book.specs.declared.Content.the-variants.{Edition, Exception}
-use Rattle.book.specs.Kinds.{kind, fieldsOf, none, rangeOf}
-use Rattle.text.specs.Lines.{between, inside, andThen, testField, numbersIn, headless, missing, unless, judged}
+use Rattle.book.specs.Kinds.{kind, contents, numbersOf, first, last, rangeOf}
+use Rattle.text.specs.Lines.{inside, andThen, testField, numbersIn, headless, missing, unless, judged}
 use Rattle.text.specs.Lines.Numbers.{numbers, fault}
 use Rattle.text.specs.Lines.Line.{line}
 use Rattle.text.specs.Tables.{testFields, rowFault}
-use Rattle.text.proofs.KindFacts.{width-is, some-field}
+use Rattle.text.proofs.KindFacts.{numbers-wide, numbers-fields, numbers-same, heads-in, contents-in, unfilled-some}
 use Rattle.fields.specs.declared.Checked.{Checked}
 use Rattle.fields.specs.declared.Checked.the-variants.{Fine, Refused}
 use Rattle.fields.specs.declared.Seen.{Seen}
@@ -122,57 +122,67 @@ not-yet n b = refl
 
 -- The row of the kind at place k, from a place of the table on.
 abbrev rowAt : List ℤ → ℕ → ℕ → List ℤ
-rowAt t from k = take (kind k .fields) (drop from t)
+rowAt t from k = take (kind k .numbers) (drop from t)
 
-module _ (t : List ℤ) (from k n m : ℕ) (x : Kind) (ex : x ≡ kind k) (h : k < none) (g : from + kind k .fields ≤ length t) (f : Fields) (ef : f ≡ testSeen n m (fieldsOf x) (noneSeen n) (drop from t)) where
-  row-long : length (rowAt t from k) ≡ length (fieldsOf (kind k))
-  row-long = length-take-le (kind k .fields) (drop from t) (rw (length-drop from t) (omega arith)) ∙ sym (width-is k h)
+module _ (t : List ℤ) (from k n m : ℕ) (x : Kind) (ex : x ≡ kind k) (low : first < k) (high : k < last) (g : from + kind k .numbers ≤ length t) (f : Fields) (ef : f ≡ testSeen n m (numbersOf x) (noneSeen n) (drop from t)) where
+  wide : length (numbersOf (kind k)) ≡ kind k .numbers
+  wide = numbers-wide k low high
 
-  seen-is : f ≡ testSeen n m (fieldsOf (kind k)) (noneSeen n) (rowAt t from k)
-  seen-is = ef ∙ (ap (λ (y : Kind). testSeen n m (fieldsOf y) (noneSeen n) (drop from t)) ex ∙ (sym (seen-take n m (fieldsOf (kind k)) (noneSeen n) (drop from t)) ∙ ap (λ (w : ℕ). testSeen n m (fieldsOf (kind k)) (noneSeen n) (take w (drop from t))) (width-is k h)))
+  row-long : length (rowAt t from k) ≡ length (numbersOf (kind k))
+  row-long = length-take-le (kind k .numbers) (drop from t) (rw (length-drop from t) (omega arith)) ∙ sym wide
 
-  pub row-wrong : (q : ℕ) → f ≡ Wrong q → Refused q ≡ rowIs n m k (take (kind k .fields) (drop from t))
+  seen-is : f ≡ testSeen n m (numbersOf (kind k)) (noneSeen n) (rowAt t from k)
+  seen-is = ef ∙ (ap (λ (y : Kind). testSeen n m (numbersOf y) (noneSeen n) (drop from t)) ex ∙ (sym (seen-take n m (numbersOf (kind k)) (noneSeen n) (drop from t)) ∙ ap (λ (w : ℕ). testSeen n m (numbersOf (kind k)) (noneSeen n) (take w (drop from t))) wide))
+
+  pub row-wrong : (q : ℕ) → f ≡ Wrong q → Refused q ≡ rowIs n m k (take (kind k .numbers) (drop from t))
   unfolding rowIs judged lineIs
-  row-wrong q e = rw (seen-wrong n m (fieldsOf (kind k)) (noneSeen n) (rowAt t from k) q row-long (sym e ∙ seen-is))
+  row-wrong q e = rw (seen-wrong n m (numbersOf (kind k)) (noneSeen n) (rowAt t from k) q row-long (sym e ∙ seen-is))
 
-  module _ (s : Seen) (e : f ≡ Right s) (a : ℤ) (ea : a ≡ getD t from (pos 0)) (b : mag a < 2147483648) (r : Bool) (er : r ≡ both (x .headed) (between (pos 0) (pos 0) (back a))) where
-    passed : (testFields (fieldsOf (kind k)) n (rowAt t from k) ≡ numbers (rowAt t from k)) × (s ≡ seeAll (noneSeen n) (fieldsOf (kind k)) m 0 (rowAt t from k))
-    passed = seen-right n m (fieldsOf (kind k)) (noneSeen n) (rowAt t from k) s row-long (sym e ∙ seen-is)
-
-    head-is : a ≡ getD (rowAt t from k) 0 (pos 0)
-    head-is = ea ∙ sym (getD-take (kind k .fields) (drop from t) 0 (pos 0) (some-field k h) ∙ (getD-drop from t 0 (pos 0) ∙ ap (λ (j : ℕ). getD t j (pos 0)) (add-zero from)))
+  module _ (s : Seen) (e : f ≡ Right s) (r : Bool) (er : r ≡ headless x (drop from t)) where
+    passed : (testFields (numbersOf (kind k)) n (rowAt t from k) ≡ numbers (rowAt t from k)) × (s ≡ seeAll (noneSeen n) (numbersOf (kind k)) m 0 (rowAt t from k))
+    passed = seen-right n m (numbersOf (kind k)) (noneSeen n) (rowAt t from k) s row-long (sym e ∙ seen-is)
 
     headless-is : r ≡ headless (kind k) (rowAt t from k)
     unfolding headless
-    headless-is = er ∙ rw (back-same a b, ex, head-is)
+    headless-is =
+        let h : kind k .heads ≤ kind k .numbers = omega (arith, heads-in k (omega arith), numbers-fields k low high) in
+        er ∙ rw (ex, take-take (kind k .heads) (kind k .numbers) (drop from t) h)
 
     missing-is : s .missing ≡ missing m (kind k) (rowAt t from k)
     unfolding missing
-    missing-is = ap (λ (y : Seen). y .missing) (passed .1) ∙ none-missing (seen-missing m 0 (fieldsOf (kind k)) (rowAt t from k) (noneSeen n))
+    missing-is = rw (← numbers-same k low high) (ap (λ (y : Seen). y .missing) (passed .1) ∙ none-missing (seen-missing m 0 (numbersOf (kind k)) (rowAt t from k) (noneSeen n)))
       where
-        none-missing : seeAll (noneSeen n) (fieldsOf (kind k)) m 0 (rowAt t from k) .missing ≡ either (noneSeen n .missing) (some (λ v. not (leZ v (pos m))) (numbersIn Exception (fieldsOf (kind k)) (rowAt t from k)))
-            → seeAll (noneSeen n) (fieldsOf (kind k)) m 0 (rowAt t from k) .missing ≡ some (λ v. not (leZ v (pos m))) (numbersIn Exception (fieldsOf (kind k)) (rowAt t from k))
+        none-missing : seeAll (noneSeen n) (numbersOf (kind k)) m 0 (rowAt t from k) .missing ≡ either (noneSeen n .missing) (some (λ v. not (leZ v (pos m))) (numbersIn Exception (numbersOf (kind k)) (rowAt t from k)))
+            → seeAll (noneSeen n) (numbersOf (kind k)) m 0 (rowAt t from k) .missing ≡ some (λ v. not (leZ v (pos m))) (numbersIn Exception (numbersOf (kind k)) (rowAt t from k))
         none-missing z = z ∙ not-yet n _
 
-    fault-is : rowIs n m k (rowAt t from k) ≡ lineIs (unless (pick r 9 (pick (s .missing) 10 0)) (line k (rowAt t from k)))
+    fault-is : rowIs n m k (rowAt t from k) ≡ lineIs (unless (pick r (kind k .unfilled) (pick (s .missing) 10 0)) (line k (rowAt t from k)))
     unfolding rowIs judged rowFault
     fault-is = rw (passed .0, headless-is, missing-is)
 
-    pub row-headless : r ≡ true → Refused 9 ≡ rowIs n m k (take (kind k .fields) (drop from t))
-    unfolding pick unless lineIs
-    row-headless g = sym (fault-is ∙ rw g)
+    some-refusal : (q : ℕ) → 0 < q → Refused q ≡ lineIs (unless q (line k (rowAt t from k)))
+    unfolding unless lineIs
+    some-refusal zero h = absurd (omega arith)
+    some-refusal (suc q) h = refl
 
-    pub row-missing : r ≡ false → s .missing ≡ true → Refused 10 ≡ rowIs n m k (take (kind k .fields) (drop from t))
+    pub row-headless : r ≡ true → Refused (x .unfilled) ≡ rowIs n m k (take (kind k .numbers) (drop from t))
+    unfolding pick
+    row-headless g = rw ex (some-refusal (kind k .unfilled) (unfilled-some k (omega arith)) ∙ sym (fault-is ∙ rw g))
+
+    pub row-missing : r ≡ false → s .missing ≡ true → Refused 10 ≡ rowIs n m k (take (kind k .numbers) (drop from t))
     unfolding pick unless lineIs
     row-missing g i = sym (fault-is ∙ rw (g, i))
 
-    pub row-fine : r ≡ false → s .missing ≡ false → Fine ≡ rowIs n m k (take (kind k .fields) (drop from t))
+    pub row-fine : r ≡ false → s .missing ≡ false → Fine ≡ rowIs n m k (take (kind k .numbers) (drop from t))
     unfolding pick unless lineIs
     row-fine g i = sym (fault-is ∙ rw (g, i))
 
 -- ---- a kind that was looked up
-pub kind-long : (x : Kind) (k : ℕ) → x ≡ kind k → (from l : ℕ) → from + kind k .fields ≤ l → from + x .fields ≤ l
+pub kind-long : (x : Kind) (k : ℕ) → x ≡ kind k → (from l : ℕ) → from + kind k .numbers ≤ l → from + x .numbers ≤ l
 kind-long x k e from l h = rw e h
 
-pub kind-some : (k from l : ℕ) → k < none → from + kind k .fields ≤ l → from < l
-kind-some k from l h g = omega (arith, some-field k h)
+pub kind-contents : (x : Kind) (k : ℕ) → x ≡ kind k → first < k → k < last → x .from + x .numbers ≤ length contents
+kind-contents x k e h g = rw e (omega (arith, contents-in k (omega arith), numbers-fields k h g))
+
+pub kind-heads : (x : Kind) (k : ℕ) → x ≡ kind k → first < k → k < last → x .heads ≤ kind k .numbers
+kind-heads x k e h g = rw e (omega (arith, heads-in k (omega arith), numbers-fields k h g))

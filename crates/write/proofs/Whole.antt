@@ -2,31 +2,36 @@
 -- An accepted table is that of its shape and rows; its numbers have four columns, and its text is as long as its shape says.
 use mathlib.Core.Path.{_≡_, refl, sym, ap, _∙_}
 use mathlib.Core.Bool.{Bool, true, false}
-use mathlib.Core.List.{List}
+use mathlib.Core.List.{List, [], _∷_, _++_, map}
 use Prim.Native.Nat.{ℕ, zero, suc, _+_, _-_, _<_, _≤_}
 use native.Mathlib.Nat.{zero-add}
 use native.Mathlib.Omega.{arith}
 use lib.Dec.{ltb}
-use lib.IntN.{ℤ, pos, negsuc, natAbs}
-use lib.ListN.{getD, drop, length, List·getD-eq-default}
-use lib.Seq.{sets, sets-eq}
+use lib.IntN.{ℤ, pos, negsuc}
+use lib.ListN.{getD, take, drop, length, length-drop}
+use lib.Seq.{sets, sets-eq, getD-take, getD-drop}
 use borrow.Author.Tests.{ltb-true, ltb-false, lt-ltb, le-ltb}
+use Rattle.logic.specs.Lists.{Every}
 use Rattle.logic.specs.Tests.{pick}
 use Rattle.book.specs.declared.Shape.{Shape}
+use Rattle.book.specs.Kinds.{kind, front}
+use Rattle.book.specs.Counts.{countsOf, frontOf, rowNumbers, textBytes, InLimits}
+use Rattle.book.proofs.Counts.{front-small}
+use Rattle.read.proofs.Whole.{table-long as book-long}
 use Rattle.text.specs.declared.Refusal.{Refusal}
 use Rattle.text.specs.declared.Reading.{Reading}
 use Rattle.text.specs.declared.Reading.the-variants.{Accepted, Refused}
 use Rattle.text.specs.declared.Writing.the-variants.{Written, Refused as NotWritten}
 use Rattle.text.specs.Reading.{Outcome, tableOf, over, readAnswer}
 use Rattle.text.specs.Reading.Outcome.{accepted, refused}
-use Rattle.text.specs.Tables.{countsOf, layout, widths, testTable}
+use Rattle.text.specs.Tables.{layout, cut, rowsOf, testRows, testTable}
 use Rattle.text.specs.Writing.{textOf, lentBytes, writeWith, writeAnswer, writeInto}
-use Rattle.text.specs.Accepted.{ruleNumbers, rowNumbers, Accepted as Facts}
-use Rattle.text.proofs.Inverse.{table-passed}
-use Rattle.text.proofs.Facts.{layout-widths, table-facts}
+use Rattle.text.proofs.Fields.{Short}
+use Rattle.text.proofs.Texts.{Writable}
+use Rattle.text.proofs.Layouts.{sumBy, widths, layout-widths, rows-rising}
+use Rattle.text.proofs.Written.{rows-writable}
+use Rattle.text.proofs.Inverse.{Table, table-passed}
 use Rattle.fields.specs.Short.{isShort, allShort}
-use Rattle.write.specs.Testing.{Bounded}
-use Rattle.write.specs.Lengths.{textBytes}
 use Rattle.write.specs.Promise.{Met}
 use Rattle.write.proofs.PutLaws.{text-bytes}
 
@@ -41,37 +46,46 @@ unfolding readAnswer
 answer-refused (accepted r ws) x e = absurd (let z : _≡_ {A = ℕ} 0 1 = cc in omega arith)
 answer-refused (refused q l) x e = let w : x ≡ record { number = q; line = l } = cc in rw w
 
-small-short : (v : ℤ) (n : ℕ) → natAbs v ≤ n → n < 999 → isShort v
+-- ---- the numbers of an accepted table have four columns
+short-is : (v : ℤ) → Short v → isShort v
+unfolding Short isShort
+short-is (pos m) h = h
+short-is (negsuc m) h = h
+
+short-zero : isShort (pos 0)
 unfolding isShort
-small-short (pos m) n h g = omega arith
-small-short (negsuc m) n h g = omega arith
+short-zero = omega arith
 
-facts-short : (s : Shape) (ws : List ℤ) → Facts s ws → allShort ws
-unfolding allShort
-facts-short s ws f i = go (ltb i (ruleNumbers s)) (ltb i (rowNumbers s)) refl refl
+every-short : (vs : List ℤ) → Every Short vs → (i : ℕ) → isShort (getD vs i (pos 0))
+every-short [] e i = short-zero
+every-short (v ∷ vs) e zero = short-is v (e .0)
+every-short (v ∷ vs) e (suc i) = every-short vs (e .1) i
+
+-- Rows that can be written have such numbers.
+rows-short : (ks : List ℕ) (ws : List ℤ) → length ws ≡ widths ks → Every Writable (cut ks ws) → (i : ℕ) → isShort (getD ws i (pos 0))
+unfolding cut sumBy
+rows-short [] [] l e i = short-zero
+rows-short [] (w ∷ ws) l e i = absurd (omega arith)
+rows-short (k ∷ ks) ws l e i = go (ltb i (kind k .numbers)) refl (rows-short ks (drop (kind k .numbers) ws) (length-drop (kind k .numbers) ws ∙ omega arith) (e .1) (i - kind k .numbers))
   where
-    go : (a b : Bool) → ltb i (ruleNumbers s) ≡ a → ltb i (rowNumbers s) ≡ b → isShort (getD ws i (pos 0))
-    go true b p q = small-short (getD ws i (pos 0)) (s .statements) (f .entries i (ltb-true i (ruleNumbers s) p)) (omega (arith, f .statements))
-    go false true p q =
-        let g = ltb-false i (ruleNumbers s) p in
-        let h = ltb-true i (rowNumbers s) q in
-        let e : ruleNumbers s + (i - ruleNumbers s) ≡ i = omega arith in
-        let n = f .named (i - ruleNumbers s) (omega arith) in
-        rw (← e, n .is) (small-short (pos (n .number)) (s .exceptions) (n .high) (omega (arith, f .exceptions)))
-    go false false p q =
-        rw (List·getD-eq-default ws (pos 0) {n = i} (rw (f .size) (ltb-false i (rowNumbers s) q))) (small-short (pos 0) 0 (omega arith) (omega arith))
+    go : (b : Bool) → ltb i (kind k .numbers) ≡ b → isShort (getD (drop (kind k .numbers) ws) (i - kind k .numbers) (pos 0)) → isShort (getD ws i (pos 0))
+    go true p ih = rw (getD-take (kind k .numbers) ws i (pos 0) (ltb-true i (kind k .numbers) p)) at (every-short (take (kind k .numbers) ws) (e .0 .short) i)
+    go false p ih =
+        let q : kind k .numbers + (i - kind k .numbers) ≡ i = omega (arith, ltb-false i (kind k .numbers) p) in
+        rw (getD-drop (kind k .numbers) ws (i - kind k .numbers) (pos 0), q) at ih
 
-rows-short : (s : Shape) (ws : List ℤ) → Facts s ws → (i : ℕ) → isShort (getD ws i (pos 0))
-unfolding allShort
-rows-short s ws f i = facts-short s ws f i
+pos-short : (m : ℕ) → m < 1000 → isShort (pos m)
+unfolding isShort
+pos-short m h = omega arith
 
-table-short : (s : Shape) (ws : List ℤ) → Facts s ws → allShort (tableOf s ws)
+front-short : (l : List ℕ) (ws : List ℤ) → ((i : ℕ) → getD l i 0 < 1000) → ((i : ℕ) → isShort (getD ws i (pos 0))) → (i : ℕ) → isShort (getD (map pos l ++ ws) i (pos 0))
+front-short [] ws h e i = e i
+front-short (x ∷ l) ws h e zero = pos-short x (h 0)
+front-short (x ∷ l) ws h e (suc i) = front-short l ws (λ j. h (suc j)) e i
+
+table-short : (s : Shape) (ws : List ℤ) → InLimits s → ((i : ℕ) → isShort (getD ws i (pos 0))) → allShort (tableOf s ws)
 unfolding tableOf allShort
-table-short s ws f zero = small-short (pos (s .statements)) (s .statements) (omega arith) (omega (arith, f .statements))
-table-short s ws f (suc zero) = small-short (pos (s .plain)) (s .plain) (omega arith) (omega (arith, f .plain))
-table-short s ws f (suc (suc zero)) = small-short (pos (s .exceptions)) (s .exceptions) (omega arith) (omega (arith, f .exceptions))
-table-short s ws f (suc (suc (suc zero))) = small-short (pos (s .preferences)) (s .preferences) (omega arith) (omega (arith, f .preferences))
-table-short s ws f (suc (suc (suc (suc i)))) = rows-short s ws f i
+table-short s ws l e i = front-short (frontOf s) ws (front-small s l) e i
 
 -- ---- Write
 module _ (t : List ℤ) (l : List ℕ) (r : Reading) (er : r ≡ readAnswer (testTable t)) where
@@ -89,45 +103,48 @@ module _ (t : List ℤ) (l : List ℕ) (r : Reading) (er : r ≡ readAnswer (tes
     unfolding rows
     tested = answer-accepted (testTable t) s (sym e ∙ er) .1
 
-    rows-are : rows ≡ drop 4 t
-    rows-are = table-passed t s rows tested .rows-are
+    passed : Table t s rows
+    passed = table-passed t s rows tested
 
-    whole : testTable t ≡ accepted s (drop 4 t)
-    whole = tested ∙ ap (accepted s) rows-are
+    whole : testTable t ≡ accepted s (drop front t)
+    whole = tested ∙ ap (accepted s) (passed .rows-are)
 
-    table-is : tableOf s (drop 4 t) ≡ t
-    table-is = ap (λ (x : Shape). tableOf x (drop 4 t)) (table-passed t s rows tested .shape-is) ∙ table-passed t s rows tested .table-is
+    table-is : tableOf s (drop front t) ≡ t
+    table-is = ap (λ (x : Shape). tableOf x (drop front t)) (passed .shape-is) ∙ passed .table-is
 
-    facts : Facts s (drop 4 t)
-    facts = table-facts s (drop 4 t) (table-passed (tableOf s (drop 4 t)) s (drop 4 t) (ap testTable table-is ∙ whole))
+    pub table-bounded : InLimits s
+    table-bounded = rw (passed .shape-is) (passed .limits)
 
-    pub table-bounded : Bounded s
-    table-bounded = record { statements = facts .statements; plain = facts .plain; exceptions = facts .exceptions; preferences = facts .preferences }
+    rows-size : length (drop front t) ≡ rowNumbers s
+    rows-size = passed .size ∙ ap (λ (x : Shape). rowNumbers x) (sym (passed .shape-is))
 
     pub numbers-short : allShort t
-    numbers-short = rw table-is at (table-short s (drop 4 t) facts)
+    unfolding rowsOf
+    numbers-short =
+        let e : testRows s (cut (layout 1 (countsOf s)) (drop front t)) 2 ≡ accepted s rows = ap (λ (x : Shape). testRows x (rowsOf x (drop front t)) 2) (passed .shape-is) ∙ passed .pass in
+        let w = rows-writable (layout 1 (countsOf s)) s (drop front t) 2 1 s rows (omega arith) (rows-rising s) (omega (arith, table-bounded .statements)) e in
+        rw table-is at (table-short s (drop front t) table-bounded (rows-short (layout 1 (countsOf s)) (drop front t) (rows-size ∙ sym (layout-widths s)) w))
 
-    pub table-long : length t ≡ 4 + widths (layout 1 (countsOf s))
-    unfolding tableOf
-    table-long = ap length (sym table-is) ∙ (let w = layout-widths s in omega (arith, facts .size, w))
+    pub table-long : length t ≡ front + rowNumbers s
+    table-long = ap length (sym table-is) ∙ (book-long s (drop front t) ∙ ap (λ (m : ℕ). front + m) rows-size)
 
-    text-long : length (textOf s (drop 4 t)) ≡ textBytes s
+    text-long : length (textOf s (drop front t)) ≡ textBytes s
     text-long = text-bytes s t table-long
 
     pub write-short : (n : ℕ) → n ≡ textBytes s → length l < n → Met t l (NotWritten (record { number = 15; line = 0 })) l
     unfolding writeWith lentBytes writeAnswer writeInto pick
     write-short n en h =
         record {
-          answer = rw (whole, lt-ltb (length l) (length (textOf s (drop 4 t))) (omega (arith, text-long)));
-          slice = rw (whole, lt-ltb (length l) (length (textOf s (drop 4 t))) (omega (arith, text-long)));
+          answer = rw (whole, lt-ltb (length l) (length (textOf s (drop front t))) (omega (arith, text-long)));
+          slice = rw (whole, lt-ltb (length l) (length (textOf s (drop front t))) (omega (arith, text-long)));
         }
 
-    pub write-whole : (n : ℕ) (m : List ℕ) → n ≡ textBytes s → n ≤ length l → m ≡ sets l 0 (textOf s (drop 4 t)) → Met t l (Written n) m
+    pub write-whole : (n : ℕ) (m : List ℕ) → n ≡ textBytes s → n ≤ length l → m ≡ sets l 0 (textOf s (drop front t)) → Met t l (Written n) m
     unfolding writeWith lentBytes writeAnswer writeInto pick over
     write-whole n m en h em =
         record {
-          answer = rw (whole, le-ltb (length l) (length (textOf s (drop 4 t))) (omega (arith, text-long)), en, ← text-long);
+          answer = rw (whole, le-ltb (length l) (length (textOf s (drop front t))) (omega (arith, text-long)), en, ← text-long);
           slice =
-              rw (whole, le-ltb (length l) (length (textOf s (drop 4 t))) (omega (arith, text-long)))
-              (em ∙ (sets-eq (textOf s (drop 4 t)) l 0 (omega (arith, text-long)) ∙ rw (zero-add (length (textOf s (drop 4 t))))));
+              rw (whole, le-ltb (length l) (length (textOf s (drop front t))) (omega (arith, text-long)))
+              (em ∙ (sets-eq (textOf s (drop front t)) l 0 (omega (arith, text-long)) ∙ rw (zero-add (length (textOf s (drop front t))))));
         }

@@ -1,3 +1,3 @@
 pub mod Testing
-pub mod Lengths
+pub mod Parts
 pub mod Promise

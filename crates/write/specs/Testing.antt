@@ -1,19 +1,15 @@
 -- What the functions that test a table answer, by the definitions of crate text.
-use Prim.Native.Nat.{ℕ, _≤_}
-use mathlib.Core.Bool.{Bool}
+use Prim.Native.Nat.{ℕ}
 use mathlib.Core.List.{List, [], _∷_}
-use lib.IntN.{ℤ, pos}
-use lib.ListN.{getD}
-use Rattle.logic.specs.Tests.{pick, either}
-use Rattle.book.specs.declared.Shape.{Shape}
+use lib.IntN.{ℤ}
+use Rattle.logic.specs.Tests.{pick}
 use Rattle.book.specs.declared.Content.{Content}
-use Rattle.book.specs.Limits as limit
-use Rattle.book.specs.Kinds.{kind, fieldsOf, rangeOf, plain, exception, preference}
+use Rattle.book.specs.Kinds.{kind, numbersOf, rangeOf}
 use Rattle.text.specs.declared.Reading.{Reading}
 use Rattle.text.specs.declared.Reading.the-variants.{Refused}
 use Rattle.text.specs.Lines.{Line, inside, judged}
 use Rattle.text.specs.Lines.Line.{line, wrong}
-use Rattle.text.specs.Tables.{testFields, rowFault, miscount}
+use Rattle.text.specs.Tables.{testFields, rowFault}
 use Rattle.fields.specs.declared.Seen.{Seen}
 use Rattle.fields.specs.declared.Checked.{Checked}
 use Rattle.fields.specs.declared.Checked.the-variants.{Fine, Refused as Faulty}
@@ -36,20 +32,9 @@ lineIs (wrong q) = Faulty q
 
 -- A row of the kind at place k in a book of n statements and m exceptions.
 unfoldable pub rowIs : ℕ → ℕ → ℕ → List ℤ → Checked
-rowIs n m k vs = lineIs (judged (rowFault m (kind k)) k (testFields (fieldsOf (kind k)) n vs))
+rowIs n m k vs = lineIs (judged (rowFault m (kind k)) k (testFields (numbersOf (kind k)) n vs))
 
 -- After rows whose test came to this, what the rows after them give.
 unfoldable pub onTested : Tested → Reading → Reading
 onTested Passed rest = rest
 onTested (Failed r) rest = Refused r
-
--- Some count of the table is negative or over.
-abbrev pub overCounts : List ℤ → Bool
-overCounts t = either (miscount plain (getD t 1 (pos 0))) (either (miscount exception (getD t 2 (pos 0))) (miscount preference (getD t 3 (pos 0))))
-
--- A shape in its limits.
-pub record Bounded (s : Shape) : Type 0 where
-  pub statements : s .statements ≤ limit.statements
-  pub plain : s .plain ≤ limit.plain
-  pub exceptions : s .exceptions ≤ limit.exceptions
-  pub preferences : s .preferences ≤ limit.preferences

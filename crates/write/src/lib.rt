@@ -6,16 +6,18 @@ ghost use Prim.Native.Nat.{ℕ, _+_, _*_, _<_, _≤_};
 ghost use lib.IntN.{pos};
 ghost use lib.ListN.{length, getD, drop, take, replicate};
 ghost use lib.Seq.{sets};
-ghost use Rattle.book.specs.Kinds.{kind, none, contents, fieldsOf, bytes, rangeOf};
+ghost use Rattle.logic.specs.Tests.{some};
+ghost use Rattle.book.specs.Kinds.{kinds, kind, none, first, last, front, contents, numbersOf, bytes, rangeOf};
+ghost use Rattle.book.specs.Counts.{rowNumbers, textBytes, InLimits};
 ghost use Rattle.book.specs.declared.Content.the-variants.{Statements};
-ghost use Rattle.text.specs.Lines.{inside, lineOf, unlines};
+ghost use Rattle.text.specs.Lines.{inside, lineOf};
 ghost use Rattle.text.specs.Reading.{readAnswer};
-ghost use Rattle.text.specs.Tables.{layout, widths, cut, countsOf, rowsOf, testRows, shapeIn, miscount, testTable};
-ghost use Rattle.text.specs.Writing.{rowLines, textOf};
+ghost use Rattle.text.specs.Tables.{cut, rowsOf, testRows, shapeIn, miscount, testTable};
+ghost use Rattle.text.specs.Writing.{textOf};
 ghost use Rattle.fields.specs.Short.{allShort};
 ghost use Rattle.read.specs.Storing.{noneSeen};
-ghost use Rattle.write.specs.Testing.{testSeen, rowIs, onTested, overCounts, Bounded};
-ghost use Rattle.write.specs.Lengths.{allCounts, sumBytes, textBytes};
+ghost use Rattle.write.specs.Testing.{testSeen, rowIs, onTested};
+ghost use Rattle.write.specs.Parts.{linesAt, rowsText};
 ghost use Rattle.write.specs.Promise.{Met};
 use book::Book;
 use book::Content;
@@ -32,10 +34,10 @@ use text::Writing;
 
 // The numbers of a row of kind x, from a place of the table on: what they say in a book of n statements and m exceptions, or the refusal.
 pub fn test_fields(t: &[i32], from: usize, x: Kind, n: usize, m: usize) -> Fields
-    requires { ⌜ (from + x .fields ≤ length (now t)) × (x .from + x .fields ≤ length contents) × (n < 2147483648) × (m < 2147483648) ⌝ }
-    ensures { λ r. ⌜ r ≡ testSeen n m (fieldsOf x) (noneSeen n) (drop from (now (t .entry))) ⌝ }
+    requires { ⌜ (from + x .numbers ≤ length (now t)) × (x .from + x .numbers ≤ length contents) × (n < 2147483648) × (m < 2147483648) ⌝ }
+    ensures { λ r. ⌜ r ≡ testSeen n m (numbersOf x) (noneSeen n) (drop from (now (t .entry))) ⌝ }
 {
-    let w = x.fields;
+    let w = x.numbers;
     let start = x.from;
     let mut seen = Seen {
         statements: n,
@@ -60,18 +62,18 @@ pub fn test_fields(t: &[i32], from: usize, x: Kind, n: usize, m: usize) -> Field
     Fields::Right(seen)
 }
 
-// A row of the kind at place k, from a place of the table on: 6, 9, 10.
+// A row of the kind at place k, from a place of the table on: 6, its kind's own refusal for heads, 10.
 pub fn test_row(t: &[i32], from: usize, k: usize, n: usize, m: usize) -> Checked
-    requires { ⌜ (k < none) × (from + kind k .fields ≤ length (now t)) × (n < 2147483648) × (m < 2147483648) ⌝ }
-    ensures { λ r. ⌜ r ≡ rowIs n m k (take (kind k .fields) (drop from (now (t .entry)))) ⌝ }
+    requires { ⌜ (first < k) × (k < last) × (from + kind k .numbers ≤ length (now t)) × (n < 2147483648) × (m < 2147483648) ⌝ }
+    ensures { λ r. ⌜ r ≡ rowIs n m k (take (kind k .numbers) (drop from (now (t .entry)))) ⌝ }
 {
     let x = book::kind_at(k);
     let found = test_fields(t, from, x, n, m);
     match found {
         Fields::Wrong(q) => Checked::Refused(q),
         Fields::Right(seen) => {
-            if read::is_headless(x, fields::number_at(t, from)) {
-                return Checked::Refused(9);
+            if fields::is_headless(t, from, x) {
+                return Checked::Refused(x.unfilled);
             }
             if seen.missing {
                 return Checked::Refused(10);
@@ -91,11 +93,11 @@ pub enum Tested {
 
 // c rows of the kind at place k, from a place of the table on; the first would have this line.
 pub fn test_kind(t: &[i32], from: usize, k: usize, c: usize, s: Shape, line: usize) -> Tested
-    requires { ⌜ (k < none) × (from + c * kind k .fields ≤ length (now t)) × (s .statements < 2147483648) × (s .exceptions < 2147483648) × (line + c < 2147483648) ⌝ }
-    ensures { λ r. ⌜ ((ks : List ℕ) → readAnswer (testRows s (cut (replicate c k ++ ks) (drop from (now (t .entry)))) line) ≡ onTested r (readAnswer (testRows s (cut ks (drop (from + c * kind k .fields) (now (t .entry)))) (line + c)))) ⌝ }
+    requires { ⌜ (first < k) × (k < last) × (from + c * kind k .numbers ≤ length (now t)) × (s .statements < 2147483648) × (s .exceptions < 2147483648) × (line + c < 2147483648) ⌝ }
+    ensures { λ r. ⌜ ((ks : List ℕ) → readAnswer (testRows s (cut (replicate c k ++ ks) (drop from (now (t .entry)))) line) ≡ onTested r (readAnswer (testRows s (cut ks (drop (from + c * kind k .numbers) (now (t .entry)))) (line + c)))) ⌝ }
 {
     let x = book::kind_at(k);
-    let w = x.fields;
+    let w = x.numbers;
     let n = s.statements;
     let m = s.exceptions;
     let mut i = 0;
@@ -118,25 +120,16 @@ pub fn test_kind(t: &[i32], from: usize, k: usize, c: usize, s: Shape, line: usi
     Tested::Passed
 }
 
-// How many lines of the kind at place k a book of this shape has.
-pub fn count_at(s: Shape, k: usize) -> usize
-    requires { ⌜ k < none ⌝ }
-    ensures { λ r. ⌜ r ≡ getD (allCounts s) k 0 ⌝ }
-{
-    let counts = [1, s.plain, s.exceptions, s.preferences, 1];
-    counts[k]
-}
-
 // The rows of a table of this shape, from the top.
 pub fn test_rows(t: &[i32], s: Shape) -> Reading
-    requires { ⌜ Bounded s × (length (now t) ≡ 4 + widths (layout 1 (countsOf s))) ⌝ }
-    ensures { λ r. ⌜ r ≡ readAnswer (testRows s (rowsOf s (drop 4 (now (t .entry)))) 2) ⌝ }
+    requires { ⌜ InLimits s × (length (now t) ≡ front + rowNumbers s) ⌝ }
+    ensures { λ r. ⌜ r ≡ readAnswer (testRows s (rowsOf s (drop front (now (t .entry)))) 2) ⌝ }
 {
     let mut k = Book::AT_PLAIN;
-    let mut from = Book::COUNTS;
+    let mut from = Book::FRONT;
     let mut line = 2;
     while k < Book::AT_LAST {
-        let c = count_at(s, k);
+        let c = book::count_of(s, k);
         let tested = test_kind(t, from, k, c, s, line);
         match tested {
             Tested::Failed(r) => {
@@ -144,7 +137,7 @@ pub fn test_rows(t: &[i32], s: Shape) -> Reading
             }
             Tested::Passed => {
                 let x = book::kind_at(k);
-                from = from + c * x.fields;
+                from = from + c * x.numbers;
                 line = line + c;
             }
         }
@@ -153,58 +146,64 @@ pub fn test_rows(t: &[i32], s: Shape) -> Reading
     Reading::Accepted(s)
 }
 
-// A count that is negative or over the limit of the kind at place k.
-pub fn count_over(k: usize, v: i32) -> bool
-    requires { ⌜ k < none ⌝ }
-    ensures { λ r. ⌜ r ≡ miscount k v ⌝ }
+// The count of a kind x in front of a table is negative or over its limit, if it is a kind of row.
+pub fn count_over(t: &[i32], x: Kind) -> bool
+    requires { ⌜ (x .count < length (now t)) × (x .limit < 2147483648) ⌝ }
+    ensures { λ r. ⌜ r ≡ miscount (now (t .entry)) x ⌝ }
 {
+    if !x.row {
+        return false;
+    }
+    let v = fields::number_at(t, x.count);
     if v < 0 {
         return true;
     }
-    let x = book::kind_at(k);
     !fields::at_most(v, x.limit)
 }
 
 // Some count of the table is.
 pub fn counts_over(t: &[i32]) -> bool
-    requires { ⌜ 4 ≤ length (now t) ⌝ }
-    ensures { λ r. ⌜ r ≡ overCounts (now (t .entry)) ⌝ }
+    requires { ⌜ front ≤ length (now t) ⌝ }
+    ensures { λ r. ⌜ r ≡ some (miscount (now (t .entry))) kinds ⌝ }
 {
-    let a = fields::number_at(t, 1);
-    let b = fields::number_at(t, 2);
-    let c = fields::number_at(t, 3);
-    count_over(Book::AT_PLAIN, a)
-        | count_over(Book::AT_EXCEPTION, b)
-        | count_over(Book::AT_PREFERENCE, c)
+    let mut k = 0;
+    while k < Book::KINDS {
+        let x = book::kind_at(k);
+        if count_over(t, x) {
+            return true;
+        }
+        k += 1;
+    }
+    false
 }
 
 // n and the counts of a table, as a shape.
 pub fn shape_in(t: &[i32]) -> Shape
-    requires { ⌜ 4 ≤ length (now t) ⌝ }
+    requires { ⌜ front ≤ length (now t) ⌝ }
     ensures { λ r. ⌜ r ≡ shapeIn (now (t .entry)) ⌝ }
 {
-    let n = fields::number_at(t, 0);
-    let a = fields::number_at(t, 1);
-    let b = fields::number_at(t, 2);
-    let c = fields::number_at(t, 3);
-    Shape {
-        statements: fields::to_nat(n),
-        plain: fields::to_nat(a),
-        exceptions: fields::to_nat(b),
-        preferences: fields::to_nat(c),
+    let mut counts = [0usize; Book::KINDS];
+    let mut k = 0;
+    while k < Book::KINDS {
+        let x = book::kind_at(k);
+        let v = fields::number_at(t, x.count);
+        counts[k] = fields::to_nat(v);
+        k += 1;
     }
+    let n = fields::number_at(t, 0);
+    book::shape_from(fields::to_nat(n), counts)
 }
 
 // The test of a table whose n is right: the counts, the length, the rows.
 pub fn test_counts(t: &[i32]) -> Reading
-    requires { ⌜ (4 ≤ length (now t)) × (inside (rangeOf Statements 0) (getD (now t) 0 (pos 0)) ≡ true) ⌝ }
+    requires { ⌜ (front ≤ length (now t)) × (inside (rangeOf Statements 0) (getD (now t) 0 (pos 0)) ≡ true) ⌝ }
     ensures { λ r. ⌜ r ≡ readAnswer (testTable (now (t .entry))) ⌝ }
 {
     if counts_over(t) {
         return read::refused(8, 1);
     }
     let s = shape_in(t);
-    if t.len() != Book::COUNTS + fields::row_numbers(s) {
+    if t.len() != Book::FRONT + book::row_numbers(s) {
         return read::refused(16, 0);
     }
     test_rows(t, s)
@@ -214,7 +213,7 @@ pub fn test_counts(t: &[i32]) -> Reading
 pub fn test_table(t: &[i32]) -> Reading
     ensures { λ r. ⌜ r ≡ readAnswer (testTable (now (t .entry))) ⌝ }
 {
-    if t.len() < Book::COUNTS {
+    if t.len() < Book::FRONT {
         return read::refused(16, 0);
     }
     let n = fields::number_at(t, 0);
@@ -226,29 +225,6 @@ pub fn test_table(t: &[i32]) -> Reading
 }
 
 // ---- the text written
-
-// The bytes of a line of the kind at place k, with its line feed.
-pub fn line_bytes(k: usize) -> usize
-    requires { ⌜ k < none ⌝ }
-    ensures { λ r. ⌜ (r ≡ bytes (kind k)) × (r < 1000) ⌝ }
-{
-    let x = book::kind_at(k);
-    Book::ENDS + Book::COLUMNS * x.fields
-}
-
-// The bytes of a book of this shape.
-pub fn text_length(s: Shape) -> usize
-    requires { ⌜ Bounded s ⌝ }
-    ensures { λ r. ⌜ r ≡ textBytes s ⌝ }
-{
-    let mut k = Book::AT_FIRST;
-    let mut n = 0;
-    while k < Book::KINDS {
-        n = n + count_at(s, k) * line_bytes(k);
-        k += 1;
-    }
-    n
-}
 
 // The line of the kind at place k with the numbers of t from a place on, its line feed too, at a place of a buffer.
 pub fn put_line(buf: &mut [u8], at: usize, k: usize, t: &[i32], from: usize)
@@ -262,14 +238,14 @@ pub fn put_line(buf: &mut [u8], at: usize, k: usize, t: &[i32], from: usize)
     buf[at + 1 + w * Book::COLUMNS] = b'\n';
 }
 
-// c lines of the kind at place k, with the numbers of t from a place on, at a place of a buffer.
+// c lines of the kind of row at place k, with the numbers of t from a place on, at a place of a buffer.
 pub fn put_kind(buf: &mut [u8], at: usize, k: usize, c: usize, t: &[i32], from: usize)
-    requires { ⌜ (k < none) × allShort (now t) × (from + c * kind k .fields ≤ length (now t)) × (at + c * bytes (kind k) ≤ length (now buf)) ⌝ }
-    ensures { λ r. ⌜ now (buf .exit) ≡ sets (now (buf .entry)) at (unlines (rowLines (cut (replicate c k) (drop from (now (t .entry)))))) ⌝ }
+    requires { ⌜ (first < k) × (k < last) × allShort (now t) × (from + c * kind k .numbers ≤ length (now t)) × (at + c * bytes (kind k) ≤ length (now buf)) ⌝ }
+    ensures { λ r. ⌜ now (buf .exit) ≡ sets (now (buf .entry)) at (linesAt k (now (t .entry)) from c) ⌝ }
 {
     let x = book::kind_at(k);
-    let w = x.fields;
-    let b = line_bytes(k);
+    let w = x.numbers;
+    let b = book::line_bytes(k);
     let mut i = 0;
     let mut a = at;
     let mut f = from;
@@ -283,34 +259,34 @@ pub fn put_kind(buf: &mut [u8], at: usize, k: usize, c: usize, t: &[i32], from: 
 
 // The rows of a table of this shape, at a place of a buffer.
 pub fn put_rows(buf: &mut [u8], at: usize, s: Shape, t: &[i32])
-    requires { ⌜ allShort (now t) × (length (now t) ≡ 4 + widths (layout 1 (countsOf s))) × (at + sumBytes 1 (countsOf s) ≤ length (now buf)) ⌝ }
-    ensures { λ r. ⌜ now (buf .exit) ≡ sets (now (buf .entry)) at (unlines (rowLines (rowsOf s (drop 4 (now (t .entry)))))) ⌝ }
+    requires { ⌜ allShort (now t) × (length (now t) ≡ front + rowNumbers s) × (at + length (rowsText s (now t)) ≤ length (now buf)) ⌝ }
+    ensures { λ r. ⌜ now (buf .exit) ≡ sets (now (buf .entry)) at (rowsText s (now (t .entry))) ⌝ }
 {
     let mut k = Book::AT_PLAIN;
     let mut a = at;
-    let mut f = Book::COUNTS;
+    let mut f = Book::FRONT;
     while k < Book::AT_LAST {
-        let c = count_at(s, k);
+        let c = book::count_of(s, k);
         put_kind(buf, a, k, c, t, f);
         let x = book::kind_at(k);
-        a = a + c * line_bytes(k);
-        f = f + c * x.fields;
+        a = a + c * book::line_bytes(k);
+        f = f + c * x.numbers;
         k += 1;
     }
 }
 
 // The text of a table of this shape, in front of a buffer that is long enough: B, the rows, Z.
 pub fn put_text(buf: &mut [u8], s: Shape, t: &[i32])
-    requires { ⌜ Bounded s × allShort (now t) × (length (now t) ≡ 4 + widths (layout 1 (countsOf s))) × (textBytes s ≤ length (now buf)) ⌝ }
-    ensures { λ r. ⌜ now (buf .exit) ≡ sets (now (buf .entry)) 0 (textOf s (drop 4 (now (t .entry)))) ⌝ }
+    requires { ⌜ InLimits s × allShort (now t) × (length (now t) ≡ front + rowNumbers s) × (textBytes s ≤ length (now buf)) ⌝ }
+    ensures { λ r. ⌜ now (buf .exit) ≡ sets (now (buf .entry)) 0 (textOf s (drop front (now (t .entry)))) ⌝ }
 {
     let b = [1i32, s.statements as i32];
     put_line(buf, 0, Book::AT_FIRST, &b, 0);
-    put_rows(buf, line_bytes(Book::AT_FIRST), s, t);
-    let z = [(s.plain + s.exceptions + s.preferences) as i32];
+    put_rows(buf, book::line_bytes(Book::AT_FIRST), s, t);
+    let z = [book::total(s) as i32];
     put_line(
         buf,
-        text_length(s) - line_bytes(Book::AT_LAST),
+        book::text_bytes(s) - book::line_bytes(Book::AT_LAST),
         Book::AT_LAST,
         &z,
         0,
@@ -326,7 +302,7 @@ pub fn write(table: &[i32], buf: &mut [u8]) -> Writing
     match tested {
         Reading::Refused(r) => Writing::Refused(r),
         Reading::Accepted(s) => {
-            let n = text_length(s);
+            let n = book::text_bytes(s);
             if buf.len() < n {
                 return Writing::Refused(Refusal {
                     number: 15,

@@ -24,8 +24,8 @@ with-sets-requires c κs = search needs
 among-requires : tie.Need-among-requires
 among-requires c κs = search needs
 
-probe-requires : tie.Need-probe-requires
-probe-requires c κs = search needs
+ask-requires : tie.Need-ask-requires
+ask-requires c κs = search needs
 
 enum-told : tie.Need-enum-told
 enum-told c = search needs
@@ -34,10 +34,10 @@ enum-told-2 : tie.Need-enum-told-2
 enum-told-2 c = search needs
 
 returns-3 : tie.Need-returns-3
-returns-3 c = minimal-found _ _ _ _ _ _ (c .before .before .before .before .before .before .before .before .before .before .pre .2) _ (c .before .before .before .before .with-sets .ensures) _ (c .before .before .probe .ensures) (c .enum-told .given .0 .0) (search needs) (c .enum-told .given .1)
+returns-3 c = minimal-found _ _ _ _ _ _ (c .before .before .before .before .before .before .before .before .before .before .pre .2) _ (c .before .before .before .before .with-sets .ensures) _ (c .before .before .ask .ensures) (c .enum-told .given .0 .0) (search needs) (c .enum-told .given .1)
 
 returns-4 : tie.Need-returns-4
-returns-4 c = minimal-none _ _ _ _ _ _ (c .before .before .before .before .before .before .before .before .before .before .pre .2) _ (c .before .before .before .before .with-sets .ensures) _ (c .before .before .probe .ensures) (search needs)
+returns-4 c = minimal-none _ _ _ _ _ _ (c .before .before .before .before .before .before .before .before .before .before .pre .2) _ (c .before .before .before .before .with-sets .ensures) _ (c .before .before .ask .ensures) (search needs)
 
 pub minimal-at-spec : {M : Type 1} → statement M
 minimal-at-spec =
@@ -50,7 +50,7 @@ minimal-at-spec =
     shl-with-sets
     with-sets-requires
     among-requires
-    probe-requires
+    ask-requires
     enum-told
     enum-told-2
     returns-3

@@ -15,8 +15,8 @@ into-requires c κs = search needs
 changed-requires : tie.Need-changed-requires
 changed-requires c κs = search needs
 
-probe-requires : tie.Need-probe-requires
-probe-requires c κs = search needs
+ask-requires : tie.Need-ask-requires
+ask-requires c κs = search needs
 
 enum-told : tie.Need-enum-told
 enum-told c = search needs
@@ -25,10 +25,10 @@ enum-told-2 : tie.Need-enum-told-2
 enum-told-2 c = search needs
 
 returns-2 : tie.Need-returns-2
-returns-2 c = free-found _ _ _ _ _ _ _ _ (c .before .before .before .before .before .one .ensures) _ (c .before .before .before .before .into .ensures) _ (c .before .before .probe .ensures) (c .enum-told .given .0 .0) (search needs) (c .enum-told .given .1)
+returns-2 c = free-found _ _ _ _ _ _ _ _ (c .before .before .before .before .before .one .ensures) _ (c .before .before .before .before .into .ensures) _ (c .before .before .ask .ensures) (c .enum-told .given .0 .0) (search needs) (c .enum-told .given .1)
 
 returns-3 : tie.Need-returns-3
-returns-3 c = free-none _ _ _ _ _ _ _ _ (c .before .before .before .before .before .one .ensures) _ (c .before .before .before .before .into .ensures) _ (c .before .before .probe .ensures) (search needs)
+returns-3 c = free-none _ _ _ _ _ _ _ _ (c .before .before .before .before .before .one .ensures) _ (c .before .before .before .before .into .ensures) _ (c .before .before .ask .ensures) (search needs)
 
 pub undominated-at-spec : {M : Type 1} → statement M
 undominated-at-spec =
@@ -38,7 +38,7 @@ undominated-at-spec =
     one-requires
     into-requires
     changed-requires
-    probe-requires
+    ask-requires
     enum-told
     enum-told-2
     returns-2

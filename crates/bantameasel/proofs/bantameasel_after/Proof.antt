@@ -1,7 +1,7 @@
 use mathlib.Core.Path.{refl, ap, _∙_}
 use Rattle.answers.proofs.Means.{after-means}
 use Rattle.bantameasel.proofs.Across.{answer-across}
-use Rattle.bantameasel.specs.Across.{answerIn, pairOf}
+use Rattle.bantameasel.specs.Across.{answerIn}
 use borrow.Author.Needs.{needs}
 use Rattle.bantameasel.proofs.bantameasel_after.Statement.{statement}
 use Rattle.bantameasel.proofs.bantameasel_after.Tie as tie
@@ -13,7 +13,6 @@ pair-in-requires : tie.Need-pair-in-requires
 pair-in-requires c κs = search needs
 
 returns : tie.Need-returns
-unfolding pairOf
 returns c = answer-across _ _ _ (after-means _ _ _ .0 refl) _ (c .pair-in .ensures ∙ ap answerIn (c .before .after .ensures .0))
 
 pub bantameasel-after-spec : {M : Type 1} → statement M

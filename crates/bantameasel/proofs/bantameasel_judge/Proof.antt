@@ -1,7 +1,7 @@
 use mathlib.Core.Path.{refl, ap, _∙_}
 use Rattle.answers.proofs.Means.{judge-means}
 use Rattle.bantameasel.proofs.Across.{verdict-across}
-use Rattle.bantameasel.specs.Across.{verdictIn, pairOf}
+use Rattle.bantameasel.specs.Across.{verdictIn}
 use borrow.Author.Needs.{needs}
 use Rattle.bantameasel.proofs.bantameasel_judge.Statement.{statement}
 use Rattle.bantameasel.proofs.bantameasel_judge.Tie as tie
@@ -13,7 +13,6 @@ verdict-in-requires : tie.Need-verdict-in-requires
 verdict-in-requires c κs = search needs
 
 returns : tie.Need-returns
-unfolding pairOf
 returns c = verdict-across _ _ _ (judge-means _ _ _ .0 refl) _ (c .verdict-in .ensures ∙ ap verdictIn (c .before .judge .ensures .0))
 
 pub bantameasel-judge-spec : {M : Type 1} → statement M

@@ -1,5 +1,5 @@
 use Rattle.bantameasel.proofs.Across.{answer-is, answer-end, answer-not}
-use Rattle.bantameasel.specs.Across.{answerIn}
+use Rattle.bantameasel.specs.Across.{answerIn, noPair}
 use borrow.Author.Needs.{needs}
 use Rattle.bantameasel.proofs.pair_in.Statement.{statement}
 use Rattle.bantameasel.proofs.pair_in.Tie as tie
@@ -18,11 +18,11 @@ unfolding answerIn
 returns c = answer-is _ _ (search needs)
 
 returns-2 : tie.Need-returns-2
-unfolding answerIn
+unfolding answerIn noPair
 returns-2 c = answer-end _ (search needs)
 
 returns-3 : tie.Need-returns-3
-unfolding answerIn
+unfolding answerIn noPair
 returns-3 c = answer-not _ _ (search needs)
 
 pub pair-in-spec : {M : Type 1} → statement M

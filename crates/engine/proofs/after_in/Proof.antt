@@ -1,3 +1,4 @@
+use Rattle.book.proofs.Counts.{plain-in, exceptions-in}
 use mathlib.Core.Path.{refl}
 use Rattle.engine.proofs.Prepared.{after-is}
 use borrow.Author.Needs.{needs}
@@ -5,16 +6,16 @@ use Rattle.engine.proofs.after_in.Statement.{statement}
 use Rattle.engine.proofs.after_in.Tie as tie
 
 add-rules : tie.Need-add-rules
-add-rules c = search needs
+add-rules c = let p = plain-in _ (c .before .before .pre .0) in let x = exceptions-in _ (c .before .before .pre .0) in let s = c .before .before .pre .0 .statements in search needs
 
 fill-requires : tie.Need-fill-requires
-fill-requires c κs = search needs
+fill-requires c κs = let p = plain-in _ (c .before .before .before .before .pre .0) in let x = exceptions-in _ (c .before .before .before .before .pre .0) in let s = c .before .before .before .before .pre .0 .statements in search needs
 
 root-of-requires : tie.Need-root-of-requires
-root-of-requires c κs = search needs
+root-of-requires c κs = let p = plain-in _ (c .before .before .before .before .before .before .pre .0) in let x = exceptions-in _ (c .before .before .before .before .before .before .pre .0) in let s = c .before .before .before .before .before .before .pre .0 .statements in search needs
 
 page-after-requires : tie.Need-page-after-requires
-page-after-requires c κs = (search needs, search needs, c .before .before .before .before .before .before .fill .ensures)
+page-after-requires c κs = let p = plain-in _ (c .before .before .before .before .before .before .before .before .before .before .before .pre .0) in let x = exceptions-in _ (c .before .before .before .before .before .before .before .before .before .before .before .pre .0) in let s = c .before .before .before .before .before .before .before .before .before .before .before .pre .0 .statements in (search needs, search needs, c .before .before .before .before .before .before .fill .ensures)
 
 same-length : tie.Need-same-length
 same-length c = search needs

@@ -1,3 +1,4 @@
+use Rattle.book.proofs.Counts.{plain-in, exceptions-in}
 use mathlib.Core.Path.{refl}
 use Rattle.engine.proofs.Prepared.{first-is}
 use borrow.Author.Needs.{needs}
@@ -5,16 +6,16 @@ use Rattle.engine.proofs.first_in.Statement.{statement}
 use Rattle.engine.proofs.first_in.Tie as tie
 
 add-rules : tie.Need-add-rules
-add-rules c = search needs
+add-rules c = let p = plain-in _ (c .before .before .pre) in let x = exceptions-in _ (c .before .before .pre) in let s = c .before .before .pre .statements in search needs
 
 fill-requires : tie.Need-fill-requires
-fill-requires c κs = search needs
+fill-requires c κs = let p = plain-in _ (c .before .before .before .before .pre) in let x = exceptions-in _ (c .before .before .before .before .pre) in let s = c .before .before .before .before .pre .statements in search needs
 
 root-of-requires : tie.Need-root-of-requires
-root-of-requires c κs = search needs
+root-of-requires c κs = let p = plain-in _ (c .before .before .before .before .before .before .pre) in let x = exceptions-in _ (c .before .before .before .before .before .before .pre) in let s = c .before .before .before .before .before .before .pre .statements in search needs
 
 first-page-requires : tie.Need-first-page-requires
-first-page-requires c κs = (search needs, c .before .before .before .before .before .before .fill .ensures)
+first-page-requires c κs = let p = plain-in _ (c .before .before .before .before .before .before .before .before .before .before .before .pre) in let x = exceptions-in _ (c .before .before .before .before .before .before .before .before .before .before .before .pre) in let s = c .before .before .before .before .before .before .before .before .before .before .before .pre .statements in (search needs, c .before .before .before .before .before .before .fill .ensures)
 
 same-length : tie.Need-same-length
 same-length c = search needs

@@ -1,19 +1,20 @@
+use Rattle.book.proofs.Counts.{plain-in, exceptions-in}
 use Rattle.engine.proofs.Prepared.{root-is}
 use borrow.Author.Needs.{needs}
 use Rattle.engine.proofs.root_of.Statement.{statement}
 use Rattle.engine.proofs.root_of.Tie as tie
 
 add-n : tie.Need-add-n
-add-n c = search needs
+add-n c = let p = plain-in _ (c .before .pre .0) in let x = exceptions-in _ (c .before .pre .0) in let s = c .before .pre .0 .statements in search needs
 
 root-requires : tie.Need-root-requires
-root-requires c κs = search needs
+root-requires c κs = let p = plain-in _ (c .before .pre .0) in let x = exceptions-in _ (c .before .pre .0) in let s = c .before .pre .0 .statements in search needs
 
 all-requires : tie.Need-all-requires
 all-requires c κs = search needs
 
 propagate-requires : tie.Need-propagate-requires
-propagate-requires c κs = search needs
+propagate-requires c κs = let p = plain-in _ (c .before .before .before .before .before .pre .0) in let x = exceptions-in _ (c .before .before .before .before .before .pre .0) in let s = c .before .before .before .before .before .pre .0 .statements in search needs
 
 returns : tie.Need-returns
 returns c = root-is _ _ _ _ _ (c .before .before .before .before .before .root .ensures) (c .before .propagate .ensures)

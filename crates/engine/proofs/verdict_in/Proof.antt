@@ -1,19 +1,20 @@
+use Rattle.book.proofs.Counts.{plain-in, exceptions-in}
 use Rattle.engine.proofs.Prepared.{verdict-is}
 use borrow.Author.Needs.{needs}
 use Rattle.engine.proofs.verdict_in.Statement.{statement}
 use Rattle.engine.proofs.verdict_in.Tie as tie
 
 add-n : tie.Need-add-n
-add-n c = search needs
+add-n c = let p = plain-in _ (c .before .pre) in let x = exceptions-in _ (c .before .pre) in let s = c .before .pre .statements in search needs
 
 fill-requires : tie.Need-fill-requires
-fill-requires c κs = search needs
+fill-requires c κs = let p = plain-in _ (c .before .before .before .pre) in let x = exceptions-in _ (c .before .before .before .pre) in let s = c .before .before .before .pre .statements in search needs
 
 root-of-requires : tie.Need-root-of-requires
-root-of-requires c κs = search needs
+root-of-requires c κs = let p = plain-in _ (c .before .before .before .before .before .pre) in let x = exceptions-in _ (c .before .before .before .before .before .pre) in let s = c .before .before .before .before .before .pre .statements in search needs
 
 verdict-requires : tie.Need-verdict-requires
-verdict-requires c κs = search needs
+verdict-requires c κs = let p = plain-in _ (c .before .before .before .before .before .before .before .before .before .pre) in let x = exceptions-in _ (c .before .before .before .before .before .before .before .before .before .pre) in let s = c .before .before .before .before .before .before .before .before .before .pre .statements in search needs
 
 returns : tie.Need-returns
 returns c = verdict-is _ _ _ _ _ _ (c .before .before .before .before .root-of .ensures) (c .verdict .ensures)

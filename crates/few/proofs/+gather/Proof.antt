@@ -1,7 +1,7 @@
-use native.Mathlib.Omega.{arith}
 use borrow.Author.Needs.{needs}
+use native.Mathlib.Omega.{arith}
 use Rattle.probe.proofs.Halves.{room, out-less, into-less}
-use Rattle.few.proofs.Gathering.{store-again, gathered-full, gathered-view, gathered-empty, gathered-both}
+use Rattle.few.proofs.Gathering.{store-again, gathered-full, gathered-dry, gathered-view, gathered-empty, gathered-both}
 use Prim.Native.Nat.{ℕ, _<_}
 use borrow.Fn.Kinds.{In}
 use borrow.Fn.PlainCycle.{Measures, is, falls, and}
@@ -44,6 +44,12 @@ callees t = (
 gather-returns : (t : ℕ) → gather-lts.Need-returns (callees t) (gather-at t) gather.Post
 gather-returns t c = gathered-full _ _ _ _ _ _ _ (search needs) (search needs)
 
+gather-returns-2 : (t : ℕ) → gather-lts.Need-returns-2 (callees t) (gather-at t) gather.Post
+gather-returns-2 t c = gathered-dry _ _ _ _ _ _ _ (search needs) (search needs)
+
+gather-sub-fuel : (t : ℕ) → gather-lts.Need-sub-fuel (callees t) (gather-at t) gather.Post
+gather-sub-fuel t c = search needs
+
 gather-visit-requires : (t : ℕ) → gather-lts.Need-visit-requires (callees t) (gather-at t) gather.Post
 gather-visit-requires t c κs = search needs
 
@@ -53,8 +59,8 @@ gather-enum-known-x t c = search needs
 gather-put-requires : (t : ℕ) → gather-lts.Need-put-requires (callees t) (gather-at t) gather.Post
 gather-put-requires t c κs = search needs
 
-gather-add-result : (t : ℕ) → gather-lts.Need-add-result (callees t) (gather-at t) gather.Post
-gather-add-result t c = search needs
+gather-add-t27 : (t : ℕ) → gather-lts.Need-add-t27 (callees t) (gather-at t) gather.Post
+gather-add-t27 t c = search needs
 
 gather-enum-told : (t : ℕ) → gather-lts.Need-enum-told (callees t) (gather-at t) gather.Post
 gather-enum-told t c = search needs
@@ -69,7 +75,7 @@ gather-among-requires : (t : ℕ) → gather-lts.Need-among-requires (callees t)
 gather-among-requires t c κs = search needs
 
 gather-gather-requires : (t : ℕ) → gather-lts.Need-gather-requires (callees t) (gather-at t) gather.Post
-gather-gather-requires t c κs = let h = out-less (c .before .before .before .before .before .before .visit .ensures) _ _ _ (c .before .before .before .before .x2 .given .1) _ (c .before .before .out .ensures) in (omega (arith, c .before .before .before .before .before .before .before .before .before .before .before .pre .0), (c .before .before .before .before .before .before .before .before .before .before .before .pre .1 .0, c .before .before .before .before .before .before .before .before .before .before .before .pre .1 .1, c .before .before .before .before .before .before .before .before .before .before .before .pre .1 .2, c .before .before .before .before .before .before .before .before .before .before .before .pre .1 .3, c .before .before .before .before .before .before .before .before .before .before .before .pre .1 .4))
+gather-gather-requires t c κs = let h = out-less (c .before .before .before .before .before .before .visit .ensures) _ _ _ (c .before .before .before .before .x2 .given .1) _ (c .before .before .out .ensures) in (omega (arith, c .before .before .before .before .before .before .before .before .before .before .before .before .before .before .pre .0), (c .before .before .before .before .before .before .before .before .before .before .before .before .before .before .pre .1 .0, c .before .before .before .before .before .before .before .before .before .before .before .before .before .before .pre .1 .1, c .before .before .before .before .before .before .before .before .before .before .before .before .before .before .pre .1 .2, c .before .before .before .before .before .before .before .before .before .before .before .before .before .before .pre .1 .3, c .before .before .before .before .before .before .before .before .before .before .before .before .before .before .pre .1 .4))
 
 gather-into-requires : (t : ℕ) → gather-lts.Need-into-requires (callees t) (gather-at t) gather.Post
 gather-into-requires t c κs = search needs
@@ -78,32 +84,34 @@ gather-among-requires-2 : (t : ℕ) → gather-lts.Need-among-requires-2 (callee
 gather-among-requires-2 t c κs = search needs
 
 gather-gather-requires-2 : (t : ℕ) → gather-lts.Need-gather-requires-2 (callees t) (gather-at t) gather.Post
-gather-gather-requires-2 t c κs = let h = into-less (c .before .before .before .before .before .before .before .before .before .before .before .before .visit .ensures) _ _ _ (c .before .before .before .before .before .before .before .before .before .before .x2 .given .1) _ (c .before .before .into .ensures) in (omega (arith, c .before .before .before .before .before .before .before .before .before .before .before .before .before .before .before .before .before .pre .0), (c .before .before .before .before .before .before .before .before .before .before .before .before .before .before .before .before .before .pre .1 .0, c .before .before .before .before .before .before .before .before .before .before .before .before .before .before .before .before .before .pre .1 .1, c .before .before .before .before .before .before .before .before .before .before .before .before .before .before .before .before .before .pre .1 .2, store-again _ _ _ (c .before .before .before .before .before .before .before .before .before .before .before .before .before .before .before .before .before .pre .1 .3) (c .before .before .before .before .before .gather .kept .1 .1 .1 .1 .1 .1 .0), c .before .before .before .before .before .gather .ensures .few))
+gather-gather-requires-2 t c κs = let h = into-less (c .before .before .before .before .before .before .before .before .before .before .before .before .visit .ensures) _ _ _ (c .before .before .before .before .before .before .before .before .before .before .x2 .given .1) _ (c .before .before .into .ensures) in (omega (arith, c .before .before .before .before .before .before .before .before .before .before .before .before .before .before .before .before .before .before .before .before .pre .0), (c .before .before .before .before .before .before .before .before .before .before .before .before .before .before .before .before .before .before .before .before .pre .1 .0, c .before .before .before .before .before .before .before .before .before .before .before .before .before .before .before .before .before .before .before .before .pre .1 .1, c .before .before .before .before .before .before .before .before .before .before .before .before .before .before .before .before .before .before .before .before .pre .1 .2, store-again _ _ _ (c .before .before .before .before .before .before .before .before .before .before .before .before .before .before .before .before .before .before .before .before .pre .1 .3) (c .before .before .before .before .before .gather .kept .1 .1 .1 .1 .1 .1 .0), c .before .before .before .before .before .gather .ensures .few))
 
 gather-same-length : (t : ℕ) → gather-lts.Need-same-length (callees t) (gather-at t) gather.Post
 gather-same-length t c = search needs
 
-gather-returns-2 : (t : ℕ) → gather-lts.Need-returns-2 (callees t) (gather-at t) gather.Post
-gather-returns-2 t c = gathered-view _ _ _ _ _ _ _ _ (c .before .before .before .before .before .before .before .visit .ensures) (search needs) _ (search needs) _ (c .before .before .put .ensures)
-
 gather-returns-3 : (t : ℕ) → gather-lts.Need-returns-3 (callees t) (gather-at t) gather.Post
-gather-returns-3 t c = gathered-empty _ _ _ _ _ _ _ _ (c .before .before .visit .ensures) (search needs) (search needs)
+gather-returns-3 t c = gathered-view _ _ _ _ _ _ _ _ _ (c .before .before .before .before .before .before .before .visit .ensures) (search needs) _ (search needs) _ (c .before .before .put .ensures)
+
+gather-returns-4 : (t : ℕ) → gather-lts.Need-returns-4 (callees t) (gather-at t) gather.Post
+gather-returns-4 t c = gathered-empty _ _ _ _ _ _ _ _ _ (c .before .before .visit .ensures) (search needs) (search needs)
 
 gather-same-length-2 : (t : ℕ) → gather-lts.Need-same-length-2 (callees t) (gather-at t) gather.Post
 gather-same-length-2 t c = search needs
 
-gather-returns-4 : (t : ℕ) → gather-lts.Need-returns-4 (callees t) (gather-at t) gather.Post
-gather-returns-4 t c = gathered-both _ _ _ _ _ _ _ _ (c .before .before .before .before .before .before .before .before .before .before .before .before .before .before .before .visit .ensures) _ _ _ (c .before .before .before .before .before .before .before .before .before .before .before .before .before .x2 .given .1) _ _ (c .before .before .before .before .before .before .before .before .before .before .before .out .ensures) (c .before .before .before .before .before .into .ensures) _ _ _ _ (c .before .before .before .before .before .before .before .before .gather .ensures) (c .before .before .gather2 .ensures)
+gather-returns-5 : (t : ℕ) → gather-lts.Need-returns-5 (callees t) (gather-at t) gather.Post
+gather-returns-5 t c = gathered-both _ _ _ _ _ _ _ _ _ (c .before .before .before .before .before .before .before .before .before .before .before .before .before .before .before .visit .ensures) _ _ _ (c .before .before .before .before .before .before .before .before .before .before .before .before .before .x2 .given .1) _ _ (c .before .before .before .before .before .before .before .before .before .before .before .out .ensures) (c .before .before .before .before .before .into .ensures) _ _ _ _ (c .before .before .before .before .before .before .before .before .gather .ensures) (c .before .before .gather2 .ensures)
 
 pub +gather-spec : {M : Type 1} → statement M
 +gather-spec = close μ-gather λ t. gather-lts.spec (callees t)
     (gather-at t)
     gather.Post
     (gather-returns t)
+    (gather-returns-2 t)
+    (gather-sub-fuel t)
     (gather-visit-requires t)
     (gather-enum-known-x t)
     (gather-put-requires t)
-    (gather-add-result t)
+    (gather-add-t27 t)
     (gather-enum-told t)
     (gather-enum-known-x-2 t)
     (gather-out-requires t)
@@ -113,7 +121,7 @@ pub +gather-spec : {M : Type 1} → statement M
     (gather-among-requires-2 t)
     (gather-gather-requires-2 t)
     (gather-same-length t)
-    (gather-returns-2 t)
     (gather-returns-3 t)
-    (gather-same-length-2 t)
     (gather-returns-4 t)
+    (gather-same-length-2 t)
+    (gather-returns-5 t)

@@ -1,22 +1,22 @@
-use Rattle.fields.proofs.Puts.{short-back}
-use Rattle.fields.proofs.Columns.{back, back-same}
+use Rattle.fields.proofs.Columns.{back-same}
 use native.Mathlib.Omega.{arith}
 use borrow.Author.Needs.{needs}
-use mathlib.Core.Path.{_≡_, refl, _∙_}
-use Prim.Native.Nat.{_≤_, _-_}
-use lib.ListN.{length}
-use Rattle.fields.proofs.Puts.{ToPut, put-start, put-next, put-end}
+use mathlib.Core.Path.{_∙_}
+use Prim.Native.Nat.{_+_, _-_, _*_}
+use Rattle.logic.proofs.Stores.{Putting, putting-start, putting-next, putting-end}
+use Rattle.text.proofs.Fields.{field-length}
+use Rattle.fields.proofs.Puts.{fieldAt, fields-are, short-back}
 use Rattle.fields.proofs.put_numbers.Statement.{statement}
 use Rattle.fields.proofs.put_numbers.Tie as tie
 
 abbrev Inv-loop : tie.InvT-loop
-Inv-loop buf₀ at t from w i₀ buf i = (i ≤ w) × (length buf ≡ length buf₀) × ToPut t buf₀ at from w buf i
+Inv-loop buf₀ at t from w i₀ buf i = Putting (fieldAt t from) w buf₀ at buf (at + i * 4) i
 
 abbrev μ-loop : tie.MeasureT-loop
 μ-loop buf₀ at t from w i₀ buf i = w - i
 
 loop-holds : tie.Need-loop-holds Inv-loop μ-loop
-loop-holds c = (omega arith, refl, put-start _ _ _ _ _)
+loop-holds c = putting-start _ _ _ _ _ (omega arith)
 
 add-number-at : tie.Need-add-number-at Inv-loop μ-loop
 add-number-at c = omega arith
@@ -40,13 +40,21 @@ loop-less : tie.Need-loop-less Inv-loop μ-loop
 loop-less c = omega arith
 
 loop-again : tie.Need-loop-again Inv-loop μ-loop
-loop-again c = (omega arith, omega (arith, c .before .before .put-number .kept .0), put-next _ _ _ _ _ (c .before .before .before .before .before .before .loop .buf) _ (c .before .before .before .before .before .before .loop .i) (back (c .before .before .before .before .number-at .result)) (omega arith) (search needs) (back-same _ (c .before .before .before .before .number-at .ok) ∙ c .before .before .before .before .number-at .ensures) (c .before .before .put-number .ensures) (search needs))
+loop-again c =
+    let number = c .before .before .before .before .number-at in
+    let put = c .before .before .put-number in
+    let loop = c .before .before .before .before .before .before .loop in
+    let e = back-same _ (number .ok) ∙ number .ensures in
+    putting-next _ _ _ _ (loop .buf) _ (loop .i) (loop .inv) (omega arith) _ _ (rw e at (put .ensures)) (rw field-length (omega arith))
 
 same-length : tie.Need-same-length Inv-loop μ-loop
 same-length c = search needs
 
 returns : tie.Need-returns Inv-loop μ-loop
-returns c = put-end (c .before .before .before .args .t .now) _ _ (c .before .before .before .args .from) (c .before .before .before .args .w) _ (c .before .loop .i) (omega arith) (search needs)
+returns c =
+    let args = c .before .before .before .args in
+    let loop = c .before .loop in
+    putting-end _ _ _ _ _ _ (loop .i) _ (loop .inv) (omega arith) (fields-are (args .t .now) (args .from) (args .w) (args .from) 0 (omega arith) (search needs)) .0
 
 pub put-numbers-spec : {M : Type 1} → statement M
 put-numbers-spec =

@@ -29,30 +29,31 @@ returns c =
     let parse = c .before .before .before .before .before .parse in
     line-unlawful _ _ _ (parse .ensures) _ _ (got2 .given .0 .0) (search needs) _ (refusal .ensures) (search needs)
 
-add-m : tie.Need-add-m
-add-m c =
-    let got2 = c .before .before .before .before .got2 in
-    let parse = c .before .before .before .before .before .before .parse in
-    omega (arith, few-statements _ _ _ (got2 .given .0 .0) (parse .ensures) (search needs))
+line-fields-requires : tie.Need-line-fields-requires
+line-fields-requires c κs = search needs
 
-add-m-2 : tie.Need-add-m-2
-add-m-2 c =
+line-bytes-requires : tie.Need-line-bytes-requires
+line-bytes-requires c κs =
     let got2 = c .before .before .before .before .got2 in
     let parse = c .before .before .before .before .before .before .parse in
-    omega (arith, few-statements _ _ _ (got2 .given .0 .0) (parse .ensures) (search needs))
+    (omega (arith, c .line-fields .ensures .1), omega (arith, few-statements _ _ _ (got2 .given .0 .0) (parse .ensures) (search needs)))
 
 returns-2 : tie.Need-returns-2
 returns-2 c =
-    let refusal = c .before .before .before .refusal in
-    let got2 = c .before .before .before .before .before .got2 in
-    let parse = c .before .before .before .before .before .before .before .parse in
-    line-short _ _ _ (parse .ensures) _ _ (got2 .given .0 .0) (search needs) (refusal .result) (refusal .ensures) (search needs) (search needs)
+    let line-bytes = c .before .line-bytes in
+    let line-fields = c .before .before .line-fields in
+    let refusal = c .before .before .before .before .refusal in
+    let got2 = c .before .before .before .before .before .before .got2 in
+    let parse = c .before .before .before .before .before .before .before .before .parse in
+    line-short _ _ _ (parse .ensures) _ _ (got2 .given .0 .0) (search needs) (refusal .result) (refusal .ensures) (search needs) _ (line-fields .ensures .0) _ (line-bytes .ensures) (search needs)
 
 put-line-requires : tie.Need-put-line-requires
 put-line-requires c κs =
-    let got2 = c .before .before .before .before .before .before .got2 in
-    let parse = c .before .before .before .before .before .before .before .before .parse in
-    (omega (arith, few-statements _ _ _ (got2 .given .0 .0) (parse .ensures) (search needs)), omega arith)
+    let line-bytes = c .before .before .line-bytes in
+    let line-fields = c .before .before .before .line-fields in
+    let got2 = c .before .before .before .before .before .before .before .got2 in
+    let parse = c .before .before .before .before .before .before .before .before .before .parse in
+    (omega (arith, line-fields .ensures .1), omega (arith, few-statements _ _ _ (got2 .given .0 .0) (parse .ensures) (search needs)), omega (arith, line-bytes .ensures))
 
 returns-3 : tie.Need-returns-3
 returns-3 c =
@@ -65,10 +66,12 @@ same-length c = search needs
 returns-4 : tie.Need-returns-4
 returns-4 c =
     let put-line = c .before .before .put-line in
-    let refusal = c .before .before .before .before .before .before .before .refusal in
-    let got2 = c .before .before .before .before .before .before .before .before .before .got2 in
-    let parse = c .before .before .before .before .before .before .before .before .before .before .before .parse in
-    line-whole _ _ _ (parse .ensures) _ _ (got2 .given .0 .0) (search needs) (refusal .result) (refusal .ensures) (search needs) _ (omega arith) (put-line .ensures)
+    let line-bytes = c .before .before .before .before .before .line-bytes in
+    let line-fields = c .before .before .before .before .before .before .line-fields in
+    let refusal = c .before .before .before .before .before .before .before .before .refusal in
+    let got2 = c .before .before .before .before .before .before .before .before .before .before .got2 in
+    let parse = c .before .before .before .before .before .before .before .before .before .before .before .before .parse in
+    line-whole _ _ _ (parse .ensures) _ _ (got2 .given .0 .0) (search needs) (refusal .result) (refusal .ensures) (search needs) _ (line-fields .ensures .0) _ _ (line-bytes .ensures) (search needs) (put-line .ensures)
 
 pub line-spec : {M : Type 1} → statement M
 line-spec =
@@ -80,8 +83,8 @@ line-spec =
     enum-known-got-2
     refusal-requires
     returns
-    add-m
-    add-m-2
+    line-fields-requires
+    line-bytes-requires
     returns-2
     put-line-requires
     returns-3

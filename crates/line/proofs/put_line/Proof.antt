@@ -5,6 +5,15 @@ use borrow.Author.Needs.{needs}
 use Rattle.line.proofs.put_line.Statement.{statement}
 use Rattle.line.proofs.put_line.Tie as tie
 
+add-marks : tie.Need-add-marks
+add-marks c = search needs
+
+mul-marks : tie.Need-mul-marks
+mul-marks c = search needs
+
+add-marks-2 : tie.Need-add-marks-2
+add-marks-2 c = search needs
+
 slice-write-buf : tie.Need-slice-write-buf
 slice-write-buf c = search needs
 
@@ -25,9 +34,6 @@ put-taken-requires c κs =
     let put-columns = c .before .before .before .put-columns in
     omega (arith, simp length-set at (put-columns .kept .0))
 
-add-put-marks : tie.Need-add-put-marks
-add-put-marks c = search needs
-
 put-marks-requires : tie.Need-put-marks-requires
 put-marks-requires c κs =
     let put-taken = c .before .before .before .put-taken in
@@ -36,9 +42,6 @@ put-marks-requires c κs =
 
 add-buf : tie.Need-add-buf
 add-buf c = search needs
-
-add-buf-2 : tie.Need-add-buf-2
-add-buf-2 c = search needs
 
 slice-write-buf-2 : tie.Need-slice-write-buf-2
 slice-write-buf-2 c =
@@ -61,22 +64,23 @@ returns c =
     let put-columns = c .before .before .before .before .before .before .before .before .before .before .put-columns in
     let size = c .before .before .before .before .before .before .before .before .before .before .before .size in
     let args = c .before .before .before .before .before .before .before .before .before .before .before .before .before .before .args in
-    line-put _ _ _ _ (args .at) (args .n) (args .p) (size .result) (size .ensures) (put-columns .ensures) (put-taken .ensures) (put-marks .ensures)
+    line-put _ _ _ _ (args .at) (args .w) (args .n) (args .p) (size .result) (size .ensures) (put-columns .ensures) (put-taken .ensures) (put-marks .ensures)
 
 pub put-line-spec : {M : Type 1} → statement M
 put-line-spec =
     tie.close
     (tie.spec
+    add-marks
+    mul-marks
+    add-marks-2
     slice-write-buf
     add-put-columns
     size-requires
     put-columns-requires
     add-put-taken
     put-taken-requires
-    add-put-marks
     put-marks-requires
     add-buf
-    add-buf-2
     slice-write-buf-2
     same-length
     returns)

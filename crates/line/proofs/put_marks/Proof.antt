@@ -1,20 +1,21 @@
-use Prim.Native.Nat.{_≤_, _-_}
-use mathlib.Core.Path.{_≡_, refl}
+use Prim.Native.Nat.{_+_, _-_}
+use mathlib.Core.Path.{ap}
 use native.Mathlib.Omega.{arith}
 use borrow.Author.Needs.{needs}
-use lib.ListN.{length, length-set}
-use Rattle.line.proofs.PutLaws.{MarksLeft, marks-start, marks-next, marks-end}
+use lib.ListN.{set}
+use Rattle.logic.proofs.Stores.{Putting, putting-start, putting-next, putting-end}
+use Rattle.line.proofs.PutLaws.{markAt, marks-are}
 use Rattle.line.proofs.put_marks.Statement.{statement}
 use Rattle.line.proofs.put_marks.Tie as tie
 
 abbrev Inv-loop : tie.InvT-loop
-Inv-loop buf₀ at n p i₀ buf i = (i ≤ n) × (length buf ≡ length buf₀) × MarksLeft p buf₀ at n buf i
+Inv-loop buf₀ at n p i₀ buf i = Putting (markAt p) n buf₀ at buf (at + i) i
 
 abbrev μ-loop : tie.MeasureT-loop
 μ-loop buf₀ at n p i₀ buf i = n - i
 
 loop-holds : tie.Need-loop-holds Inv-loop μ-loop
-loop-holds c = (omega arith, refl, marks-start _ _ _ _)
+loop-holds c = putting-start _ _ _ _ _ (omega arith)
 
 add-mark : tie.Need-add-mark Inv-loop μ-loop
 add-mark c = omega arith
@@ -37,15 +38,16 @@ loop-less c = omega arith
 loop-again : tie.Need-loop-again Inv-loop μ-loop
 loop-again c =
     let loop = c .before .before .loop in
-    (omega arith, simp length-set (omega arith), marks-next _ _ _ _ (loop .buf) (loop .i) _ (omega arith) (c .mark .ensures) (search needs))
+    putting-next _ _ _ _ (loop .buf) _ (loop .i) (loop .inv) (omega arith) _ _ (ap (set (loop .buf) _) (c .mark .ensures)) (omega arith)
 
 same-length : tie.Need-same-length Inv-loop μ-loop
 same-length c = search needs
 
 returns : tie.Need-returns Inv-loop μ-loop
 returns c =
+    let args = c .before .before .before .args in
     let loop = c .before .loop in
-    marks-end _ _ _ _ _ (loop .i) (omega arith) (search needs)
+    putting-end _ _ _ _ _ _ (loop .i) _ (loop .inv) (omega arith) (marks-are (args .p) (args .n) 0) .0
 
 pub put-marks-spec : {M : Type 1} → statement M
 put-marks-spec =

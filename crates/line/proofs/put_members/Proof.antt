@@ -1,20 +1,25 @@
-use Prim.Native.Nat.{_+_, _-_}
+use Prim.Native.Nat.{_+_, _-_, _*_, _≤_}
+use mathlib.Core.Path.{_∙_}
 use mathlib.Core.Logic.{⊎-elim}
 use native.Mathlib.Omega.{arith}
 use borrow.Author.Needs.{needs}
-use Rattle.book.specs.Limits.{exceptions}
-use Rattle.line.proofs.PutLaws.{Putting, putting-start, putting-in, putting-out, putting-end}
+use Rattle.logic.proofs.Stores.{Putting, putting-start, putting-end}
+use Rattle.line.specs.Parts.{takenOf}
+use Rattle.line.proofs.PutLaws.{memberField, member-put, member-skipped, taken-are, fields-bytes}
 use Rattle.line.proofs.put_members.Statement.{statement}
 use Rattle.line.proofs.put_members.Tie as tie
 
 abbrev Inv-loop : tie.InvT-loop
-Inv-loop buf₀ at taken k₀ i₀ buf k i = Putting taken buf₀ buf at k i
+Inv-loop buf₀ at w taken k₀ i₀ buf k i = (k ≤ i) × Putting (memberField taken) w buf₀ at buf (at + k * 4) i
 
 abbrev μ-loop : tie.MeasureT-loop
-μ-loop buf₀ at taken k₀ i₀ buf k i = exceptions + 1 - i
+μ-loop buf₀ at w taken k₀ i₀ buf k i = w - i
 
 loop-holds : tie.Need-loop-holds Inv-loop μ-loop
-loop-holds c = putting-start _ _ _
+loop-holds c = (omega arith, putting-start _ _ _ _ _ (omega arith))
+
+add-member : tie.Need-add-member Inv-loop μ-loop
+add-member c = omega arith
 
 member-requires : tie.Need-member-requires Inv-loop μ-loop
 member-requires c κs = (omega arith, omega arith)
@@ -24,6 +29,9 @@ mul-put-columns c = omega arith
 
 add-put-columns : tie.Need-add-put-columns Inv-loop μ-loop
 add-put-columns c = omega arith
+
+add-put-columns-2 : tie.Need-add-put-columns-2 Inv-loop μ-loop
+add-put-columns-2 c = omega arith
 
 cast-put-columns : tie.Need-cast-put-columns Inv-loop μ-loop
 cast-put-columns c = omega arith
@@ -44,15 +52,18 @@ loop-again : tie.Need-loop-again Inv-loop μ-loop
 loop-again c =
     let member = c .before .member in
     let loop = c .before .before .before .loop in
-    ⊎-elim (λ w. putting-in _ _ (loop .buf) _ (loop .k) (loop .i) (loop .inv) (omega arith) (member .result) _ _ _ (member .ensures) (search needs) (w .5) (w .2 .ensures) (w .6)) (λ w. putting-out _ _ (loop .buf) _ (loop .k) (loop .i) (loop .inv) (omega arith) (member .result) _ _ (member .ensures) (search needs) (w .1) (w .2)) (c .if1 .came)
+    ⊎-elim (λ w. (omega arith, member-put _ _ _ (loop .buf) _ _ (loop .i) (loop .inv .1) (omega arith) (member .result) (member .ensures) _ _ (search needs) (w .5 ∙ w .2 .ensures) (omega (arith, w .6))))
+    (λ w. (omega arith, member-skipped _ _ _ (loop .buf) _ _ (loop .i) (loop .inv .1) (omega arith) (member .result) (member .ensures) _ _ (search needs) (w .1) (omega (arith, w .2)))) (c .if1 .came)
 
 same-length : tie.Need-same-length Inv-loop μ-loop
 same-length c = search needs
 
 returns : tie.Need-returns Inv-loop μ-loop
 returns c =
+    let args = c .before .before .before .args in
     let loop = c .before .loop in
-    putting-end _ _ _ _ _ (loop .i) (loop .inv) (omega arith)
+    let all = putting-end _ _ _ _ _ _ (loop .i) _ (loop .inv .1) (omega arith) (taken-are (args .taken) (args .w)) in
+    (all .0, omega (arith, all .1, fields-bytes (takenOf (args .w) (args .taken))), omega arith)
 
 pub put-members-spec : {M : Type 1} → statement M
 put-members-spec =
@@ -61,9 +72,11 @@ put-members-spec =
     Inv-loop
     μ-loop
     loop-holds
+    add-member
     member-requires
     mul-put-columns
     add-put-columns
+    add-put-columns-2
     cast-put-columns
     put-columns-requires
     add-k

@@ -1,20 +1,20 @@
-use Prim.Native.Nat.{_≤_, _-_}
-use mathlib.Core.Path.{_≡_, refl}
+use Prim.Native.Nat.{_+_, _-_, _*_}
 use native.Mathlib.Omega.{arith}
 use borrow.Author.Needs.{needs}
-use lib.ListN.{length}
-use Rattle.line.proofs.PutLaws.{ZerosLeft, zeros-start, zeros-next, zeros-end}
+use Rattle.logic.proofs.Stores.{Putting, putting-start, putting-next, putting-end}
+use Rattle.text.specs.Fields.{columns}
+use Rattle.line.proofs.PutLaws.{zeroField, zeros-are}
 use Rattle.line.proofs.put_zeros.Statement.{statement}
 use Rattle.line.proofs.put_zeros.Tie as tie
 
 abbrev Inv-loop : tie.InvT-loop
-Inv-loop buf₀ at w i₀ buf i = (i ≤ w) × (length buf ≡ length buf₀) × ZerosLeft buf₀ at w buf i
+Inv-loop buf₀ at w i₀ buf i = Putting zeroField w buf₀ at buf (at + i * 4) i
 
 abbrev μ-loop : tie.MeasureT-loop
 μ-loop buf₀ at w i₀ buf i = w - i
 
 loop-holds : tie.Need-loop-holds Inv-loop μ-loop
-loop-holds c = (omega arith, refl, zeros-start _ _ _)
+loop-holds c = putting-start _ _ _ _ _ (omega arith)
 
 mul-put-columns : tie.Need-mul-put-columns Inv-loop μ-loop
 mul-put-columns c = omega arith
@@ -32,10 +32,11 @@ loop-less : tie.Need-loop-less Inv-loop μ-loop
 loop-less c = omega arith
 
 loop-again : tie.Need-loop-again Inv-loop μ-loop
+unfolding columns
 loop-again c =
     let put-columns = c .before .before .put-columns in
     let loop = c .before .before .before .before .before .loop in
-    (omega arith, omega (arith, put-columns .kept .0), zeros-next _ _ _ (loop .buf) _ (loop .i) (omega arith) (put-columns .ensures) (search needs))
+    putting-next _ _ _ _ (loop .buf) _ (loop .i) (loop .inv) (omega arith) _ _ (put-columns .ensures) (omega arith)
 
 same-length : tie.Need-same-length Inv-loop μ-loop
 same-length c = search needs
@@ -44,7 +45,7 @@ returns : tie.Need-returns Inv-loop μ-loop
 returns c =
     let loop = c .before .loop in
     let args = c .before .before .before .args in
-    zeros-end _ _ (args .w) _ (loop .i) (omega arith) (search needs)
+    putting-end _ _ _ _ _ _ (loop .i) _ (loop .inv) (omega arith) (zeros-are (args .w) 0) .0
 
 pub put-zeros-spec : {M : Type 1} → statement M
 put-zeros-spec =

@@ -7,20 +7,32 @@ use Rattle.listing.proofs.close_part.Statement.{statement}
 use Rattle.listing.proofs.close_part.Tie as tie
 
 put-lines-requires : tie.Need-put-lines-requires
-put-lines-requires c κs = let m = at-most (c .before .before .before .args .k) partLines (c .before .before .before .args .n) (search needs) (search needs) in (search needs, search needs, omega arith)
+put-lines-requires c κs =
+    let args = c .before .before .before .args in
+    let m = at-most (args .k) partLines (args .w) (args .n) (search needs) (search needs) (search needs) in
+    (search needs, search needs, search needs, omega arith)
 
 put-closing-requires : tie.Need-put-closing-requires
-put-closing-requires c κs = let m = at-most (c .before .before .before .before .before .before .before .args .k) partLines (c .before .before .before .before .before .before .before .args .n) (search needs) (search needs) in let h = c .before .before .before .put-lines .ensures .1 in let n = c .before .before .before .put-lines .kept .0 in omega arith
+put-closing-requires c κs =
+    let put-lines = c .before .before .before .put-lines in
+    let args = c .before .before .before .before .before .before .before .args in
+    omega (arith, at-most (args .k) partLines (args .w) (args .n) (search needs) (search needs) (search needs), put-lines .ensures .1, put-lines .kept .0)
 
-add-t12 : tie.Need-add-t12
-add-t12 c = let m = at-most (c .before .before .before .before .before .before .before .before .before .before .args .k) partLines (c .before .before .before .before .before .before .before .before .before .before .args .n) (search needs) (search needs) in let h = c .before .before .before .before .before .before .put-lines .ensures .1 in omega arith
+add-t13 : tie.Need-add-t13
+add-t13 c =
+    let put-lines = c .before .before .before .before .before .before .put-lines in
+    let args = c .before .before .before .before .before .before .before .before .before .before .args in
+    omega (arith, at-most (args .k) partLines (args .w) (args .n) (search needs) (search needs) (search needs), put-lines .ensures .1)
 
 same-length : tie.Need-same-length
 same-length c = search needs
 
 returns : tie.Need-returns
-returns c = closes _ _ _ _ _ _ (c .before .before .before .before .before .before .put-lines .ensures .0) (c .before .before .before .before .before .before .put-lines .ensures .1) (search needs) (search needs) (search needs) _ _ _ (c .before .before .put-closing .ensures) (omega (arith, c .before .before .before .before .before .before .put-lines .kept .0, c .before .before .put-closing .kept .0))
+returns c =
+    let put-lines = c .before .before .before .before .before .before .put-lines in
+    let put-closing = c .before .before .put-closing in
+    closes _ _ _ _ _ _ _ (put-lines .ensures .0) (put-lines .ensures .1) (search needs) (search needs) (search needs) (search needs) _ _ _ (put-closing .ensures) (omega (arith, put-lines .kept .0, put-closing .kept .0))
 
 pub close-part-spec : {M : Type 1} → statement M
 close-part-spec =
-    tie.close (tie.spec put-lines-requires put-closing-requires add-t12 same-length returns)
+    tie.close (tie.spec put-lines-requires put-closing-requires add-t13 same-length returns)

@@ -6,25 +6,36 @@ use borrow.Author.Needs.{needs}
 use Rattle.listing.proofs.go_on.Statement.{statement}
 use Rattle.listing.proofs.go_on.Tie as tie
 
+line-fields-requires : tie.Need-line-fields-requires
+line-fields-requires c κs = search needs
+
 slice-aggregate-after-in : tie.Need-slice-aggregate-after-in
 slice-aggregate-after-in c = search needs
 
 after-in-requires : tie.Need-after-in-requires
-after-in-requires c κs = (search needs, few-taken _ _ _ _ (c .before .pre))
+after-in-requires c κs = (search needs, few-taken _ _ _ _ (c .before .before .pre))
 
 slice-aggregate-put-part : tie.Need-slice-aggregate-put-part
 slice-aggregate-put-part c = search needs
 
 put-part-requires : tie.Need-put-part-requires
-put-part-requires c κs = (c .before .before .before .before .before .pre .loaded .statements, part-few _ _ _ _ 0 _ _ _ (length-replicate {A = ℕ} (partLines * 3) 0) (c .before .before .before .after-in .ensures) (c .before .before .before .before .before .pre .rows) (c .before .before .before .before .before .pre .loaded) (c .before .before .before .before .before .pre .lawful), search needs, search needs)
+put-part-requires c κs =
+    let page = c .before .before .before .after-in in
+    let pre = c .before .before .before .before .before .before .pre in
+    (c .before .before .before .before .before .line-fields .ensures .1, pre .loaded .limits .statements, part-few _ _ _ _ 0 _ _ _ (length-replicate {A = ℕ} (partLines * 3) 0) (page .ensures) (pre .rows) (pre .loaded) (pre .lawful), search needs, search needs)
 
 returns : tie.Need-returns
-returns c = lists _ _ _ _ _ _ _ _ (length-replicate {A = ℕ} (partLines * 3) 0) (c .before .before .before .before .after-in .ensures) _ _ (c .put-part .ensures) (part-few _ _ _ _ 0 _ _ _ (length-replicate {A = ℕ} (partLines * 3) 0) (c .before .before .before .before .after-in .ensures) (c .before .before .before .before .before .before .pre .rows) (c .before .before .before .before .before .before .pre .loaded) (c .before .before .before .before .before .before .pre .lawful))
+returns c =
+    let page = c .before .before .before .before .after-in in
+    let pre = c .before .before .before .before .before .before .before .pre in
+    let few = part-few _ _ _ _ 0 _ _ _ (length-replicate {A = ℕ} (partLines * 3) 0) (page .ensures) (pre .rows) (pre .loaded) (pre .lawful) in
+    lists _ _ _ _ _ _ _ _ (length-replicate {A = ℕ} (partLines * 3) 0) (page .ensures) _ (c .before .before .before .before .before .before .line-fields .ensures .0) _ _ (c .put-part .ensures) few
 
 pub go-on-spec : {M : Type 1} → statement M
 go-on-spec =
     tie.close
     (tie.spec
+    line-fields-requires
     slice-aggregate-after-in
     after-in-requires
     slice-aggregate-put-part

@@ -1,34 +1,38 @@
 use borrow.Author.Needs.{needs}
-use Rattle.listing.proofs.Stores.{line-at}
-use Rattle.listing.proofs.Stores.{Putting, put-start, put-room, put-next, put-end}
+use mathlib.Core.Path.{_≡_}
 use native.Mathlib.Omega.{arith}
 use Prim.Native.Nat.{_-_}
+use Rattle.logic.proofs.Stores.{Putting, putting-start, putting-next}
+use Rattle.line.specs.Parts.{lineBytes}
+use Rattle.line.proofs.PutLaws.{line-length}
+use Rattle.listing.proofs.Stores.{lineAt, lines-room, lines-put}
 use Rattle.listing.proofs.put_lines.Statement.{statement}
 use Rattle.listing.proofs.put_lines.Tie as tie
 
 abbrev Inv-loop : tie.InvT-loop
-Inv-loop out₀ n pairs k w i₀ at₀ out i at = Putting n pairs k out₀ w out i at
+Inv-loop out₀ w n pairs k bytes i₀ at₀ out i at = (bytes ≡ lineBytes w n) × Putting (lineAt w n pairs) k out₀ 0 out at i
 
 abbrev μ-loop : tie.MeasureT-loop
-μ-loop out₀ n pairs k w i₀ at₀ out i at = k - i
+μ-loop out₀ w n pairs k bytes i₀ at₀ out i at = k - i
 
-sub-w : tie.Need-sub-w Inv-loop μ-loop
-sub-w c = omega arith
-
-add-w : tie.Need-add-w Inv-loop μ-loop
-add-w c = omega arith
+line-bytes-requires : tie.Need-line-bytes-requires Inv-loop μ-loop
+line-bytes-requires c κs = (omega arith, omega arith)
 
 loop-holds : tie.Need-loop-holds Inv-loop μ-loop
-loop-holds c = put-start _ _ _ _ _ (omega arith)
+loop-holds c = (c .line-bytes .ensures, putting-start _ _ _ _ _ (omega arith))
 
 pair-at-requires : tie.Need-pair-at-requires Inv-loop μ-loop
-pair-at-requires c κs = let f = c .before .loop .inv .few in omega arith
+pair-at-requires c κs = omega arith
 
 put-line-requires : tie.Need-put-line-requires Inv-loop μ-loop
-put-line-requires c κs = (omega arith, put-room _ _ _ _ _ _ _ _ (c .before .before .before .loop .inv) (search needs) (c .before .before .before .before .before .before .pre .2))
+put-line-requires c κs =
+    let loop = c .before .before .before .loop in
+    (omega arith, omega arith, lines-room _ _ _ _ _ _ _ _ (loop .inv .1) (search needs) (search needs))
 
 add-at : tie.Need-add-at Inv-loop μ-loop
-add-at c = let f = put-room _ _ _ _ _ _ _ _ (c .before .before .before .before .before .before .loop .inv) (search needs) (c .before .before .before .before .before .before .before .before .before .pre .2) in let g = c .before .before .before .before .before .before .loop .inv .wide in let h = c .before .before .before .before .before .before .loop .inv .same-size in omega arith
+add-at c =
+    let loop = c .before .before .before .before .before .before .loop in
+    omega (arith, lines-room _ _ _ _ _ _ _ _ (loop .inv .1) (search needs) (search needs))
 
 add-i : tie.Need-add-i Inv-loop μ-loop
 add-i c = omega arith
@@ -37,13 +41,17 @@ loop-less : tie.Need-loop-less Inv-loop μ-loop
 loop-less c = omega arith
 
 loop-again : tie.Need-loop-again Inv-loop μ-loop
-loop-again c = put-next _ _ _ _ _ _ _ _ (c .before .before .before .before .before .before .loop .inv) (search needs) _ (c .before .before .put-line .kept .0) (line-at _ _ _ _ _ _ _ (c .before .before .before .before .pair-at .ensures) (c .before .before .put-line .ensures))
+loop-again c =
+    let loop = c .before .before .before .before .before .before .loop in
+    let pair-at = c .before .before .before .before .pair-at in
+    let put-line = c .before .before .put-line in
+    (search needs, putting-next _ _ _ _ (loop .out) (loop .at) (loop .i) (loop .inv .1) (search needs) _ _ (rw (pair-at .ensures) at (put-line .ensures)) (rw line-length (omega arith)))
 
 same-length : tie.Need-same-length Inv-loop μ-loop
-same-length c = c .before .loop .inv .same-size
+same-length c = c .before .loop .inv .1 .same-size
 
 returns : tie.Need-returns Inv-loop μ-loop
-returns c = put-end _ _ _ _ _ _ _ _ (c .before .loop .inv) (search needs)
+returns c = lines-put _ _ _ _ _ _ _ _ (c .before .loop .inv .1) (search needs)
 
 pub put-lines-spec : {M : Type 1} → statement M
 put-lines-spec =
@@ -51,8 +59,7 @@ put-lines-spec =
     (tie.spec
     Inv-loop
     μ-loop
-    sub-w
-    add-w
+    line-bytes-requires
     loop-holds
     pair-at-requires
     put-line-requires

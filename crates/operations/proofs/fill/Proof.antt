@@ -1,44 +1,32 @@
-use Rattle.operations.proofs.Loading.{lawful-rows}
 use native.Mathlib.Omega.{arith}
-use borrow.Author.Needs.{needs}
+use Rattle.book.proofs.Counts.{plain-in, exceptions-in}
+use Rattle.operations.proofs.Loading.{front-long, front-lawful, front-filled}
 use Rattle.operations.proofs.fill.Statement.{statement}
 use Rattle.operations.proofs.fill.Tie as tie
 
-add-m : tie.Need-add-m
-add-m c = search needs
-
-mul-m : tie.Need-mul-m
-mul-m c = search needs
-
-mul-m-2 : tie.Need-mul-m-2
-mul-m-2 c = search needs
-
-add-m-2 : tie.Need-add-m-2
-add-m-2 c = search needs
+row-numbers-requires : tie.Need-row-numbers-requires
+row-numbers-requires c κs = c .pre .limits
 
 slice-aggregate-pack : tie.Need-slice-aggregate-pack
-slice-aggregate-pack c = search needs
+slice-aggregate-pack c = front-long (c .before .before .args .s) (c .before .before .args .rows .now) (c .before .row-numbers .result) (c .before .row-numbers .ensures) (c .before .before .pre)
 
 pack-requires : tie.Need-pack-requires
-pack-requires c κs = (lawful-rows _ _ (c .before .before .before .before .pre), omega (arith, c .before .before .before .before .pre .plain, c .before .before .before .before .pre .exceptions))
+pack-requires c κs = (front-lawful (c .before .before .before .args .s) (c .before .before .before .args .rows .now) (c .before .before .row-numbers .result) (c .before .before .row-numbers .ensures) (c .before .before .before .pre), omega (arith, plain-in _ (c .before .before .before .pre .limits), exceptions-in _ (c .before .before .before .pre .limits)))
 
 slice-aggregate-rank : tie.Need-slice-aggregate-rank
-slice-aggregate-rank c = search needs
+slice-aggregate-rank c = front-long (c .before .before .before .before .before .args .s) (c .before .before .before .before .before .args .rows .now) (c .before .before .before .before .row-numbers .result) (c .before .before .before .before .row-numbers .ensures) (c .before .before .before .before .before .pre)
 
 rank-requires : tie.Need-rank-requires
-rank-requires c κs = (lawful-rows _ _ (c .before .before .before .before .before .before .before .pre), omega (arith, c .before .before .before .before .before .before .before .pre .exceptions), omega arith)
+rank-requires c κs = (front-lawful (c .before .before .before .before .before .before .args .s) (c .before .before .before .before .before .before .args .rows .now) (c .before .before .before .before .before .row-numbers .result) (c .before .before .before .before .before .row-numbers .ensures) (c .before .before .before .before .before .before .pre), omega (arith, exceptions-in _ (c .before .before .before .before .before .before .pre .limits)), omega arith)
 
 returns : tie.Need-returns
-returns c = record { packs = c .before .before .before .pack .ensures; ranked = c .rank .ensures }
+returns c = front-filled (c .before .before .before .before .before .before .before .args .s) (c .before .before .before .before .before .before .before .args .rows .now) (c .before .before .before .before .before .before .row-numbers .result) (c .before .before .before .before .before .before .row-numbers .ensures) (c .before .before .before .before .before .before .before .pre) _ _ (c .before .before .before .pack .ensures) (c .rank .ensures)
 
 pub fill-spec : {M : Type 1} → statement M
 fill-spec =
     tie.close
     (tie.spec
-    add-m
-    mul-m
-    mul-m-2
-    add-m-2
+    row-numbers-requires
     slice-aggregate-pack
     pack-requires
     slice-aggregate-rank

@@ -21,11 +21,11 @@ returns-3 c = λ e. found-not _ e
 none-requires : tie.Need-none-requires
 none-requires c κs = search needs
 
-probe-requires : tie.Need-probe-requires
-probe-requires c κs = search needs
+ask-requires : tie.Need-ask-requires
+ask-requires c κs = search needs
 
 returns-4 : tie.Need-returns-4
-returns-4 c = λ e. record { none = c .probe .ensures .none e }
+returns-4 c = λ e. record { none = c .ask .ensures .none e }
 
 pub glimpse-spec : {M : Type 1} → statement M
 glimpse-spec =
@@ -37,5 +37,5 @@ glimpse-spec =
     within-requires-2
     returns-3
     none-requires
-    probe-requires
+    ask-requires
     returns-4)

@@ -1,19 +1,22 @@
-use Rattle.meaning.specs.Meant.{bookOf}
-use borrow.Author.Needs.{needs}
 use mathlib.Core.Path.{_≡_, refl}
 use Prim.Native.Nat.{_-_, _≤_}
 use native.Mathlib.Omega.{arith}
 use lib.ListN.{length, length-set}
+use borrow.Author.Needs.{needs}
+use Rattle.meaning.specs.Meant.{bookOf}
 use Rattle.prepare.specs.Ranking.{LinesTo}
 use Rattle.prepare.proofs.Ranking.{lines-start, lines-set, lines-over}
 use Rattle.prepare.proofs.lines.Statement.{statement}
 use Rattle.prepare.proofs.lines.Tie as tie
 
 abbrev Inv-loop : tie.InvT-loop
-Inv-loop shape rows ranks₀ a₀ ranks a = (a ≤ length ranks₀) × (length ranks ≡ length ranks₀) × LinesTo (bookOf shape rows .preferences) ranks a
+Inv-loop shape rows ranks₀ from a₀ ranks a = (a ≤ length ranks₀) × (length ranks ≡ length ranks₀) × LinesTo (bookOf shape rows .preferences) ranks a
 
 abbrev μ-loop : tie.MeasureT-loop
-μ-loop shape rows ranks₀ a₀ ranks a = length ranks₀ - a
+μ-loop shape rows ranks₀ from a₀ ranks a = length ranks₀ - a
+
+start-of-requires : tie.Need-start-of-requires Inv-loop μ-loop
+start-of-requires c κs = (omega arith, c .before .pre .limits)
 
 loop-holds : tie.Need-loop-holds Inv-loop μ-loop
 loop-holds c = (omega arith, refl, lines-start _ _)
@@ -22,7 +25,7 @@ add-lines-from : tie.Need-add-lines-from Inv-loop μ-loop
 add-lines-from c = search needs
 
 lines-from-requires : tie.Need-lines-from-requires Inv-loop μ-loop
-lines-from-requires c κs = c .before .before .before .pre
+lines-from-requires c κs = (c .before .before .before .before .pre, c .before .before .start-of .ensures)
 
 mul-ranks : tie.Need-mul-ranks Inv-loop μ-loop
 mul-ranks c = search needs
@@ -51,6 +54,7 @@ lines-spec =
     (tie.spec
     Inv-loop
     μ-loop
+    start-of-requires
     loop-holds
     add-lines-from
     lines-from-requires

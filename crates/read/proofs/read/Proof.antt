@@ -1,5 +1,5 @@
 use native.Mathlib.Omega.{arith}
-use Rattle.read.proofs.Whole.{read-refused, book-counts, rows-long, read-short, read-whole}
+use Rattle.read.proofs.Whole.{read-refused, book-limits, few-numbers, rows-long, read-short, read-whole}
 use borrow.Author.Needs.{needs}
 use Rattle.read.proofs.read.Statement.{statement}
 use Rattle.read.proofs.read.Tie as tie
@@ -21,16 +21,15 @@ row-numbers-requires c κs =
     let parsed = c .before .parsed2 in
     let parse = c .before .before .before .parse in
     let args = c .before .before .before .before .before .before .before .args in
-    let b = book-counts _ (args .table .now) _ _ (parse .ensures) (parsed .given .0 .0) (search needs) in
-    (b .1, b .2, b .3)
+    book-limits _ (args .table .now) _ _ (parse .ensures) (parsed .given .0 .0) (search needs)
 
 add-if1 : tie.Need-add-if1
 add-if1 c =
     let parsed = c .before .before .parsed2 in
     let parse = c .before .before .before .before .parse in
     let args = c .before .before .before .before .before .before .before .before .args in
-    let b = book-counts _ (args .table .now) _ _ (parse .ensures) (parsed .given .0 .0) (search needs) in
-    omega (arith, b .1, b .2, b .3, c .row-numbers .ensures)
+    let b = few-numbers _ (args .table .now) _ _ (parse .ensures) (parsed .given .0 .0) (search needs) in
+    omega (arith, b, c .row-numbers .ensures)
 
 refused-requires : tie.Need-refused-requires
 refused-requires c κs = search needs
@@ -48,9 +47,9 @@ put-table-requires c κs =
     let parsed = c .before .before .before .before .before .before .parsed2 in
     let parse = c .before .before .before .before .before .before .before .before .parse in
     let args = c .before .before .before .before .before .before .before .before .before .before .before .before .args in
-    let b = book-counts _ (args .table .now) _ _ (parse .ensures) (parsed .given .0 .0) (search needs) in
+    let b = book-limits _ (args .table .now) _ _ (parse .ensures) (parsed .given .0 .0) (search needs) in
     let l = rows-long _ (args .table .now) _ _ (parse .ensures) (parsed .given .0 .0) (search needs) in
-    (omega arith, omega (arith, l, row-numbers .ensures), omega (arith, b .0), omega (arith, b .1), omega (arith, b .2), omega (arith, b .3))
+    (omega arith, omega (arith, l, row-numbers .ensures), b)
 
 returns-2 : tie.Need-returns-2
 returns-2 c = read-refused _ _ _ _ (c .before .before .before .parse .ensures) _ (search needs)

@@ -1,100 +1,56 @@
 use mathlib.Core.Path.{ap}
-use Rattle.cursor.specs.declared.Cursor.{Cursor}
-use Prim.Native.Nat.{_-_}
-use mathlib.Core.Path.{_∙_}
 use native.Mathlib.Omega.{arith}
 use borrow.Author.Needs.{needs}
-use lib.ListN.{length}
-use Rattle.book.specs.Kinds.{exception}
-use Rattle.read.proofs.Going.{Going, going-start, going-bad, going-kind, going-next, going-end, refused-is, longest-small, going-line, going-n, going-count, going-rows, going-room, going-to, row-small}
+use Rattle.cursor.specs.declared.Cursor.{Cursor}
+use Rattle.read.proofs.Going.{alone-more, alone-refused, alone-whole}
 use Rattle.read.proofs.read_lines.Statement.{statement}
 use Rattle.read.proofs.read_lines.Tie as tie
 
-abbrev Inv-loop : tie.InvT-loop
-Inv-loop text t₀ st₀ c₀ to₀ t st c to = Going text t₀ t st c to
-
-abbrev μ-loop : tie.MeasureT-loop
-μ-loop text t₀ st₀ c₀ to₀ t st c to = length text - c .at
-
-empty-requires : tie.Need-empty-requires Inv-loop μ-loop
-empty-requires c κs = search needs
-
-first-requires : tie.Need-first-requires Inv-loop μ-loop
+first-requires : tie.Need-first-requires
 first-requires c κs = search needs
 
-loop-holds : tie.Need-loop-holds Inv-loop μ-loop
-loop-holds c = going-start _ _ _ _ (search needs) (search needs)
+read-book-requires : tie.Need-read-book-requires
+read-book-requires c κs = (omega (arith, ap (λ (x : Cursor). x .at) (c .before .first .ensures)), omega (arith, ap (λ (x : Cursor). x .line) (c .before .first .ensures)), c .before .before .before .pre .0, c .before .before .before .pre .1, search needs)
 
-line-length-requires : tie.Need-line-length-requires Inv-loop μ-loop
-line-length-requires c κs = omega arith
-
-read-line-requires : tie.Need-read-line-requires Inv-loop μ-loop
-read-line-requires c κs = (c .before .line-length .ensures .1, going-room _ _ _ _ _ _ (c .before .before .before .before .loop .inv) (c .before .before .before .before .before .before .before .before .pre .0) (c .before .before .before .before .before .before .before .before .pre .2), going-n _ _ _ _ _ _ (c .before .before .before .before .loop .inv) (c .before .before .before .before .before .before .before .before .pre .0), going-count _ _ _ _ _ _ (c .before .before .before .before .loop .inv) (c .before .before .before .before .before .before .before .before .pre .0) exception, going-rows _ _ _ _ _ _ (c .before .before .before .before .loop .inv) (c .before .before .before .before .before .before .before .before .pre .0))
-
-enum-known-found : tie.Need-enum-known-found Inv-loop μ-loop
+enum-known-found : tie.Need-enum-known-found
 enum-known-found c = search needs
 
-refused-requires : tie.Need-refused-requires Inv-loop μ-loop
-refused-requires c κs = search needs
-
-same-length : tie.Need-same-length Inv-loop μ-loop
-same-length c = search needs
-
-returns : tie.Need-returns Inv-loop μ-loop
-returns c = refused-is _ _ _ _ (c .refused .ensures) ∙ going-bad _ _ _ (c .before .before .before .before .before .read-line .last .1 .1 .1 .1 .0) _ _ _ (c .before .before .before .before .before .before .before .line-length .result) (c .before .before .before .before .before .before .before .before .before .before .loop .inv) (search needs) (search needs) (c .before .before .before .before .before .before .before .line-length .ensures .0) (c .before .before .before .before .before .read-line .result) (c .before .before .before .before .before .read-line .ensures) _ (search needs)
-
-enum-known-found-2 : tie.Need-enum-known-found-2 Inv-loop μ-loop
+enum-known-found-2 : tie.Need-enum-known-found-2
 enum-known-found-2 c = search needs
 
-stepped-requires : tie.Need-stepped-requires Inv-loop μ-loop
-stepped-requires c κs = (going-kind _ _ _ (c .before .before .before .before .read-line .last .1 .1 .1 .1 .0) _ _ _ (c .before .before .before .before .before .before .line-length .result) (c .before .before .before .before .before .before .before .before .before .loop .inv) (search needs) (search needs) (c .before .before .before .before .before .before .line-length .ensures .0) (c .before .before .before .before .read-line .result) (c .before .before .before .before .read-line .ensures) _ (c .before .found2 .given .0 .1 .0) (search needs), going-count _ _ _ _ _ _ (c .before .before .before .before .before .before .before .before .before .loop .inv) (c .before .before .before .before .before .before .before .before .before .before .before .before .before .pre .0) _, going-rows _ _ _ _ _ _ (c .before .before .before .before .before .before .before .before .before .loop .inv) (c .before .before .before .before .before .before .before .before .before .before .before .before .before .pre .0))
+refused-requires : tie.Need-refused-requires
+refused-requires c κs = search needs
 
-row-width-requires : tie.Need-row-width-requires Inv-loop μ-loop
-row-width-requires c κs = going-kind _ _ _ (c .before .before .before .before .before .read-line .last .1 .1 .1 .1 .0) _ _ _ (c .before .before .before .before .before .before .before .line-length .result) (c .before .before .before .before .before .before .before .before .before .before .loop .inv) (search needs) (search needs) (c .before .before .before .before .before .before .before .line-length .ensures .0) (c .before .before .before .before .before .read-line .result) (c .before .before .before .before .before .read-line .ensures) _ (c .before .before .found2 .given .0 .1 .0) (search needs)
+same-length : tie.Need-same-length
+same-length c = search needs
 
-add-to : tie.Need-add-to Inv-loop μ-loop
-add-to c = omega (arith, going-to _ _ _ _ _ _ (c .before .before .before .before .before .before .before .before .before .before .before .loop .inv) (c .before .before .before .before .before .before .before .before .before .before .before .before .before .before .before .pre .0), c .row-width .ensures, row-small (c .before .before .before .found2 .given .0 .0) (going-kind _ _ _ (c .before .before .before .before .before .before .read-line .last .1 .1 .1 .1 .0) _ _ _ (c .before .before .before .before .before .before .before .before .line-length .result) (c .before .before .before .before .before .before .before .before .before .before .before .loop .inv) (search needs) (search needs) (c .before .before .before .before .before .before .before .before .line-length .ensures .0) (c .before .before .before .before .before .before .read-line .result) (c .before .before .before .before .before .before .read-line .ensures) (c .before .before .before .found2 .given .0 .0) (c .before .before .before .found2 .given .0 .1 .0) (search needs)))
+returns : tie.Need-returns
+returns c = alone-more _ (c .before .before .before .before .before .before .before .read-book .result) _ _ (c .before .before .before .before .before .before .before .before .before .first .ensures) (c .before .before .before .before .before .before .before .read-book .ensures) (c .before .before .before .before .before .before .before .before .before .before .before .pre .1) (c .before .before .before .before .found2 .given .0 .0) (c .before .before .before .before .found2 .given .0 .1 .0) _ (search needs) (search needs) (c .refused .ensures)
 
-past-requires : tie.Need-past-requires Inv-loop μ-loop
-past-requires c κs = (omega (arith, c .before .before .before .before .before .before .before .before .line-length .ensures .1, c .before .before .before .before .before .before .before .before .before .before .before .before .before .before .before .pre .0, longest-small), going-line _ _ _ _ _ _ (c .before .before .before .before .before .before .before .before .before .before .before .loop .inv) (c .before .before .before .before .before .before .before .before .before .before .before .before .before .before .before .pre .0))
-
-loop-less : tie.Need-loop-less Inv-loop μ-loop
-loop-less c = omega (arith, ap (λ (x : Cursor). x .at) (c .past .ensures))
-
-loop-again : tie.Need-loop-again Inv-loop μ-loop
-loop-again c = going-next _ _ _ (c .before .before .before .before .before .before .before .read-line .last .1 .1 .1 .1 .0) (c .before .before .before .before .before .before .before .before .before .before .before .before .loop .st) (c .before .before .before .before .before .before .before .before .before .before .before .before .loop .c) (c .before .before .before .before .before .before .before .before .before .before .before .before .loop .to) (c .before .before .before .before .before .before .before .before .before .line-length .result) (c .before .before .before .before .before .before .before .before .before .before .before .before .loop .inv) (search needs) (search needs) (c .before .before .before .before .before .before .before .before .before .line-length .ensures .0) (c .before .before .before .before .before .before .before .read-line .result) (c .before .before .before .before .before .before .before .read-line .ensures) _ _ (search needs) (c .before .before .before .before .before .before .before .before .before .before .before .before .before .before .before .before .pre .2) (c .before .before .before .before .before .before .before .before .before .before .before .before .before .before .before .before .pre .0) _ _ _ (c .before .before .stepped .ensures) (c .before .row-width .ensures) (c .past .ensures)
-
-ended-requires : tie.Need-ended-requires Inv-loop μ-loop
-ended-requires c κs = search needs
-
-same-length-2 : tie.Need-same-length-2 Inv-loop μ-loop
+same-length-2 : tie.Need-same-length-2
 same-length-2 c = search needs
 
-returns-2 : tie.Need-returns-2 Inv-loop μ-loop
-returns-2 c = going-end _ _ _ _ _ _ _ (c .before .before .before .loop .inv) (omega arith) (c .before .before .before .before .before .before .before .pre .0) (c .before .before .before .before .before .before .before .pre .1) (c .before .before .before .before .before .before .before .pre .2) (c .ended .ensures)
+returns-2 : tie.Need-returns-2
+returns-2 c = alone-refused _ (c .before .before .before .before .read-book .result) _ _ (c .before .before .before .before .before .before .first .ensures) (c .before .before .before .before .read-book .ensures) (c .before .before .before .before .before .before .before .before .pre .1) _ (search needs)
+
+same-length-3 : tie.Need-same-length-3
+same-length-3 c = search needs
+
+returns-3 : tie.Need-returns-3
+returns-3 c = alone-whole _ (c .before .before .before .before .before .before .read-book .result) _ _ (c .before .before .before .before .before .before .before .before .first .ensures) (c .before .before .before .before .before .before .read-book .ensures) (c .before .before .before .before .before .before .before .before .before .before .pre .1) _ (c .before .before .before .found2 .given .0 .1 .0) (search needs) (omega arith)
 
 pub read-lines-spec : {M : Type 1} → statement M
 read-lines-spec =
     tie.close
     (tie.spec
-    Inv-loop
-    μ-loop
-    empty-requires
     first-requires
-    loop-holds
-    line-length-requires
-    read-line-requires
+    read-book-requires
     enum-known-found
+    enum-known-found-2
     refused-requires
     same-length
     returns
-    enum-known-found-2
-    stepped-requires
-    row-width-requires
-    add-to
-    past-requires
-    loop-less
-    loop-again
-    ended-requires
     same-length-2
-    returns-2)
+    returns-2
+    same-length-3
+    returns-3)

@@ -1,5 +1,5 @@
 use mathlib.Core.Path.{refl}
-use Rattle.walk.proofs.Plans.{refuted-none, marks-same, collected-none, collected-some, admits-marked, admits-none, admits-beyond, admits-short, admits-refused}
+use Rattle.walk.proofs.Plans.{refuted-none, collected-none, collected-some, admits-marked, admits-none, admits-beyond, admits-short, admits-refused}
 use borrow.Author.Needs.{needs}
 use Rattle.walk.proofs.admits.Statement.{statement}
 use Rattle.walk.proofs.admits.Tie as tie
@@ -40,8 +40,17 @@ refused-requires-4 c κs = search needs
 returns-4 : tie.Need-returns-4
 returns-4 c = let f = refuted-none _ _ _ _ _ _ _ _ _ refl (c .before .before .before .before .before .before .narrowed .ensures) (c .before .before .before .before .within .ensures) (search needs) in admits-refused _ _ _ _ _ _ _ _ _ _ _ (c .refused4 .ensures) (admits-none _ _ _ _ _ _ _ _ f (c .before .mark-around .ensures f))
 
+fuel-for-requires : tie.Need-fuel-for-requires
+fuel-for-requires c κs = search needs
+
 collect-requires : tie.Need-collect-requires
-collect-requires c κs = (c .before .before .before .before .before .before .before .before .before .before .before .before .before .before .before .pre .0, c .before .before .before .before .before .before .before .before .before .before .before .before .before .before .before .pre .1, c .before .before .before .before .before .before .before .before .before .before .before .before .before .before .before .pre .3, c .before .before .before .before .before .before .before .before .before .before .before .before .before .before .before .pre .4)
+collect-requires c κs = (c .before .before .before .before .before .before .before .before .before .before .before .before .before .before .before .before .pre .0, c .before .before .before .before .before .before .before .before .before .before .before .before .before .before .before .before .pre .1, c .before .before .before .before .before .before .before .before .before .before .before .before .before .before .before .before .pre .3, c .before .before .before .before .before .before .before .before .before .before .before .before .before .before .before .before .pre .4)
+
+wrapping-add-u64-requires : tie.Need-wrapping-add-u64-requires
+wrapping-add-u64-requires c κs = search needs
+
+mark-shaven-requires : tie.Need-mark-shaven-requires
+mark-shaven-requires c κs = (c .before .before .before .before .before .before .before .before .before .before .before .before .before .before .before .before .before .before .before .before .before .before .before .pre .0, c .before .before .before .before .before .before .before .before .before .before .before .before .before .before .before .before .before .before .before .before .before .before .before .pre .1, c .before .before .before .before .before .before .before .before .before .before .before .before .before .before .before .before .before .before .before .before .before .before .before .pre .3)
 
 refused-requires-5 : tie.Need-refused-requires-5
 refused-requires-5 c κs = search needs
@@ -50,16 +59,16 @@ same-length : tie.Need-same-length
 same-length c = search needs
 
 returns-5 : tie.Need-returns-5
-returns-5 c = admits-refused _ _ _ _ _ _ _ _ _ _ _ (c .refused5 .ensures) (admits-none _ _ _ _ _ _ _ _ (collected-none _ _ _ _ _ _ (c .before .before .before .before .before .before .before .before .before .narrowed .ensures) _ _ _ (c .before .before .before .before .collect .ensures) (c .before .before .before .before .before .before .before .before .before .before .before .before .before .before .before .before .before .before .before .before .pre .5) (search needs)) (marks-same _ _ _ _ _))
+returns-5 c = let f = collected-none _ _ _ _ _ _ (c .before .before .before .before .before .before .before .before .before .before .before .before .before .before .narrowed .ensures) _ _ _ (c .before .before .before .before .before .before .before .before .collect .ensures) (c .before .before .before .before .before .before .before .before .before .before .before .before .before .before .before .before .before .before .before .before .before .before .before .before .before .pre .5) (search needs) in admits-refused _ _ _ _ _ _ _ _ _ _ _ (c .refused5 .ensures) (admits-none _ _ _ _ _ _ _ _ f (c .before .mark-shaven .ensures f))
 
 tested-requires : tie.Need-tested-requires
-tested-requires c κs = (c .before .before .before .before .before .before .before .before .before .before .before .before .before .before .before .before .before .before .before .before .pre .0, c .before .before .before .before .before .before .before .before .before .before .before .before .before .before .before .before .before .before .before .before .pre .1, c .before .before .before .before .before .before .before .before .before .before .before .before .before .before .before .before .before .before .before .before .pre .2, c .before .before .before .before .before .before .before .before .before .before .before .before .before .before .before .before .before .before .before .before .pre .3)
+tested-requires c κs = (c .before .before .before .before .before .before .before .before .before .before .before .before .before .before .before .before .before .before .before .before .before .before .pre .0, c .before .before .before .before .before .before .before .before .before .before .before .before .before .before .before .before .before .before .before .before .before .before .pre .1, c .before .before .before .before .before .before .before .before .before .before .before .before .before .before .before .before .before .before .before .before .before .before .pre .2, c .before .before .before .before .before .before .before .before .before .before .before .before .before .before .before .before .before .before .before .before .before .before .pre .3)
 
 same-length-2 : tie.Need-same-length-2
 same-length-2 c = search needs
 
 returns-6 : tie.Need-returns-6
-returns-6 c = (c .tested .ensures (collected-some _ _ _ _ _ _ (c .before .before .before .before .before .before .before .before .before .before .narrowed .ensures) _ _ _ (c .before .before .before .before .before .collect .ensures) (search needs)), record { propagated = λ e. c .before .before .before .before .before .before .before .before .before .before .narrowed .ensures }, λ e. c .before .before .before .before .before .collect .ensures)
+returns-6 c = (c .tested .ensures (collected-some _ _ _ _ _ _ (c .before .before .before .before .before .before .before .before .before .before .before .before .narrowed .ensures) _ _ _ (c .before .before .before .before .before .before .collect .ensures) (search needs)), record { propagated = λ e. c .before .before .before .before .before .before .before .before .before .before .before .before .narrowed .ensures }, λ e. c .before .before .before .before .before .before .collect .ensures)
 
 pub admits-spec : {M : Type 1} → statement M
 admits-spec =
@@ -77,7 +86,10 @@ admits-spec =
     mark-around-requires
     refused-requires-4
     returns-4
+    fuel-for-requires
     collect-requires
+    wrapping-add-u64-requires
+    mark-shaven-requires
     refused-requires-5
     same-length
     returns-5

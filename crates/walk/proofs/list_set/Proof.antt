@@ -20,7 +20,7 @@ returns : tie.Need-returns
 returns c = set-refused _ _ _ _ _ _ _ _ _ _ _ (c .before .before .before .before .admits .ensures .0) _ (search needs) (c .before .before .before .before .before .before .before .before .before .before .before .before .before .pre .0 .place)
 
 list-requires : tie.Need-list-requires
-list-requires c κs = (c .before .before .before .before .before .before .before .before .before .before .before .before .before .before .before .pre .0, c .before .before .before .before .before .before .before .before .before .before .before .before .before .before .before .pre .2, store-for _ _ _ (c .before .before .before .before .before .before .before .before .before .limit .ensures .1) (c .before .before .before .before .before .before .before .before .before .before .before .before .before .before .before .pre .3) (c .before .before .before .before .before .before .admits .kept .1 .1 .1 .1 .1 .1 .1 .1 .1 .0))
+list-requires c κs = (c .before .before .before .before .before .before .before .before .before .before .before .before .before .before .before .pre .0, c .before .before .before .before .before .before .before .before .before .before .before .before .before .before .before .pre .2, store-for _ _ _ (c .before .before .before .before .before .before .before .before .before .limit .ensures .1) (c .before .before .before .before .before .before .before .before .before .before .before .before .before .before .before .pre .3) (c .before .before .before .before .before .before .admits .kept .1 .1 .1 .1 .1 .1 .1 .1 .1 .1 .0))
 
 same-length-2 : tie.Need-same-length-2
 same-length-2 c = search needs

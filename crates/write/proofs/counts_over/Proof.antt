@@ -1,43 +1,56 @@
+use mathlib.Core.Path.{_≡_, refl}
+use Prim.Native.Nat.{_-_, _≤_}
+use native.Mathlib.Omega.{arith}
+use lib.ListN.{drop}
 use borrow.Author.Needs.{needs}
-use Rattle.write.proofs.TableLaws.{counts-or}
+use Rattle.logic.specs.Tests.{some}
+use Rattle.book.specs.Kinds.{kinds, none}
+use Rattle.text.specs.Tables.{miscount}
+use Rattle.write.proofs.TableLaws.{kind-limit, kind-count, some-found, some-next, some-end}
 use Rattle.write.proofs.counts_over.Statement.{statement}
 use Rattle.write.proofs.counts_over.Tie as tie
 
-number-at-requires : tie.Need-number-at-requires
-number-at-requires c κs = search needs
+abbrev Inv-loop : tie.InvT-loop
+Inv-loop t k₀ k = (k ≤ none) × (some (miscount t) (drop k kinds) ≡ some (miscount t) kinds)
 
-number-at-requires-2 : tie.Need-number-at-requires-2
-number-at-requires-2 c κs = search needs
+abbrev μ-loop : tie.MeasureT-loop
+μ-loop t k₀ k = none - k
 
-number-at-requires-3 : tie.Need-number-at-requires-3
-number-at-requires-3 c κs = search needs
+loop-holds : tie.Need-loop-holds Inv-loop μ-loop
+loop-holds c = (omega arith, refl)
 
-count-over-requires : tie.Need-count-over-requires
-count-over-requires c κs = search needs
+kind-at-requires : tie.Need-kind-at-requires Inv-loop μ-loop
+kind-at-requires c κs = omega arith
 
-count-over-requires-2 : tie.Need-count-over-requires-2
-count-over-requires-2 c κs = search needs
+count-over-requires : tie.Need-count-over-requires Inv-loop μ-loop
+count-over-requires c κs = (kind-count (c .kind-at .result) (c .before .before .loop .k) _ (c .kind-at .ensures) (search needs) (search needs), kind-limit (c .kind-at .result) (c .before .before .loop .k) (c .kind-at .ensures) (search needs))
 
-count-over-requires-3 : tie.Need-count-over-requires-3
-count-over-requires-3 c κs = search needs
+returns : tie.Need-returns Inv-loop μ-loop
+returns c = some-found (miscount (c .before .before .before .before .before .args .t .now)) (c .before .before .before .before .loop .k) (search needs) (c .before .before .kind-at .result) (c .before .before .kind-at .ensures) (c .before .count-over .result) (c .before .count-over .ensures) (c .before .before .before .before .loop .inv .1) (search needs)
 
-returns : tie.Need-returns
-returns c =
-    let count-over = c .before .before .count-over in
-    let number-at3 = c .before .before .before .number-at3 in
-    let number-at2 = c .before .before .before .before .number-at2 in
-    let number-at = c .before .before .before .before .before .number-at in
-    let args = c .before .before .before .before .before .before .args in
-    counts-or (args .t .now) (number-at .result) (number-at2 .result) (number-at3 .result) _ _ _ (number-at .ok) (number-at2 .ok) (number-at3 .ok) (number-at .ensures) (number-at2 .ensures) (number-at3 .ensures) (count-over .ensures) (c .before .count-over2 .ensures) (c .count-over3 .ensures)
+add-k : tie.Need-add-k Inv-loop μ-loop
+add-k c = omega arith
+
+loop-less : tie.Need-loop-less Inv-loop μ-loop
+loop-less c = omega arith
+
+loop-again : tie.Need-loop-again Inv-loop μ-loop
+loop-again c = (omega arith, some-next (miscount (c .before .before .before .before .before .args .t .now)) (c .before .before .before .before .loop .k) (search needs) (c .before .before .kind-at .result) (c .before .before .kind-at .ensures) (c .before .count-over .result) (c .before .count-over .ensures) (c .before .before .before .before .loop .inv .1) (search needs))
+
+returns-2 : tie.Need-returns-2 Inv-loop μ-loop
+returns-2 c = some-end _ (c .before .loop .k) (omega arith) (c .before .loop .inv .1)
 
 pub counts-over-spec : {M : Type 1} → statement M
 counts-over-spec =
     tie.close
     (tie.spec
-    number-at-requires
-    number-at-requires-2
-    number-at-requires-3
+    Inv-loop
+    μ-loop
+    loop-holds
+    kind-at-requires
     count-over-requires
-    count-over-requires-2
-    count-over-requires-3
-    returns)
+    returns
+    add-k
+    loop-less
+    loop-again
+    returns-2)

@@ -1,7 +1,8 @@
 use native.Mathlib.Omega.{arith}
 use lib.ListN.{length-set}
 use borrow.Author.Needs.{needs}
-use Rattle.write.proofs.PutLaws.{kind-nine, short-part, put-line-is, line-in, fields-in}
+use Rattle.book.proofs.Counts.{kind-small}
+use Rattle.write.proofs.PutLaws.{short-part, put-line-is, line-in, fields-in}
 use Rattle.write.proofs.put_line.Statement.{statement}
 use Rattle.write.proofs.put_line.Tie as tie
 
@@ -32,7 +33,7 @@ mul-buf c =
     let kind-at = c .before .before .before .before .kind-at in
     let args = c .before .before .before .before .before .before .args in
     let pre = c .before .before .before .before .before .before .pre in
-    omega (arith, kind-nine (kind-at .result) (args .k) (kind-at .ensures) (pre .0))
+    omega (arith, kind-small (kind-at .result) (args .k) (kind-at .ensures) (pre .0))
 
 add-buf-2 : tie.Need-add-buf-2
 add-buf-2 c =

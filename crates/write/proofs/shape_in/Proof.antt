@@ -1,52 +1,73 @@
+use Prim.Native.Nat.{ℕ, _-_}
+use native.Mathlib.Omega.{arith}
+use lib.ListN.{length-replicate}
 use borrow.Author.Needs.{needs}
-use Rattle.write.proofs.TableLaws.{shape-from}
+use Rattle.book.specs.Kinds.{none}
+use Rattle.write.proofs.TableLaws.{kind-count, Counting, counting-start, counting-next, shape-is}
 use Rattle.write.proofs.shape_in.Statement.{statement}
 use Rattle.write.proofs.shape_in.Tie as tie
 
-number-at-requires : tie.Need-number-at-requires
-number-at-requires c κs = search needs
+abbrev Inv-loop : tie.InvT-loop
+Inv-loop t counts₀ k₀ counts k = Counting t counts k
 
-number-at-requires-2 : tie.Need-number-at-requires-2
-number-at-requires-2 c κs = search needs
+abbrev μ-loop : tie.MeasureT-loop
+μ-loop t counts₀ k₀ counts k = none - k
 
-number-at-requires-3 : tie.Need-number-at-requires-3
-number-at-requires-3 c κs = search needs
+loop-holds : tie.Need-loop-holds Inv-loop μ-loop
+loop-holds c = counting-start _ _ (length-replicate {A = ℕ} none 0)
 
-number-at-requires-4 : tie.Need-number-at-requires-4
-number-at-requires-4 c κs = search needs
+kind-at-requires : tie.Need-kind-at-requires Inv-loop μ-loop
+kind-at-requires c κs = omega arith
 
-to-nat-requires : tie.Need-to-nat-requires
+number-at-requires : tie.Need-number-at-requires Inv-loop μ-loop
+number-at-requires c κs = kind-count (c .kind-at .result) (c .before .before .loop .k) _ (c .kind-at .ensures) (omega arith) (search needs)
+
+to-nat-requires : tie.Need-to-nat-requires Inv-loop μ-loop
 to-nat-requires c κs = search needs
 
-to-nat-requires-2 : tie.Need-to-nat-requires-2
+mul-counts : tie.Need-mul-counts Inv-loop μ-loop
+mul-counts c = search needs
+
+array-write-counts : tie.Need-array-write-counts Inv-loop μ-loop
+array-write-counts c = omega (arith, c .before .before .before .before .loop .inv .long)
+
+add-k : tie.Need-add-k Inv-loop μ-loop
+add-k c = omega arith
+
+loop-less : tie.Need-loop-less Inv-loop μ-loop
+loop-less c = omega arith
+
+loop-again : tie.Need-loop-again Inv-loop μ-loop
+loop-again c = counting-next (c .before .before .before .before .before .args .t .now) (c .before .before .before .before .loop .counts) (c .before .before .before .before .loop .k) (c .before .before .before .before .loop .inv) (omega arith) (c .before .before .kind-at .result) (c .before .before .kind-at .ensures) (c .before .number-at .result) (c .before .number-at .ok) (c .before .number-at .ensures) (c .to-nat .result) (c .to-nat .ensures .0)
+
+number-at-requires-2 : tie.Need-number-at-requires-2 Inv-loop μ-loop
+number-at-requires-2 c κs = omega arith
+
+to-nat-requires-2 : tie.Need-to-nat-requires-2 Inv-loop μ-loop
 to-nat-requires-2 c κs = search needs
 
-to-nat-requires-3 : tie.Need-to-nat-requires-3
-to-nat-requires-3 c κs = search needs
+shape-from-requires : tie.Need-shape-from-requires Inv-loop μ-loop
+shape-from-requires c κs = search needs
 
-to-nat-requires-4 : tie.Need-to-nat-requires-4
-to-nat-requires-4 c κs = search needs
-
-returns : tie.Need-returns
-returns c =
-    let to-nat2 = c .before .before .to-nat2 in
-    let to-nat = c .before .before .before .to-nat in
-    let number-at4 = c .before .before .before .before .number-at4 in
-    let number-at3 = c .before .before .before .before .before .number-at3 in
-    let number-at2 = c .before .before .before .before .before .before .number-at2 in
-    let number-at = c .before .before .before .before .before .before .before .number-at in
-    shape-from _ (number-at .result) (number-at2 .result) (number-at3 .result) (number-at4 .result) _ _ _ _ (number-at .ok) (number-at2 .ok) (number-at3 .ok) (number-at4 .ok) (number-at .ensures) (number-at2 .ensures) (number-at3 .ensures) (number-at4 .ensures) (to-nat .ensures .0) (to-nat2 .ensures .0) (c .before .to-nat3 .ensures .0) (c .to-nat4 .ensures .0)
+returns : tie.Need-returns Inv-loop μ-loop
+returns c = shape-is (c .before .before .before .before .before .args .t .now) (c .before .before .before .before .loop .counts) (c .before .before .before .before .loop .k) (c .before .before .before .before .loop .inv) (omega arith) (c .before .before .number-at2 .result) (c .before .to-nat2 .result) (c .before .before .number-at2 .ok) (c .before .before .number-at2 .ensures) (c .before .to-nat2 .ensures .0) _ (c .shape-from .ensures)
 
 pub shape-in-spec : {M : Type 1} → statement M
 shape-in-spec =
     tie.close
     (tie.spec
+    Inv-loop
+    μ-loop
+    loop-holds
+    kind-at-requires
     number-at-requires
-    number-at-requires-2
-    number-at-requires-3
-    number-at-requires-4
     to-nat-requires
+    mul-counts
+    array-write-counts
+    add-k
+    loop-less
+    loop-again
+    number-at-requires-2
     to-nat-requires-2
-    to-nat-requires-3
-    to-nat-requires-4
+    shape-from-requires
     returns)

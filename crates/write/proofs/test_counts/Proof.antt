@@ -1,6 +1,6 @@
 use native.Mathlib.Omega.{arith}
 use borrow.Author.Needs.{needs}
-use Rattle.write.proofs.TableLaws.{table-over, shape-bounded, table-long, table-width, table-tested}
+use Rattle.write.proofs.TableLaws.{table-over, shape-bounded, few-numbers, table-long, table-tested}
 use Rattle.write.proofs.test_counts.Statement.{statement}
 use Rattle.write.proofs.test_counts.Tie as tie
 
@@ -24,7 +24,7 @@ row-numbers-requires c κs =
     let counts-over = c .before .before .counts-over in
     let args = c .before .before .before .args in
     let pre = c .before .before .before .pre in
-    let b = shape-bounded (args .t .now) (pre .0) (pre .1) (counts-over .result) (counts-over .ensures) (search needs) (c .shape-in .result) (c .shape-in .ensures) in (omega (arith, b .plain), omega (arith, b .exceptions), omega (arith, b .preferences))
+    shape-bounded (args .t .now) (pre .0) (pre .1) (counts-over .result) (counts-over .ensures) (search needs) (c .shape-in .result) (c .shape-in .ensures)
 
 add-if2 : tie.Need-add-if2
 add-if2 c =
@@ -32,7 +32,7 @@ add-if2 c =
     let counts-over = c .before .before .before .counts-over in
     let args = c .before .before .before .before .args in
     let pre = c .before .before .before .before .pre in
-    let b = shape-bounded (args .t .now) (pre .0) (pre .1) (counts-over .result) (counts-over .ensures) (search needs) (shape-in .result) (shape-in .ensures) in omega (arith, b .plain, b .exceptions, b .preferences, c .row-numbers .ensures)
+    let b = few-numbers (args .t .now) (pre .0) (pre .1) (counts-over .result) (counts-over .ensures) (search needs) (shape-in .result) (shape-in .ensures) in omega (arith, b, c .row-numbers .ensures)
 
 refused-requires-2 : tie.Need-refused-requires-2
 refused-requires-2 c κs = search needs
@@ -52,7 +52,7 @@ test-rows-requires c κs =
     let counts-over = c .before .before .before .before .counts-over in
     let args = c .before .before .before .before .before .args in
     let pre = c .before .before .before .before .before .pre in
-    (shape-bounded (args .t .now) (pre .0) (pre .1) (counts-over .result) (counts-over .ensures) (search needs) (shape-in .result) (shape-in .ensures), table-width (args .t .now) (pre .0) (pre .1) (counts-over .result) (counts-over .ensures) (search needs) (shape-in .result) (shape-in .ensures) (row-numbers .result) (row-numbers .ensures) (search needs))
+    (shape-bounded (args .t .now) (pre .0) (pre .1) (counts-over .result) (counts-over .ensures) (search needs) (shape-in .result) (shape-in .ensures), omega (arith, row-numbers .ensures))
 
 returns-3 : tie.Need-returns-3
 returns-3 c =

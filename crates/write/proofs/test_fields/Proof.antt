@@ -2,7 +2,7 @@ use Prim.Native.Nat.{_≤_, _-_}
 use mathlib.Core.Path.{refl}
 use native.Mathlib.Omega.{arith}
 use borrow.Author.Needs.{needs}
-use Rattle.book.specs.Kinds.{contents, fieldsOf}
+use Rattle.book.specs.Kinds.{contents, numbersOf}
 use Rattle.read.specs.Storing.{noneSeen}
 use Rattle.read.proofs.FieldLaws.{part, part-at, part-long}
 use Rattle.write.proofs.RowLaws.{Rest, rest-start, rest-wrong, rest-next, rest-end}
@@ -39,14 +39,14 @@ enum-known-checked : tie.Need-enum-known-checked Inv-loop μ-loop
 enum-known-checked c = search needs
 
 returns : tie.Need-returns Inv-loop μ-loop
-unfolding fieldsOf
+unfolding numbersOf
 returns c =
     let check-number = c .before .before .before .check-number in
     let number-at = c .before .before .before .before .number-at in
     let content-at = c .before .before .before .before .before .content-at in
     let loop = c .before .before .before .before .before .before .before .loop in
     let args = c .before .before .before .before .before .before .before .before .args in
-    rest-wrong (args .t .now) (args .from) (part (args .x .from) (args .x .fields)) _ _ (loop .i) (loop .seen) (rw (part-long (args .x .from) (args .x .fields) (omega arith)) (omega arith)) (omega arith) (search needs) (content-at .result) (part-at (args .x .from) (args .x .fields) _ _ (omega arith) (search needs)) (number-at .result) (number-at .ensures) (number-at .ok) (check-number .result) (check-number .ensures) _ (search needs)
+    rest-wrong (args .t .now) (args .from) (part (args .x .from) (args .x .numbers)) _ _ (loop .i) (loop .seen) (rw (part-long (args .x .from) (args .x .numbers) (omega arith)) (omega arith)) (omega arith) (search needs) (content-at .result) (part-at (args .x .from) (args .x .numbers) _ _ (omega arith) (search needs)) (number-at .result) (number-at .ensures) (number-at .ok) (check-number .result) (check-number .ensures) _ (search needs)
 
 enum-told : tie.Need-enum-told Inv-loop μ-loop
 enum-told c = search needs
@@ -67,14 +67,14 @@ loop-again c =
     let content-at = c .before .before .before .before .before .content-at in
     let loop = c .before .before .before .before .before .before .before .loop in
     let args = c .before .before .before .before .before .before .before .before .args in
-    (omega arith, rest-next (args .t .now) (args .from) (part (args .x .from) (args .x .fields)) _ _ (loop .i) (loop .seen) (rw (part-long (args .x .from) (args .x .fields) (omega arith)) (omega arith)) (omega arith) (search needs) (content-at .result) (part-at (args .x .from) (args .x .fields) _ _ (omega arith) (search needs)) (number-at .result) (number-at .ensures) (number-at .ok) (check-number .result) (check-number .ensures) _ (search needs) (c .see .ensures))
+    (omega arith, rest-next (args .t .now) (args .from) (part (args .x .from) (args .x .numbers)) _ _ (loop .i) (loop .seen) (rw (part-long (args .x .from) (args .x .numbers) (omega arith)) (omega arith)) (omega arith) (search needs) (content-at .result) (part-at (args .x .from) (args .x .numbers) _ _ (omega arith) (search needs)) (number-at .result) (number-at .ensures) (number-at .ok) (check-number .result) (check-number .ensures) _ (search needs) (c .see .ensures))
 
 returns-2 : tie.Need-returns-2 Inv-loop μ-loop
-unfolding fieldsOf
+unfolding numbersOf
 returns-2 c =
     let loop = c .before .loop in
     let args = c .before .before .args in
-    rest-end (args .t .now) (args .from) (part (args .x .from) (args .x .fields)) _ _ (loop .i) (loop .seen) (rw (part-long (args .x .from) (args .x .fields) (omega arith)) (omega arith)) (search needs)
+    rest-end (args .t .now) (args .from) (part (args .x .from) (args .x .numbers)) _ _ (loop .i) (loop .seen) (rw (part-long (args .x .from) (args .x .numbers) (omega arith)) (omega arith)) (search needs)
 
 pub test-fields-spec : {M : Type 1} → statement M
 test-fields-spec =

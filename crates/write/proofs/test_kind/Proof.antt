@@ -10,16 +10,16 @@ use Rattle.write.proofs.test_kind.Statement.{statement}
 use Rattle.write.proofs.test_kind.Tie as tie
 
 abbrev Inv-loop : tie.InvT-loop
-Inv-loop t from k c line w n m i₀ at₀ i at = (i ≤ c) × (w ≡ kind k .fields) × (at + (c - i) * w ≡ from + c * w) × Rest k t from c line n m at i
+Inv-loop t from k c line w n m i₀ at₀ i at = (i ≤ c) × (w ≡ kind k .numbers) × (at + (c - i) * w ≡ from + c * w) × Rest k t from c line n m at i
 
 abbrev μ-loop : tie.MeasureT-loop
 μ-loop t from k c line w n m i₀ at₀ i at = c - i
 
 kind-at-requires : tie.Need-kind-at-requires Inv-loop μ-loop
-kind-at-requires c κs = search needs
+kind-at-requires c κs = omega arith
 
 loop-holds : tie.Need-loop-holds Inv-loop μ-loop
-loop-holds c = (omega arith, ap (λ (y : Kind). y .fields) (c .kind-at .ensures), spread-start _ _ _, rest-start _ _ _ _ _ _ _)
+loop-holds c = (omega arith, ap (λ (y : Kind). y .numbers) (c .kind-at .ensures), spread-start _ _ _, rest-start _ _ _ _ _ _ _)
 
 test-row-requires : tie.Need-test-row-requires Inv-loop μ-loop
 test-row-requires c κs =
@@ -27,7 +27,7 @@ test-row-requires c κs =
     let kind-at = c .before .before .kind-at in
     let args = c .before .before .before .args in
     let pre = c .before .before .before .pre in
-    let g = spread-in (loop .at) (args .c) (loop .i) (kind-at .result .fields) _ (length (args .t .now)) (omega arith) (loop .inv .2) (rw (loop .inv .1) (pre .1)) in (search needs, rw (← loop .inv .1) g, search needs, search needs)
+    let g = spread-in (loop .at) (args .c) (loop .i) (kind-at .result .numbers) _ (length (args .t .now)) (omega arith) (loop .inv .2) (rw (loop .inv .1) (pre .2)) in (pre .0, pre .1, rw (← loop .inv .1) g, search needs, search needs)
 
 enum-known-checked : tie.Need-enum-known-checked Inv-loop μ-loop
 enum-known-checked c = search needs
@@ -51,7 +51,7 @@ add-at c =
     let kind-at = c .before .before .before .before .before .kind-at in
     let args = c .before .before .before .before .before .before .args in
     let pre = c .before .before .before .before .before .before .pre in
-    let g = spread-in (loop .at) (args .c) (loop .i) (kind-at .result .fields) _ (length (args .t .now)) (omega arith) (loop .inv .2) (rw (loop .inv .1) (pre .1)) in omega (arith, g)
+    let g = spread-in (loop .at) (args .c) (loop .i) (kind-at .result .numbers) _ (length (args .t .now)) (omega arith) (loop .inv .2) (rw (loop .inv .1) (pre .2)) in omega (arith, g)
 
 add-i : tie.Need-add-i Inv-loop μ-loop
 add-i c = omega arith

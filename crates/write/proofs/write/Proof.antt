@@ -13,26 +13,26 @@ enum-known-tested c = search needs
 enum-known-tested-2 : tie.Need-enum-known-tested-2
 enum-known-tested-2 c = search needs
 
-text-length-requires : tie.Need-text-length-requires
-text-length-requires c κs =
+text-bytes-requires : tie.Need-text-bytes-requires
+text-bytes-requires c κs =
     let test-table = c .before .before .before .test-table in
     let args = c .before .before .before .before .before .args in
     table-bounded (args .table .now) (args .buf .now) (test-table .result) (test-table .ensures) (c .before .tested2 .given .0 .0) (search needs)
 
 returns : tie.Need-returns
 returns c =
-    let text-length = c .before .text-length in
+    let text-bytes = c .before .text-bytes in
     let tested2 = c .before .before .before .tested2 in
     let test-table = c .before .before .before .before .before .test-table in
-    write-short _ _ (test-table .result) (test-table .ensures) (tested2 .given .0 .0) (search needs) (text-length .result) (text-length .ensures) (search needs)
+    write-short _ _ (test-table .result) (test-table .ensures) (tested2 .given .0 .0) (search needs) (text-bytes .result) (text-bytes .ensures) (search needs)
 
 put-text-requires : tie.Need-put-text-requires
 put-text-requires c κs =
-    let text-length = c .before .before .text-length in
+    let text-bytes = c .before .before .text-bytes in
     let tested2 = c .before .before .before .before .tested2 in
     let test-table = c .before .before .before .before .before .before .test-table in
     let args = c .before .before .before .before .before .before .before .before .args in
-    (table-bounded (args .table .now) (args .buf .now) (test-table .result) (test-table .ensures) (tested2 .given .0 .0) (search needs), numbers-short (args .table .now) (args .buf .now) (test-table .result) (test-table .ensures) (tested2 .given .0 .0) (search needs), table-long (args .table .now) (args .buf .now) (test-table .result) (test-table .ensures) (tested2 .given .0 .0) (search needs), omega (arith, text-length .ensures))
+    (table-bounded (args .table .now) (args .buf .now) (test-table .result) (test-table .ensures) (tested2 .given .0 .0) (search needs), numbers-short (args .table .now) (args .buf .now) (test-table .result) (test-table .ensures) (tested2 .given .0 .0) (search needs), table-long (args .table .now) (args .buf .now) (test-table .result) (test-table .ensures) (tested2 .given .0 .0) (search needs), omega (arith, text-bytes .ensures))
 
 returns-2 : tie.Need-returns-2
 returns-2 c =
@@ -45,10 +45,10 @@ same-length c = search needs
 returns-3 : tie.Need-returns-3
 returns-3 c =
     let put-text = c .before .before .put-text in
-    let text-length = c .before .before .before .before .before .text-length in
+    let text-bytes = c .before .before .before .before .before .text-bytes in
     let tested2 = c .before .before .before .before .before .before .before .tested2 in
     let test-table = c .before .before .before .before .before .before .before .before .before .test-table in
-    write-whole _ _ (test-table .result) (test-table .ensures) (tested2 .given .0 .0) (search needs) (text-length .result) _ (text-length .ensures) (omega arith) (put-text .ensures)
+    write-whole _ _ (test-table .result) (test-table .ensures) (tested2 .given .0 .0) (search needs) (text-bytes .result) _ (text-bytes .ensures) (omega arith) (put-text .ensures)
 
 pub write-spec : {M : Type 1} → statement M
 write-spec =
@@ -57,7 +57,7 @@ write-spec =
     test-table-requires
     enum-known-tested
     enum-known-tested-2
-    text-length-requires
+    text-bytes-requires
     returns
     put-text-requires
     returns-2

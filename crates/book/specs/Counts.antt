@@ -1,0 +1,54 @@
+-- How many lines of each kind a book has, where the rows of a kind begin in its number table, and what it is for a shape to be in the
+-- limits. Nothing else repeats the counts of a shape one by one.
+use Prim.Native.Nat.{ℕ, zero, suc, _+_, _*_, _≤_}
+use mathlib.Core.List.{List, [], _∷_, _++_}
+use lib.ListN.{getD}
+use Rattle.book.specs.declared.Kind.{Kind}
+use Rattle.book.specs.declared.Shape.{Shape}
+use Rattle.book.specs.Limits as limit
+use Rattle.book.specs.Kinds.{kind, bytes, rowOnce, plain, exception, preference, none}
+
+-- How many rows there are of each kind that is a row of the table, in line order.
+unfoldable pub countsOf : Shape → List ℕ
+countsOf s = s .plain ∷ s .exceptions ∷ s .preferences ∷ []
+
+-- The numbers before the table's rows: n, and these counts in their own order.
+unfoldable pub frontOf : Shape → List ℕ
+frontOf s = s .statements ∷ s .plain ∷ s .exceptions ∷ s .preferences ∷ []
+
+-- How many lines there are of each kind, in the order of a text: one B, the rows, one Z.
+unfoldable pub allCounts : Shape → List ℕ
+allCounts s = 1 ∷ (countsOf s ++ (1 ∷ []))
+
+-- How many lines there are of the kind at place k.
+unfoldable pub countOf : Shape → ℕ → ℕ
+countOf s k = getD (allCounts s) k 0
+
+-- The shape of n statements and so many lines of each kind, in the order of a text.
+unfoldable pub shapeFrom : ℕ → List ℕ → Shape
+shapeFrom n cs = record { statements = n; plain = getD cs plain 0; exceptions = getD cs exception 0; preferences = getD cs preference 0 }
+
+-- The sum over the kinds before place k of a number that each has, as often as the book has such lines.
+unfoldable pub sumTo : (Kind → ℕ) → Shape → ℕ → ℕ
+sumTo f s zero = 0
+sumTo f s (suc k) = sumTo f s k + countOf s k * f (kind k)
+
+-- Where the rows of the kind at place k begin among the numbers of all rows, and how many these are.
+abbrev pub startOf : Shape → ℕ → ℕ
+startOf s k = sumTo (λ x. x .numbers) s k
+
+abbrev pub rowNumbers : Shape → ℕ
+rowNumbers s = startOf s none
+
+-- How many rows there are, which Z counts; and how many bytes the text has.
+abbrev pub total : Shape → ℕ
+total s = sumTo rowOnce s none
+
+abbrev pub textBytes : Shape → ℕ
+textBytes s = sumTo bytes s none
+
+-- The shape is in the limits: n, and the count of each kind.
+pub record InLimits (s : Shape) : Type 0 where
+  pub some-statement : 1 ≤ s .statements
+  pub statements : s .statements ≤ limit.statements
+  pub counts : (k : ℕ) → countOf s k ≤ kind k .limit

@@ -1,0 +1,76 @@
+/* Books that are made line by line, and checks that are counted. */
+#include "book.h"
+
+#include <inttypes.h>
+#include <stdio.h>
+#include <stdlib.h>
+
+static unsigned counted;
+static int seen[BANTAMEASEL_LAST_REFUSAL + 1];
+
+void expect(const char *what, uint64_t got, uint64_t wanted) {
+    counted++;
+    if (got == wanted) return;
+    printf("FAILED: %s: %" PRIu64 ", not %" PRIu64 "\n", what, got, wanted);
+    exit(1);
+}
+
+unsigned checks(void) { return counted; }
+
+void expect_refusal(const char *what, uint32_t got, uint32_t wanted) {
+    expect(what, got, wanted);
+    seen[got] = 1;
+}
+
+int provoked(uint32_t refusal) { return seen[refusal]; }
+
+static void put(book *b, char letter, const int *numbers, int count) {
+    char *at = (char *)b->bytes + b->length;
+    size_t needed = 2 + 4 * (size_t)count;
+    if (b->length + needed + 1 > BOOK_ROOM) expect("room for the book of a test", b->length, 0);
+    *at++ = letter;
+    for (int place = 0; place < count; place++) at += sprintf(at, "%4d", numbers[place]);
+    *at = '\n';
+    b->length += needed;
+}
+
+void begin(book *b, int statements) {
+    int numbers[2] = {1, statements};
+    b->length = 0;
+    b->lines = 0;
+    put(b, 'B', numbers, 2);
+}
+
+void add(book *b, char letter, row r) {
+    int numbers[1 + 2 * ENTRIES] = {r.head};
+    for (int place = 0; place < ENTRIES; place++) {
+        numbers[1 + place] = r.needed[place];
+        numbers[1 + ENTRIES + place] = r.barred[place];
+    }
+    put(b, letter, numbers, 1 + 2 * ENTRIES);
+    b->lines++;
+}
+
+void prefer(book *b, int one, int other) {
+    int numbers[2] = {one, other};
+    put(b, 'P', numbers, 2);
+    b->lines++;
+}
+
+void finish(book *b) { put(b, 'Z', &b->lines, 1); }
+
+void choices(book *b, int statements, int free) {
+    begin(b, statements);
+    for (int i = 1; i <= free; i++) {
+        add(b, 'R', (row){.head = i, .barred = {-i}});
+        add(b, 'R', (row){.head = -i, .barred = {i}});
+    }
+}
+
+void full(book *b) {
+    begin(b, BANTAMEASEL_MOST_STATEMENTS);
+    for (int k = 0; k < BANTAMEASEL_MOST_PLAIN; k++) add(b, 'R', (row){.head = 1 + k % 48, .needed = {1 + k % 7}});
+    for (int k = 0; k < BANTAMEASEL_MOST_EXCEPTIONS; k++) add(b, 'X', (row){.head = 1 + k});
+    for (int k = 0; k < BANTAMEASEL_MOST_PREFERENCES; k++) prefer(b, 1 + k % 11, 12);
+    finish(b);
+}

@@ -1,0 +1,101 @@
+/* Every limit at its edge, and the layout of the structs. */
+#include <stddef.h>
+#include <string.h>
+
+#include "book.h"
+
+static int32_t table[BANTAMEASEL_MOST_TABLE + 1];
+static uint8_t text[BANTAMEASEL_MOST_TEXT + 1];
+
+static bantameasel_book read_book(const book *b) {
+    return bantameasel_read(b->bytes, b->length, table, BANTAMEASEL_MOST_TABLE);
+}
+
+/* A book with so many lines of each kind is accepted, and one line more of a kind is refused at that line. */
+static void test_counts(int plain, int exceptions, int preferences, uint32_t refusal) {
+    book b;
+    begin(&b, 1);
+    for (int k = 0; k < plain; k++) add(&b, 'R', (row){.head = 1});
+    for (int k = 0; k < exceptions; k++) add(&b, 'X', (row){.head = 1});
+    for (int k = 0; k < preferences; k++) prefer(&b, 1, 1);
+    finish(&b);
+    bantameasel_book answer = read_book(&b);
+    expect_refusal("the refusal of a count", answer.refusal, refusal);
+    expect("the line of a count", answer.line, refusal == 0 ? 0 : (uint64_t)b.lines + 1);
+    expect("R lines", answer.plain, refusal == 0 ? (uint64_t)plain : 0);
+    expect("X lines", answer.exceptions, refusal == 0 ? (uint64_t)exceptions : 0);
+    expect("P lines", answer.preferences, refusal == 0 ? (uint64_t)preferences : 0);
+}
+
+static void test_statements(void) {
+    book b;
+    begin(&b, BANTAMEASEL_MOST_STATEMENTS);
+    finish(&b);
+    expect_refusal("the most statements", read_book(&b).refusal, BANTAMEASEL_NOT_REFUSED);
+    expect("the most statements", read_book(&b).statements, BANTAMEASEL_MOST_STATEMENTS);
+    begin(&b, BANTAMEASEL_MOST_STATEMENTS + 1);
+    finish(&b);
+    expect_refusal("one statement more", read_book(&b).refusal, BANTAMEASEL_REFUSED_OUT_OF_RANGE);
+}
+
+/* Of a book at every limit: text, table and line are as long as the header says, and no shorter room does. */
+static void test_lengths(const book *b) {
+    bantameasel_pair pair = {(UINT64_C(1) << BANTAMEASEL_MOST_EXCEPTIONS) - 1, 0, UINT64_C(1) << 47};
+    expect("the longest text", b->length, BANTAMEASEL_MOST_TEXT);
+    expect_refusal("the longest text", read_book(b).refusal, BANTAMEASEL_NOT_REFUSED);
+    bantameasel_book answer = bantameasel_read(b->bytes, b->length, table, BANTAMEASEL_MOST_TABLE - 1);
+    expect_refusal("a table too short", answer.refusal, BANTAMEASEL_REFUSED_BUFFER_SHORT);
+    bantameasel_length written = bantameasel_write(table, BANTAMEASEL_MOST_TABLE, text, BANTAMEASEL_MOST_TEXT);
+    expect_refusal("the longest table", written.refusal, BANTAMEASEL_NOT_REFUSED);
+    expect("the text written", written.length, BANTAMEASEL_MOST_TEXT);
+    expect("the text written", memcmp(text, b->bytes, BANTAMEASEL_MOST_TEXT) != 0, 0);
+    written = bantameasel_write(table, BANTAMEASEL_MOST_TABLE, text, BANTAMEASEL_MOST_TEXT - 1);
+    expect_refusal("a text too short", written.refusal, BANTAMEASEL_REFUSED_BUFFER_SHORT);
+    written = bantameasel_line(b->bytes, b->length, pair, text, BANTAMEASEL_MOST_LINE);
+    expect("the longest line", written.length, BANTAMEASEL_MOST_LINE);
+    written = bantameasel_line(b->bytes, b->length, pair, text, BANTAMEASEL_MOST_LINE - 1);
+    expect_refusal("a line too short", written.refusal, BANTAMEASEL_REFUSED_BUFFER_SHORT);
+    pair.taken++;
+    written = bantameasel_line(b->bytes, b->length, pair, text, BANTAMEASEL_MOST_LINE);
+    expect_refusal("one exception more", written.refusal, BANTAMEASEL_REFUSED_PAIR_TAKEN);
+}
+
+void test_limits(void) {
+    const int r = BANTAMEASEL_MOST_PLAIN, x = BANTAMEASEL_MOST_EXCEPTIONS, p = BANTAMEASEL_MOST_PREFERENCES;
+    book b;
+    test_statements();
+    test_counts(r, x, p, BANTAMEASEL_NOT_REFUSED);
+    test_counts(r + 1, 0, 0, BANTAMEASEL_REFUSED_TOO_MANY);
+    test_counts(0, x + 1, 0, BANTAMEASEL_REFUSED_TOO_MANY);
+    test_counts(0, 1, p + 1, BANTAMEASEL_REFUSED_TOO_MANY);
+    full(&b);
+    test_lengths(&b);
+    b.bytes[b.length++] = '\n';
+    expect_refusal("one byte more", read_book(&b).refusal, BANTAMEASEL_REFUSED_TEXT_TOO_LONG);
+    b.bytes[--b.length - 1] = ' ';
+    expect_refusal("the last byte changed", read_book(&b).refusal, BANTAMEASEL_REFUSED_TEXT_END);
+}
+
+/* What a program that was built with this header goes by. */
+void test_layout(void) {
+    expect("the size of Read's answer", sizeof(bantameasel_book), 80);
+    expect("its edition", offsetof(bantameasel_book, edition), 4);
+    expect("its line", offsetof(bantameasel_book, line), 8);
+    expect("its statements", offsetof(bantameasel_book, statements), 16);
+    expect("its preferences", offsetof(bantameasel_book, preferences), 40);
+    expect("what is reserved", offsetof(bantameasel_book, reserved), 48);
+    expect("the size of Write's answer", sizeof(bantameasel_length), 24);
+    expect("its length", offsetof(bantameasel_length, length), 16);
+    expect("the size of Judge's answer", sizeof(bantameasel_verdict), 16);
+    expect("its verdict", offsetof(bantameasel_verdict, verdict), 4);
+    expect("the size of First's answer", sizeof(bantameasel_answer), 40);
+    expect("its pair", offsetof(bantameasel_answer, pair), 16);
+    expect("the size of a page's answer", sizeof(bantameasel_page), 24);
+    expect("its count", offsetof(bantameasel_page, count), 16);
+    book b;
+    begin(&b, 3);
+    add(&b, 'X', (row){.head = 1});
+    finish(&b);
+    bantameasel_book wanted = {.edition = 1, .statements = 3, .exceptions = 1}, answer = read_book(&b);
+    expect("Read's answer, what is reserved too", memcmp(&answer, &wanted, sizeof wanted) != 0, 0);
+}

@@ -1,0 +1,217 @@
+/* The deepest books in threads with the stack that the header asks for; and many threads at once. */
+#define _GNU_SOURCE
+#include <inttypes.h>
+#include <pthread.h>
+#include <stdio.h>
+#include <string.h>
+#include <sys/mman.h>
+
+#include "book.h"
+
+enum { SMALL_STACK = 32768, GUARD = 4096, PAINT = 0xA5, ROOM = 64, THREADS = 8, ROUNDS = 20 };
+
+/* What one thread is to do: a function on a book and a pair. */
+typedef struct task task;
+typedef void job(task *);
+struct task {
+    job *call;
+    const book *of;
+    bantameasel_pair pair, found, pairs[ROOM];
+    uint64_t count;
+};
+
+static void call_read(task *t) { t->count = bantameasel_read(t->of->bytes, t->of->length, NULL, 0).refusal; }
+
+static void call_write(task *t) {
+    int32_t table[BANTAMEASEL_MOST_TABLE];
+    bantameasel_read(t->of->bytes, t->of->length, table, BANTAMEASEL_MOST_TABLE);
+    t->count = bantameasel_write(table, BANTAMEASEL_MOST_TABLE, NULL, 0).refusal;
+}
+
+static void call_line(task *t) {
+    t->count = bantameasel_line(t->of->bytes, t->of->length, t->pair, NULL, 0).refusal;
+}
+
+static void call_judge(task *t) { t->count = bantameasel_judge(t->of->bytes, t->of->length, t->pair).verdict; }
+
+static void call_first(task *t) { t->found = bantameasel_first(t->of->bytes, t->of->length).pair; }
+
+static void call_after(task *t) { t->found = bantameasel_after(t->of->bytes, t->of->length, t->pair).pair; }
+
+/* A page of few pairs is searched for in another way than one of many. */
+static void call_short_page(task *t) {
+    t->count = bantameasel_first_pairs(t->of->bytes, t->of->length, t->pairs, 10).count;
+}
+
+static void call_first_page(task *t) {
+    t->count = bantameasel_first_pairs(t->of->bytes, t->of->length, t->pairs, ROOM).count;
+}
+
+static void call_page_after(task *t) {
+    t->count = bantameasel_pairs_after(t->of->bytes, t->of->length, t->pair, t->pairs, ROOM).count;
+}
+
+static void *work(void *asked) {
+    task *t = asked;
+    t->call(t);
+    return NULL;
+}
+
+/* Runs the task in a thread with so many bytes of stack, its own included, above a page that nobody may touch. Answers
+ * how many bytes of it were written. */
+static size_t deepest(task *t, size_t stack) {
+    uint8_t *low = mmap(NULL, GUARD + stack, PROT_READ | PROT_WRITE, MAP_PRIVATE | MAP_ANONYMOUS, -1, 0);
+    pthread_attr_t attributes;
+    pthread_t thread;
+    expect("memory for a stack", low != MAP_FAILED, 1);
+    memset(low + GUARD, PAINT, stack);
+    expect("the guard", (uint64_t)mprotect(low, GUARD, PROT_NONE), 0);
+    pthread_attr_init(&attributes);
+    expect("the stack", (uint64_t)pthread_attr_setstack(&attributes, low + GUARD, stack), 0);
+    expect("the thread", (uint64_t)pthread_create(&thread, &attributes, work, t), 0);
+    expect("its end", (uint64_t)pthread_join(thread, NULL), 0);
+    size_t left = 0;
+    while (left < stack && low[GUARD + left] == PAINT) left++;
+    munmap(low, GUARD + stack);
+    return stack - left;
+}
+
+/* Runs the functions that search on a book, from the pair, from the first resolution and from the last of a page. */
+static size_t test_deep(book *b, bantameasel_pair pair) {
+    static job *const calls[] = {call_first, call_after, call_short_page, call_first_page, call_page_after, call_judge};
+    size_t most = 0;
+    finish(b);
+    expect_refusal("a deep book", bantameasel_first(b->bytes, b->length).refusal, BANTAMEASEL_NOT_REFUSED);
+    bantameasel_pair from[2] = {pair, bantameasel_first(b->bytes, b->length).pair};
+    for (size_t k = 0; k < 2 * sizeof calls / sizeof calls[0]; k++) {
+        task t = {.call = calls[k / 2], .of = b, .pair = from[k % 2]};
+        size_t used = deepest(&t, BANTAMEASEL_MOST_STACK);
+        if (used > most) most = used;
+    }
+    return most;
+}
+
+/* No three statements of the circle, at these distances, have an odd number of held ones. */
+static void even_circle(book *b, int size, int second, int third) {
+    for (int i = 0; i < size; i++) {
+        int at[3] = {1 + i, 1 + (i + second) % size, 1 + (i + third) % size};
+        for (int held = 1; held < 8; held++) {
+            if ((held ^ held >> 1 ^ held >> 2) % 2 == 0) continue;
+            row r = {.head = 0};
+            for (int k = 0; k < 3; k++) r.needed[k] = held >> k & 1 ? at[k] : -at[k];
+            add(b, 'R', r);
+        }
+    }
+}
+
+/* Of each five conclusions in a row exactly one, over statements 1 to 47; the exceptions all give statement 48. */
+static void fives(book *b) {
+    begin(b, 48);
+    for (int first = 0; first + 5 <= 94; first += 5) {
+        for (int k = 0; k < 5; k++) {
+            row r = {0};
+            for (int other = 0, place = 0; other < 5; other++) {
+                int number = first + other, conclusion = number % 2 ? -(1 + number / 2) : 1 + number / 2;
+                if (other == k) r.head = conclusion;
+                else r.barred[place++] = conclusion;
+            }
+            add(b, 'R', r);
+        }
+    }
+    for (int k = 0; k < BANTAMEASEL_MOST_EXCEPTIONS; k++) add(b, 'X', (row){.head = 48});
+}
+
+/* Every statement is denied: the search in order tries three values at each. */
+static size_t test_denied(book *b) {
+    begin(b, 48);
+    for (int i = 1; i <= 48; i++) add(b, 'R', (row){.head = -i});
+    return test_deep(b, (bantameasel_pair){0, 0, 0});
+}
+
+/* The same after many dead ends, with a choice at the last statement. */
+static size_t test_dead_ends(book *b) {
+    choices(b, 48, 16);
+    even_circle(b, 16, 3, 7);
+    for (int i = 17; i < 48; i++) add(b, 'R', (row){.head = -i});
+    add(b, 'R', (row){.head = 48, .barred = {-48}});
+    add(b, 'R', (row){.head = -48, .barred = {48}});
+    return test_deep(b, (bantameasel_pair){0, 0, 0});
+}
+
+/* All twelve exceptions are needed, beside 36 choices. */
+static size_t test_needed(book *b) {
+    choices(b, 48, 36);
+    for (int i = 37; i <= 48; i++) add(b, 'R', (row){.head = 0, .barred = {-i}});
+    for (int i = 37; i <= 48; i++) add(b, 'X', (row){.head = -i});
+    return test_deep(b, (bantameasel_pair){0, 0, 0});
+}
+
+/* Judge's deepest: a pair with more exceptions than needed, while the views of fewer take many steps to find. */
+static size_t test_judged(book *b) {
+    fives(b);
+    finish(b);
+    bantameasel_pair pair = bantameasel_first(b->bytes, b->length).pair;
+    b->length -= 6;
+    pair.taken = (1 << BANTAMEASEL_MOST_EXCEPTIONS) - 1;
+    pair.held |= UINT64_C(1) << 47;
+    size_t most = test_deep(b, pair);
+    expect("the verdict", bantameasel_judge(b->bytes, b->length, pair).verdict, BANTAMEASEL_VERDICT_NOT_LEAST);
+    return most;
+}
+
+/* Every statement is a choice. */
+static size_t test_choices(book *b) {
+    choices(b, 48, 48);
+    return test_deep(b, (bantameasel_pair){0, 0, (UINT64_C(1) << 48) - 1});
+}
+
+/* Read, Write and Line on a full book: they search for nothing. */
+static void test_small(book *b) {
+    static job *const calls[] = {call_read, call_write, call_line};
+    full(b);
+    for (size_t k = 0; k < sizeof calls / sizeof calls[0]; k++) {
+        task t = {.call = calls[k], .of = b};
+        expect("a small stack", deepest(&t, SMALL_STACK) < SMALL_STACK, 1);
+        expect("no room", t.count, BANTAMEASEL_REFUSED_BUFFER_SHORT);
+    }
+}
+
+/* A call that takes more stack than this ends the program by a signal. */
+void test_stack(void) {
+    static size_t (*const tests[])(book *) = {test_denied, test_dead_ends, test_needed, test_judged, test_choices};
+    size_t most = 0;
+    book b;
+    printf("stack: the deepest books in threads with %d bytes\n", BANTAMEASEL_MOST_STACK);
+    fflush(stdout);
+    for (size_t k = 0; k < sizeof tests / sizeof tests[0]; k++) {
+        size_t used = tests[k](&b);
+        if (used > most) most = used;
+    }
+    printf("stack: at most %zu bytes were used, the thread's own included\n", most);
+    test_small(&b);
+}
+
+/* Each thread asks for the first page again and again. */
+static void call_pages(task *t) {
+    for (int round = 0; round < ROUNDS; round++) call_first_page(t);
+}
+
+/* Many threads at once, on one text: each has the answers that one alone has. */
+void test_threads(void) {
+    static task tasks[THREADS];
+    pthread_t threads[THREADS];
+    book b;
+    choices(&b, 48, 48);
+    finish(&b);
+    task alone = {.call = call_first_page, .of = &b};
+    work(&alone);
+    for (int k = 0; k < THREADS; k++) {
+        tasks[k] = (task){.call = call_pages, .of = &b};
+        expect("a thread", (uint64_t)pthread_create(&threads[k], NULL, work, &tasks[k]), 0);
+    }
+    for (int k = 0; k < THREADS; k++) {
+        pthread_join(threads[k], NULL);
+        expect("the count of one thread among many", tasks[k].count, alone.count);
+        expect("its pairs", memcmp(tasks[k].pairs, alone.pairs, sizeof alone.pairs) != 0, 0);
+    }
+}
