@@ -28,7 +28,7 @@
  * - Refusals and verdicts keep their numbers. Later versions have more refusals: take any number but 0 for a refusal.
  * - Structs keep their size, and every field its place. A reserved field is 0 in this version; do not use it, since a
  *   later version may give it a name and a meaning.
- * - Limits may grow. The number table may get more numbers before its rows and in them: keep a book as its text, not as
+ * - Limits may grow, but not BANTAMEASEL_MOST_STACK. The number table may get more numbers before its rows and in them: keep a book as its text, not as
  *   its table. A pair that was noted for a book goes on to the same resolutions.
  * - BANTAMEASEL_VERSION is the version of this header, bantameasel_version() that of the library linked. Where the two
  *   are not the same, the limits below may not be those of the library.

@@ -16,7 +16,7 @@ use Rattle.book.specs.declared.Kind.{Kind}
 use Rattle.book.specs.declared.Shape.{Shape}
 use Rattle.book.specs.Limits as limit
 use Rattle.book.specs.Kinds.{kinds, kind, unknown, bytes, rowOnce, first, last, plain, exception, preference, none, widest, most}
-use Rattle.book.specs.Counts.{countsOf, frontOf, allCounts, countOf, sumTo, InLimits}
+use Rattle.book.specs.Counts.{countsOf, frontOf, allCounts, countAt, sumTo, InLimits}
 
 pub many : length kinds ≡ none
 unfolding kinds
@@ -25,15 +25,15 @@ many = refl
 -- ---- the counts of a shape in the limits
 module _ (s : Shape) (l : InLimits s) where
   pub plain-in : s .plain ≤ limit.plain
-  unfolding countOf allCounts countsOf kind kinds
+  unfolding countAt allCounts countsOf kind kinds
   plain-in = l .counts plain
 
   pub exceptions-in : s .exceptions ≤ limit.exceptions
-  unfolding countOf allCounts countsOf kind kinds
+  unfolding countAt allCounts countsOf kind kinds
   exceptions-in = l .counts exception
 
   pub preferences-in : s .preferences ≤ limit.preferences
-  unfolding countOf allCounts countsOf kind kinds
+  unfolding countAt allCounts countsOf kind kinds
   preferences-in = l .counts preference
 
 -- The numbers before the rows of a table are small.
@@ -50,18 +50,18 @@ lines-long : (s : Shape) → length (allCounts s) ≡ none
 unfolding allCounts countsOf
 lines-long s = refl
 
-once-in : (s : Shape) → (countOf s first ≤ kind first .limit) × (countOf s last ≤ kind last .limit)
-unfolding countOf allCounts countsOf kind kinds
+once-in : (s : Shape) → (countAt s first ≤ kind first .limit) × (countAt s last ≤ kind last .limit)
+unfolding countAt allCounts countsOf kind kinds
 once-in s = (omega arith, omega arith)
 
-none-in : (s : Shape) (k : ℕ) → none ≤ k → countOf s k ≡ 0
-unfolding countOf
+none-in : (s : Shape) (k : ℕ) → none ≤ k → countAt s k ≡ 0
+unfolding countAt
 none-in s k h = List·getD-eq-default (allCounts s) 0 {n = k} (rw (lines-long s) h)
 
-pub limits-from : (s : Shape) → 1 ≤ s .statements → s .statements ≤ limit.statements → ((k : ℕ) → first < k → k < last → countOf s k ≤ kind k .limit) → InLimits s
+pub limits-from : (s : Shape) → 1 ≤ s .statements → s .statements ≤ limit.statements → ((k : ℕ) → first < k → k < last → countAt s k ≤ kind k .limit) → InLimits s
 limits-from s a b w = record { some-statement = a; statements = b; counts = λ k. go k (ltb first k) (ltb k last) (eqb k last) refl refl refl }
   where
-    go : (k : ℕ) (x y z : Bool) → ltb first k ≡ x → ltb k last ≡ y → eqb k last ≡ z → countOf s k ≤ kind k .limit
+    go : (k : ℕ) (x y z : Bool) → ltb first k ≡ x → ltb k last ≡ y → eqb k last ≡ z → countAt s k ≤ kind k .limit
     go k false y z p q r = let e : k ≡ first = omega (arith, ltb-false first k p) in rw e (once-in s .0)
     go k true true z p q r = w k (ltb-true first k p) (ltb-true k last q)
     go k true false true p q r = let e : k ≡ last = eqb-true k last r in rw e (once-in s .1)
@@ -83,7 +83,7 @@ unfolding sumTo
 sum-most f s zero l h = omega arith
 sum-most f s (suc k) l h = omega (arith, sum-most f s k l (omega arith), most-from f k (omega arith), mul-le-mul-right (f (kind k)) (l .counts k))
 
-pub sum-next : (f : Kind → ℕ) (s : Shape) (k n c y : ℕ) → n ≡ sumTo f s k → c ≡ countOf s k → y ≡ f (kind k) → n + c * y ≡ sumTo f s (k + 1)
+pub sum-next : (f : Kind → ℕ) (s : Shape) (k n c y : ℕ) → n ≡ sumTo f s k → c ≡ countAt s k → y ≡ f (kind k) → n + c * y ≡ sumTo f s (k + 1)
 unfolding sumTo
 sum-next f s k n c y e ec ey = rw (e, ec, ey, add-one k)
 
@@ -97,7 +97,7 @@ pub sum-up : (f : Kind → ℕ) (s : Shape) (k : ℕ) → k ≤ none → sumTo f
 sum-up f s k h = let q : k + (none - k) ≡ none = omega arith in rw q at (sum-step f s k (none - k))
 
 -- What is added stays small.
-pub sum-small : (f : Kind → ℕ) (s : Shape) (k n c y : ℕ) → InLimits s → k < none → n ≡ sumTo f s k → c ≡ countOf s k → y ≡ f (kind k) → n + c * y ≤ most f kinds
+pub sum-small : (f : Kind → ℕ) (s : Shape) (k n c y : ℕ) → InLimits s → k < none → n ≡ sumTo f s k → c ≡ countAt s k → y ≡ f (kind k) → n + c * y ≤ most f kinds
 sum-small f s k n c y l h e ec ey = omega (arith, sum-next f s k n c y e ec ey, add-one k, sum-most f s (k + 1) l (omega arith))
 
 pub numbers-most : most (λ x. x .numbers) kinds ≤ 100000
@@ -144,6 +144,6 @@ pub once-no : (x : Kind) (k : ℕ) → x ≡ kind k → x .row ≡ false → 0 �
 unfolding rowOnce pick
 once-no x k e r = rw (← e, r)
 
-pub count-is : (s : Shape) (k : ℕ) (cs : List ℕ) → cs ≡ allCounts s → getD cs k 0 ≡ countOf s k
-unfolding countOf
+pub count-is : (s : Shape) (k : ℕ) (cs : List ℕ) → cs ≡ allCounts s → getD cs k 0 ≡ countAt s k
+unfolding countAt
 count-is s k cs e = rw e

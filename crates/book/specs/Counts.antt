@@ -1,5 +1,5 @@
 -- How many lines of each kind a book has, where the rows of a kind begin in its number table, and what it is for a shape to be in the
--- limits. Nothing else repeats the counts of a shape one by one.
+-- limits. From reading to the prepared book nothing else repeats the counts of a shape one by one; `bookOf` gives each its meaning.
 use Prim.Native.Nat.{ℕ, zero, suc, _+_, _*_, _≤_}
 use mathlib.Core.List.{List, [], _∷_, _++_}
 use lib.ListN.{getD}
@@ -21,8 +21,8 @@ unfoldable pub allCounts : Shape → List ℕ
 allCounts s = 1 ∷ (countsOf s ++ (1 ∷ []))
 
 -- How many lines there are of the kind at place k.
-unfoldable pub countOf : Shape → ℕ → ℕ
-countOf s k = getD (allCounts s) k 0
+unfoldable pub countAt : Shape → ℕ → ℕ
+countAt s k = getD (allCounts s) k 0
 
 -- The shape of n statements and so many lines of each kind, in the order of a text.
 unfoldable pub shapeFrom : ℕ → List ℕ → Shape
@@ -31,7 +31,7 @@ shapeFrom n cs = record { statements = n; plain = getD cs plain 0; exceptions = 
 -- The sum over the kinds before place k of a number that each has, as often as the book has such lines.
 unfoldable pub sumTo : (Kind → ℕ) → Shape → ℕ → ℕ
 sumTo f s zero = 0
-sumTo f s (suc k) = sumTo f s k + countOf s k * f (kind k)
+sumTo f s (suc k) = sumTo f s k + countAt s k * f (kind k)
 
 -- Where the rows of the kind at place k begin among the numbers of all rows, and how many these are.
 abbrev pub startOf : Shape → ℕ → ℕ
@@ -51,4 +51,4 @@ textBytes s = sumTo bytes s none
 pub record InLimits (s : Shape) : Type 0 where
   pub some-statement : 1 ≤ s .statements
   pub statements : s .statements ≤ limit.statements
-  pub counts : (k : ℕ) → countOf s k ≤ kind k .limit
+  pub counts : (k : ℕ) → countAt s k ≤ kind k .limit

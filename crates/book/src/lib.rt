@@ -4,7 +4,7 @@ ghost use mathlib.Core.Bool.{true, false};
 ghost use Prim.Native.Nat.{_<_, _≤_};
 ghost use lib.ListN.{length, getD};
 ghost use Rattle.book.specs.Kinds.{kind, none, contents, bytes, rowOnce};
-ghost use Rattle.book.specs.Counts.{allCounts, frontOf, countOf, shapeFrom, startOf, rowNumbers, textBytes, total as totalOf, InLimits};
+ghost use Rattle.book.specs.Counts.{allCounts, frontOf, countAt, shapeFrom, startOf, rowNumbers, textBytes, total as totalOf, InLimits};
 ghost use Rattle.book.specs.declared.Content.the-variants.{Edition};
 ghost use Rattle.book.specs.Shapes.{limits as limitsOf, emptyBook};
 
@@ -63,10 +63,12 @@ impl Book {
 
     pub const AT_LAST: usize = 4;
 
-    // The columns of a field, the fields of rules and of preferences, the most that a line has, the bytes of a line beside its fields.
+    // The columns of a field, the entries that a rule needs and as many that it bars, the fields of rules and of preferences, the most that a line has, the bytes of a line beside its fields.
     pub const COLUMNS: usize = 4;
 
-    pub const RULE_FIELDS: usize = 9;
+    pub const ENTRIES: usize = 4;
+
+    pub const RULE_FIELDS: usize = 1 + Book::ENTRIES + Book::ENTRIES;
 
     pub const PREFERENCE_FIELDS: usize = 2;
 
@@ -337,7 +339,7 @@ pub fn shape_from(n: usize, counts: [usize; Book::KINDS]) -> Shape
 // How many lines of the kind at place k a book of this shape has.
 pub fn count_of(s: Shape, k: usize) -> usize
     requires { ⌜ k < none ⌝ }
-    ensures { λ r. ⌜ r ≡ countOf s k ⌝ }
+    ensures { λ r. ⌜ r ≡ countAt s k ⌝ }
 {
     let counts = counts_of(s);
     counts[k]

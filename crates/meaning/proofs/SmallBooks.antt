@@ -10,7 +10,7 @@ use Rattle.logic.specs.Tests.{concatMap, consIf, every, keep, some}
 use Rattle.sets.specs.Sets.{member, size, sizeTo}
 use Rattle.sets.specs.declared.Pair.{Pair}
 use Rattle.book.specs.Kinds.{kinds, kind}
-use Rattle.book.specs.Counts.{countsOf, allCounts, countOf, sumTo}
+use Rattle.book.specs.Counts.{countsOf, allCounts, countAt, sumTo}
 use Rattle.meaning.specs.Literals.{Literal, pos, neg, isIn}
 use Rattle.meaning.specs.Rules.{Head, none, gives, Rule}
 use Rattle.meaning.specs.AnswerSets.{someIn, struck, reduct}
@@ -131,5 +131,5 @@ k8-rows =
 
 -- Its rows stand for the book K8.
 pub k8-meant : bookOf (record { statements = 3; plain = 2; exceptions = 2; preferences = 1 }) k8-rows ≡ k8 .book
-unfolding bookOf preferencesAt number rulesAt ruleAt entriesAt headOf entry sumTo countOf allCounts countsOf kind kinds
+unfolding bookOf preferencesAt number rulesAt ruleAt entriesAt headOf entry sumTo countAt allCounts countsOf kind kinds
 k8-meant = refl

@@ -11,7 +11,7 @@ use lib.Seq.{length-take-le}
 use borrow.Author.Tests.{ltb-true, ltb-false}
 use Rattle.book.specs.declared.Shape.{Shape}
 use Rattle.book.specs.Kinds.{plain, exception, preference, ruleNumbers, preferenceNumbers}
-use Rattle.book.specs.Counts.{countsOf, allCounts, countOf, startOf, rowNumbers, InLimits}
+use Rattle.book.specs.Counts.{countsOf, allCounts, countAt, startOf, rowNumbers, InLimits}
 use Rattle.text.specs.declared.Refusal.{Refusal}
 use Rattle.text.specs.declared.Reading.{Reading}
 use Rattle.text.specs.declared.Reading.the-variants.{Accepted, Refused}
@@ -31,7 +31,7 @@ use Rattle.operations.specs.Loads.{Loads, Filled}
 
 -- The facts of an accepted book, row by row.
 entries-lawful : (s : Shape) (ws : List ℤ) → Facts s ws → (k : ℕ) → k < ruleCount s → (i : ℕ) → i < ruleNumbers → natAbs (at ws (ruleStart s k + i)) ≤ s .statements
-unfolding countOf allCounts countsOf
+unfolding countAt allCounts countsOf
 entries-lawful s ws f k h i l = go (ltb k (s .plain)) refl
   where
     go : (b : Bool) → ltb k (s .plain) ≡ b → natAbs (at ws (ruleStart s k + i)) ≤ s .statements
@@ -41,7 +41,7 @@ entries-lawful s ws f k h i l = go (ltb k (s .plain)) refl
         rw (start-late (s .plain) (startOf s plain) (startOf s exception) k z) (entry-small s ws f exception exception-rules (k - s .plain) i (omega arith) l)
 
 names-lawful : (s : Shape) (ws : List ℤ) → Facts s ws → (k : ℕ) → k < s .preferences → (i : ℕ) → i < preferenceNumbers → Names (s .exceptions) (number (at ws (startOf s preference + k * preferenceNumbers + i)))
-unfolding number countOf allCounts countsOf
+unfolding number countAt allCounts countsOf
 names-lawful s ws f k h i l = let n = preference-named s ws f k i h l in rw (n .is) (record { from-one = n .low; most = n .high })
 
 pub lawful-rows : (s : Shape) (ws : List ℤ) → Facts s ws → RowsLawful s ws

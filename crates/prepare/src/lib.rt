@@ -24,9 +24,6 @@ use sets::Pair;
 // The words of each rule; masks::masks_at says what each is.
 pub const WORDS: usize = 8;
 
-// The entries that a rule needs, and as many that it bars.
-const ENTRIES: usize = (Book::RULE_FIELDS - 1) / 2;
-
 // The size of a head's or an entry's number: the statement that it names.
 fn statement(x: i32) -> u64
     requires { ⌜ natAbs x ≤ limit.statements ⌝ }
@@ -76,7 +73,7 @@ fn entries_mask(rows: &[i32], from: usize) -> Pair
         held: 0,
         denied: 0,
     };
-    let mut i = ENTRIES;
+    let mut i = Book::ENTRIES;
     while i > 0 {
         i -= 1;
         m = sets::join(entry_mask(rows[from + i]), m);
@@ -91,7 +88,7 @@ fn rule_masks(rows: &[i32], from: usize, own: u64) -> Masks
 {
     let head = entry_mask(rows[from]);
     let needed = entries_mask(rows, from + 1);
-    let barred = entries_mask(rows, from + 1 + ENTRIES);
+    let barred = entries_mask(rows, from + 1 + Book::ENTRIES);
     Masks {
         head: head,
         need: Pair {

@@ -16,7 +16,7 @@ use Rattle.book.specs.declared.Shape.{Shape}
 use Rattle.book.specs.declared.Content.the-variants.{Edition, Statements}
 use Rattle.book.specs.Kinds.{kinds, kind, contents, fieldsOf, first, last, rowOnce, Range, rangeOf}
 use Rattle.book.specs.Limits as limit
-use Rattle.book.specs.Counts.{countsOf, countOf, rowNumbers, total, InLimits}
+use Rattle.book.specs.Counts.{countsOf, countAt, rowNumbers, total, InLimits}
 use Rattle.book.proofs.Counts.{limits-from}
 use Rattle.logic.proofs.Tests.{both-left, both-right}
 use Rattle.text.specs.declared.State.{State}
@@ -48,7 +48,7 @@ unfolding inside between rangeOf
 sized-parts n e = (leb-true 1 n (both-left (leb 1 n) _ e), leb-true n limit.statements (both-right (leb 1 n) _ e))
 
 -- A shape whose n is in its range and whose counts of rows are in their limits is in the limits.
-pub limits-are : (s : Shape) → Sized (s .statements) → ((k : ℕ) → first < k → k < last → countOf s k ≤ kind k .limit) → InLimits s
+pub limits-are : (s : Shape) → Sized (s .statements) → ((k : ℕ) → first < k → k < last → countAt s k ≤ kind k .limit) → InLimits s
 limits-are s n w = let z = sized-parts (s .statements) n in limits-from s (z .0) (z .1) w
 
 -- ---- the state after B
@@ -100,11 +100,11 @@ b-fits s =
       rows-are = zero-add (length (layout 1 (countsOf s))) ∙ total-is s;
     }
   where
-    counted : (k : ℕ) → first < k → k < last → getD (afterB (s .statements) .counts) k 0 + occurs k (layout 1 (countsOf s)) ≡ countOf s k
+    counted : (k : ℕ) → first < k → k < last → getD (afterB (s .statements) .counts) k 0 + occurs k (layout 1 (countsOf s)) ≡ countAt s k
     counted zero h g = absurd (omega arith)
     counted (suc j) h g =
         let q : 1 + j ≡ suc j = omega arith in
-        let o : occurs (suc j) (layout 1 (countsOf s)) ≡ countOf s (suc j) = rw q at (occurs-layout (countsOf s) 1 j ∙ row-counts s j (omega (arith, counts-long s))) in
+        let o : occurs (suc j) (layout 1 (countsOf s)) ≡ countAt s (suc j) = rw q at (occurs-layout (countsOf s) 1 j ∙ row-counts s j (omega (arith, counts-long s))) in
         rw (b-counts (s .statements) (suc j) h g) (zero-add _ ∙ o)
 
 -- The lines of a book give what the test of its rows gives.

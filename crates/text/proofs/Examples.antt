@@ -9,7 +9,7 @@ use Rattle.logic.specs.Tests.{both, pick, consIf, some, concatMap}
 use Rattle.book.specs.declared.Shape.{Shape}
 use Rattle.book.specs.Limits as limit
 use Rattle.book.specs.Kinds.{kinds, kind, unknown, contents, fieldsOf, numbersOf, rowOnce, ruleFields, preferenceFields, mostRows, most, rangeOf}
-use Rattle.book.specs.Counts.{countsOf, frontOf, allCounts, countOf, shapeFrom, sumTo}
+use Rattle.book.specs.Counts.{countsOf, frontOf, allCounts, countAt, shapeFrom, sumTo}
 use Rattle.book.specs.Shapes.{emptyShape}
 use Rattle.text.specs.Lines.{between, inside, andThen, testField, code, numbersIn, filledIn, headless, missing, unless, judged}
 use Rattle.text.specs.Reading.{toNat, rowOf, prepend, onLine, readText, tableOf}
@@ -19,7 +19,7 @@ use Rattle.text.specs.Writing.{textOf}
 use Rattle.text.proofs.Inverse.{write-read}
 
 pub empty-table : testTable (tableOf emptyShape []) ≡ accepted emptyShape []
-unfolding kinds kind unknown contents numbersOf rangeOf between inside both pick some toNat tableOf emptyShape countsOf frontOf allCounts countOf shapeFrom sumTo layout cut rowsOf testRows shapeIn miscount testTable
+unfolding kinds kind unknown contents numbersOf rangeOf between inside both pick some toNat tableOf emptyShape countsOf frontOf allCounts countAt shapeFrom sumTo layout cut rowsOf testRows shapeIn miscount testTable
 empty-table = refl
 
 pub empty-text : readText (textOf emptyShape []) ≡ accepted emptyShape []
@@ -35,7 +35,7 @@ fullRows =
     ++ (concatMap (λ x. x) (replicate limit.exceptions (pos 1 ∷ replicate 8 (pos 0))) ++ replicate (limit.preferences * preferenceFields) (pos 1))
 
 pub full-table : testTable (tableOf fullShape fullRows) ≡ accepted fullShape fullRows
-unfolding kinds kind unknown contents fieldsOf numbersOf mostRows most rowOnce rangeOf between inside andThen testField code numbersIn filledIn headless missing unless judged both pick consIf some concatMap toNat rowOf prepend onLine tableOf countsOf frontOf allCounts countOf shapeFrom sumTo layout cut rowsOf testFields rowFault testRow testRows shapeIn miscount testTable fullShape fullRows
+unfolding kinds kind unknown contents fieldsOf numbersOf mostRows most rowOnce rangeOf between inside andThen testField code numbersIn filledIn headless missing unless judged both pick consIf some concatMap toNat rowOf prepend onLine tableOf countsOf frontOf allCounts countAt shapeFrom sumTo layout cut rowsOf testFields rowFault testRow testRows shapeIn miscount testTable fullShape fullRows
 full-table = refl
 
 pub full-text : readText (textOf fullShape fullRows) ≡ accepted fullShape fullRows

@@ -19,7 +19,7 @@ use Rattle.book.specs.declared.Shape.{Shape}
 use Rattle.book.specs.declared.Content.{Content}
 use Rattle.book.specs.declared.Content.the-variants.{Edition, Literal, Exception}
 use Rattle.book.specs.Kinds.{kinds, kind, contents, fieldsOf, numbersOf, none, first, last, plain, exception, preference, ruleNumbers, preferenceNumbers, rangeOf}
-use Rattle.book.specs.Counts.{countsOf, countOf, sumTo, startOf, rowNumbers}
+use Rattle.book.specs.Counts.{countsOf, countAt, sumTo, startOf, rowNumbers}
 use Rattle.book.proofs.Counts.{sum-next, sum-up}
 use Rattle.text.specs.declared.Field.the-variants.{Value}
 use Rattle.text.specs.Lines.{between, inside, code, numbersIn, headless, missing}
@@ -60,7 +60,7 @@ module _ (s s′ : Shape) (k : ℕ) (ks : List ℕ) where
       (ih .0, rw (← q, ← r) (rw (drop-drop (c * kind k .numbers) (kind k .numbers) ws) at (ih .1)))
 
 -- Past a block of c rows begin the rows of the next kind.
-after-block : (s : Shape) (i c : ℕ) (ws us : List ℤ) (at : ℕ) (ks : List ℕ) {s′ : Shape} → c ≡ countOf s i → testRows s (cut ks (drop (c * kind i .numbers) (drop (startOf s i) ws))) at ≡ accepted s′ us → testRows s (cut ks (drop (startOf s (suc i)) ws)) at ≡ accepted s′ us
+after-block : (s : Shape) (i c : ℕ) (ws us : List ℤ) (at : ℕ) (ks : List ℕ) {s′ : Shape} → c ≡ countAt s i → testRows s (cut ks (drop (c * kind i .numbers) (drop (startOf s i) ws))) at ≡ accepted s′ us → testRows s (cut ks (drop (startOf s (suc i)) ws)) at ≡ accepted s′ us
 unfolding sumTo
 after-block s i c ws us at ks e t = rw (← e) (rw (drop-drop (c * kind i .numbers) (startOf s i) ws) at t)
 
@@ -86,18 +86,18 @@ fault-parts m k vs h e = go (headless (kind k) vs) (missing m (kind k) vs) refl 
 -- ---- all rows
 module _ (s s′ : Shape) (ws : List ℤ) where
   -- The rows of the kinds from place i on, with so many of each.
-  rows-at : (cs : List ℕ) (i : ℕ) (ws′ : List ℤ) (at : ℕ) → ((j : ℕ) → j < length cs → getD cs j 0 ≡ countOf s (i + j)) → testRows s (cut (layout i cs) (drop (startOf s i) ws)) at ≡ accepted s′ ws′
-      → (k r : ℕ) → i ≤ k → k < i + length cs → r < countOf s k → Row-passed s k (rowAt s ws k r) k (rowAt s ws k r)
+  rows-at : (cs : List ℕ) (i : ℕ) (ws′ : List ℤ) (at : ℕ) → ((j : ℕ) → j < length cs → getD cs j 0 ≡ countAt s (i + j)) → testRows s (cut (layout i cs) (drop (startOf s i) ws)) at ≡ accepted s′ ws′
+      → (k r : ℕ) → i ≤ k → k < i + length cs → r < countAt s k → Row-passed s k (rowAt s ws k r) k (rowAt s ws k r)
   unfolding layout
   rows-at [] i ws′ at n e k r h g l = absurd (omega arith)
   rows-at (c ∷ cs) i ws′ at n e k r h g l =
       let b = block-rest s s′ i (layout (suc i) cs) c (drop (startOf s i) ws) ws′ at e in
       go (eqb i k) refl (λ f. rows-at cs (suc i) (b .0) (at + c) (λ j m. let p : i + suc j ≡ suc i + j = omega arith in rw p at (n (suc j) (omega arith))) (after-block s i c ws (b .0) (at + c) (layout (suc i) cs) here (b .1)) k r (omega (arith, f)) (omega arith) l)
     where
-      here : c ≡ countOf s i
+      here : c ≡ countAt s i
       here = rw (add-zero i) at (n 0 (omega arith))
 
-      first-block : r < countOf s i → Row-passed s i (rowAt s ws i r) i (rowAt s ws i r)
+      first-block : r < countAt s i → Row-passed s i (rowAt s ws i r) i (rowAt s ws i r)
       first-block l =
           let p = block-row s s′ i (layout (suc i) cs) c (drop (startOf s i) ws) ws′ at r (rw here l) e in
           rw (drop-drop (r * kind i .numbers) (startOf s i) ws) at p
@@ -121,7 +121,7 @@ row-right s ws k i h g p =
 -- ---- accepted books
 none-before : (s : Shape) (ws : List ℤ) → drop (startOf s 1) ws ≡ ws
 unfolding sumTo kind kinds
-none-before s ws = let z : 0 + countOf s 0 * 0 ≡ 0 = omega arith in rw z
+none-before s ws = let z : 0 + countAt s 0 * 0 ≡ 0 = omega arith in rw z
 
 -- The facts of an accepted table, and so of an accepted text.
 pub table-facts : (s : Shape) (ws : List ℤ) → Table (tableOf s ws) s ws → Accepted s ws
@@ -158,7 +158,7 @@ unfolding kind kinds numbersOf contents
 exception-rules = (omega arith, omega arith, refl, refl)
 
 -- Heads and entries lie in -n to n.
-pub entry-small : (s : Shape) (ws : List ℤ) → Accepted s ws → (k : ℕ) → RuleKind k → (i j : ℕ) → i < countOf s k → j < ruleNumbers → natAbs (getD ws (startOf s k + i * ruleNumbers + j) (pos 0)) ≤ s .statements
+pub entry-small : (s : Shape) (ws : List ℤ) → Accepted s ws → (k : ℕ) → RuleKind k → (i j : ℕ) → i < countAt s k → j < ruleNumbers → natAbs (getD ws (startOf s k + i * ruleNumbers + j) (pos 0)) ≤ s .statements
 entry-small s ws a k r i j l h =
     let e = a .rows k i (r .0) (r .1) l .ranges j (rw (r .2) h) in
     let c : getD (numbersOf (kind k)) j Edition ≡ Literal = ap (λ (l : List Content). getD l j Edition) (r .3) ∙ getD-replicate ruleNumbers j Literal Edition h in
@@ -199,12 +199,12 @@ preference-kind : (kind preference .numbers ≡ preferenceNumbers) × (numbersOf
 unfolding kind kinds numbersOf contents
 preference-kind = (refl, refl)
 
-start-in : (s : Shape) (k i : ℕ) → k < none → i < countOf s k → startOf s k + i * kind k .numbers + kind k .numbers ≤ rowNumbers s
+start-in : (s : Shape) (k i : ℕ) → k < none → i < countAt s k → startOf s k + i * kind k .numbers + kind k .numbers ≤ rowNumbers s
 start-in s k i h l =
-    let n = sum-next (λ x. x .numbers) s k (startOf s k) (countOf s k) (kind k .numbers) refl refl refl in
+    let n = sum-next (λ x. x .numbers) s k (startOf s k) (countAt s k) (kind k .numbers) refl refl refl in
     omega (arith, n, sum-up (λ x. x .numbers) s (k + 1) (omega arith), suc-mul i (kind k .numbers), mul-le-mul-right (kind k .numbers) l)
 
-pub preference-named : (s : Shape) (ws : List ℤ) → Accepted s ws → (i j : ℕ) → i < countOf s preference → j < preferenceNumbers → Named (s .exceptions) (getD ws (startOf s preference + i * preferenceNumbers + j) (pos 0))
+pub preference-named : (s : Shape) (ws : List ℤ) → Accepted s ws → (i j : ℕ) → i < countAt s preference → j < preferenceNumbers → Named (s .exceptions) (getD ws (startOf s preference + i * preferenceNumbers + j) (pos 0))
 preference-named s ws a i j l h =
     let k = preference-kind in
     let r = a .rows preference i (omega arith) (omega arith) l in

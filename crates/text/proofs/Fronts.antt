@@ -68,7 +68,7 @@ unfolding withRow
 with-found vs (found s′ us ls k) s ws rest n e = (us, cc, cc)
 with-found vs (stopped q k) s ws rest n e = absurd (let z : _≡_ {A = ℕ} 0 1 = cc in omega arith)
 
-pub record FrontWent (l : Line) (f : ℕ → List ℤ → Front) (s : Shape) (ws : List ℤ) (rest : List (List ℕ)) (n : ℕ) : Type 0 where
+record FrontWent (l : Line) (f : ℕ → List ℤ → Front) (s : Shape) (ws : List ℤ) (rest : List (List ℕ)) (n : ℕ) : Type 0 where
   pub k : ℕ
   pub vs : List ℤ
   pub us : List ℤ

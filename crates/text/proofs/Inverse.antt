@@ -17,7 +17,7 @@ use Rattle.book.specs.declared.Kind.{Kind}
 use Rattle.book.specs.declared.Shape.{Shape}
 use Rattle.book.specs.declared.Content.the-variants.{Statements}
 use Rattle.book.specs.Kinds.{kinds, kind, unknown, none, first, last, plain, exception, preference, front, most, longest, rowOnce, mostRows, rangeOf}
-use Rattle.book.specs.Counts.{countsOf, frontOf, allCounts, countOf, shapeFrom, total, rowNumbers, InLimits}
+use Rattle.book.specs.Counts.{countsOf, frontOf, allCounts, countAt, shapeFrom, total, rowNumbers, InLimits}
 use Rattle.book.proofs.Counts.{many}
 use Rattle.text.specs.Lines.{between, inside, lines}
 use Rattle.text.specs.Reading.{start, toNat, readLines, lastByte, readText, tableOf}
@@ -80,16 +80,16 @@ pub shape-back : (s : Shape) (ws : List ℤ) → (shapeIn (tableOf s ws) ≡ s) 
 unfolding shapeIn tableOf frontOf shapeFrom kinds toNat
 shape-back s ws = (refl, refl)
 
-count-at : (s : Shape) (ws : List ℤ) (k : ℕ) → first < k → k < last → getD (tableOf s ws) (kind k .count) (pos 0) ≡ pos (countOf s k)
-unfolding tableOf frontOf countOf allCounts countsOf kind kinds
+count-at : (s : Shape) (ws : List ℤ) (k : ℕ) → first < k → k < last → getD (tableOf s ws) (kind k .count) (pos 0) ≡ pos (countAt s k)
+unfolding tableOf frontOf countAt allCounts countsOf kind kinds
 count-at s ws zero h g = absurd (omega arith)
 count-at s ws (suc zero) h g = refl
 count-at s ws (suc (suc zero)) h g = refl
 count-at s ws (suc (suc (suc zero))) h g = refl
 count-at s ws (suc (suc (suc (suc k)))) h g = absurd (omega arith)
 
-counted : (t : List ℤ) (k : ℕ) → first < k → k < last → countOf (shapeIn t) k ≡ toNat (getD t (kind k .count) (pos 0))
-unfolding shapeIn shapeFrom countOf allCounts countsOf kind kinds
+counted : (t : List ℤ) (k : ℕ) → first < k → k < last → countAt (shapeIn t) k ≡ toNat (getD t (kind k .count) (pos 0))
+unfolding shapeIn shapeFrom countAt allCounts countsOf kind kinds
 counted t zero h g = absurd (omega arith)
 counted t (suc zero) h g = refl
 counted t (suc (suc zero)) h g = refl
@@ -140,7 +140,7 @@ counts-in s ws l = some-none (miscount (tableOf s ws)) kinds unknown (λ k h. ea
     each : (k : ℕ) → k < none → (x y : Bool) → ltb first k ≡ x → ltb k last ≡ y → miscount (tableOf s ws) (kind k) ≡ false
     each k h false y p q = let e : k ≡ first = omega (arith, ltb-false first k p) in rw e (no-row (tableOf s ws) (kind first) (ends-no-rows .0))
     each k h true false p q = let e : k ≡ last = omega (arith, ltb-false k last q) in rw e (no-row (tableOf s ws) (kind last) (ends-no-rows .1))
-    each k h true true p q = count-in (tableOf s ws) k (countOf s k) (count-at s ws k (ltb-true first k p) (ltb-true k last q)) (l .counts k)
+    each k h true true p q = count-in (tableOf s ws) k (countAt s k) (count-at s ws k (ltb-true first k p) (ltb-true k last q)) (l .counts k)
 
 n-first : (s : Shape) (ws : List ℤ) → getD (tableOf s ws) 0 (pos 0) ≡ pos (s .statements)
 unfolding tableOf frontOf

@@ -139,11 +139,6 @@ numbers-same k h g = rw (numbers-fields k h g)
 pub numbers-wide : (k : ℕ) → first < k → k < last → length (numbersOf (kind k)) ≡ kind k .numbers
 numbers-wide k h g = ap length (numbers-same k h g) ∙ (width-is k (omega arith) ∙ sym (numbers-fields k h g))
 
--- It has a field.
-pub some-field : (k : ℕ) → k < none → 0 < kind k .fields
-unfolding kinds kind unknown
-some-field k h = ltb-true 0 (kind k .fields) (all-at (λ (j : ℕ). ltb 0 (kind j .fields)) none k refl h)
-
 -- Its limit is small.
 pub limit-small : (k : ℕ) → k < none → kind k .limit < 1000000
 unfolding kinds kind unknown

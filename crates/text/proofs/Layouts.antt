@@ -13,7 +13,7 @@ use Rattle.logic.specs.Tests.{pick}
 use Rattle.book.specs.declared.Kind.{Kind}
 use Rattle.book.specs.declared.Shape.{Shape}
 use Rattle.book.specs.Kinds.{kinds, kind, none, first, last}
-use Rattle.book.specs.Counts.{countsOf, allCounts, countOf, sumTo, rowNumbers}
+use Rattle.book.specs.Counts.{countsOf, allCounts, countAt, sumTo, rowNumbers}
 use Rattle.text.specs.Tables.{layout}
 
 -- How often a kind occurs.
@@ -115,18 +115,18 @@ sum-repeat f zero k = omega arith
 sum-repeat f (suc c) k = rw (sum-repeat f c k, suc-mul) (omega arith)
 
 -- The rows of the kinds from place i on come after those of the kinds before it.
-pub layout-sum : (f : Kind → ℕ) (s : Shape) (cs : List ℕ) (i : ℕ) → ((j : ℕ) → j < length cs → getD cs j 0 ≡ countOf s (i + j)) → sumTo f s i + sumBy f (layout i cs) ≡ sumTo f s (i + length cs)
+pub layout-sum : (f : Kind → ℕ) (s : Shape) (cs : List ℕ) (i : ℕ) → ((j : ℕ) → j < length cs → getD cs j 0 ≡ countAt s (i + j)) → sumTo f s i + sumBy f (layout i cs) ≡ sumTo f s (i + length cs)
 unfolding layout sumBy sumTo
 layout-sum f s [] i h = rw (add-zero i, add-zero (sumTo f s i))
 layout-sum f s (c ∷ cs) i h =
     let q : i + suc (length cs) ≡ suc i + length cs = omega arith in
-    let e : c ≡ countOf s i = rw (add-zero i) at (h 0 (omega arith)) in
+    let e : c ≡ countAt s i = rw (add-zero i) at (h 0 (omega arith)) in
     let ih = layout-sum f s cs (suc i) (λ j g. let p : i + suc j ≡ suc i + j = omega arith in rw p at (h (suc j) (omega arith))) in
     rw (q, sum-append f (replicate c i) (layout (suc i) cs), sum-repeat f c i, e) (omega (arith, ih))
 
 -- The counts of a shape by place.
-pub row-counts : (s : Shape) (j : ℕ) → j < length (countsOf s) → getD (countsOf s) j 0 ≡ countOf s (1 + j)
-unfolding countOf allCounts
+pub row-counts : (s : Shape) (j : ℕ) → j < length (countsOf s) → getD (countsOf s) j 0 ≡ countAt s (1 + j)
+unfolding countAt allCounts
 row-counts s j h = let q : 1 + j ≡ suc j = omega arith in rw q (sym (List·getD-append (countsOf s) (1 ∷ []) 0 j h))
 
 pub counts-long : (s : Shape) → 1 + length (countsOf s) ≡ last
@@ -134,11 +134,11 @@ unfolding countsOf
 counts-long s = refl
 
 once-first : (f : Kind → ℕ) (s : Shape) → sumTo f s 1 ≡ f (kind first)
-unfolding sumTo countOf allCounts
+unfolding sumTo countAt allCounts
 once-first f s = omega arith
 
 once-last : (f : Kind → ℕ) (s : Shape) → sumTo f s none ≡ sumTo f s last + f (kind last)
-unfolding sumTo countOf allCounts countsOf
+unfolding sumTo countAt allCounts countsOf
 once-last f s = omega arith
 
 -- All lines: B, the rows, Z.

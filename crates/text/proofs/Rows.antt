@@ -17,7 +17,7 @@ use Rattle.book.specs.declared.Kind.{Kind}
 use Rattle.book.specs.declared.Shape.{Shape}
 use Rattle.book.specs.declared.Content.the-variants.{Exception, Total}
 use Rattle.book.specs.Kinds.{kinds, kind, contents, fieldsOf, numbersOf, none, first, last, plain, exception, preference, rowOnce, mostRows, rangeOf}
-use Rattle.book.specs.Counts.{countsOf, allCounts, countOf, shapeFrom, total, InLimits}
+use Rattle.book.specs.Counts.{countsOf, allCounts, countAt, shapeFrom, total, InLimits}
 use Rattle.book.proofs.Counts.{sum-all}
 use Rattle.text.specs.declared.State.{State}
 use Rattle.text.specs.Lines.{Numbers, between, inside, andThen, testField, code, numbersIn, filledIn, headless, missing, miscounted, wholeOf, unless, judged}
@@ -88,7 +88,7 @@ pub record Fits (st : State) (s : Shape) (ks : List ℕ) : Type 0 where
   pub rising : Rising (st .next) last ks
   pub long : length (st .counts) ≡ none
   pub same-n : st .statements ≡ s .statements
-  pub counts-are : (k : ℕ) → first < k → k < last → getD (st .counts) k 0 + occurs k ks ≡ countOf s k
+  pub counts-are : (k : ℕ) → first < k → k < last → getD (st .counts) k 0 + occurs k ks ≡ countAt s k
   pub unclosed : getD (st .counts) last 0 ≡ 0
   pub rows-are : st .rows + length ks ≡ total s
 
@@ -126,7 +126,7 @@ module _ (st : State) (s : Shape) (k : ℕ) (ks : List ℕ) (vs : List ℤ) (w :
 
   -- The exceptions have all come before the first line that may name one.
   same-missing : missing (getD (st .counts) exception 0) (kind k) vs ≡ missing (s .exceptions) (kind k) vs
-  unfolding missing countOf allCounts countsOf
+  unfolding missing countAt allCounts countsOf
   same-missing = go (leb k exception) refl
     where
       go : (b : Bool) → leb k exception ≡ b
@@ -230,13 +230,13 @@ z-statements st vs = rw (no-statements last vs (omega arith) (λ e. omega arith)
 
 -- The shape at the end is the one that was to come.
 end-shape : (st : State) (s : Shape) (vs : List ℤ) → Fits st s [] → shapeOf (step st last vs) ≡ s
-unfolding shapeFrom countOf allCounts countsOf
+unfolding shapeFrom countAt allCounts countsOf
 end-shape st s vs f = λ i. record { statements = same-n i; plain = count plain (omega arith) (omega arith) i; exceptions = count exception (omega arith) (omega arith) i; preferences = count preference (omega arith) (omega arith) i }
   where
     same-n : step st last vs .statements ≡ s .statements
     same-n = z-statements st vs ∙ f .same-n
 
-    count : (k : ℕ) → first < k → k < last → getD (step st last vs .counts) k 0 ≡ countOf s k
+    count : (k : ℕ) → first < k → k < last → getD (step st last vs .counts) k 0 ≡ countAt s k
     count k a b = step-other st last vs k (λ e. omega arith) ∙ (sym (add-zero _) ∙ (ap (λ (m : ℕ). getD (st .counts) k 0 + m) (sym (occurs-none k)) ∙ f .counts-are k a b))
 
 end-run : (st : State) (vs : List ℤ) (at : ℕ) → readEnd (step st last vs) at ≡ accepted (shapeOf (step st last vs)) []

@@ -16,7 +16,7 @@ use Rattle.logic.specs.Tests.{pick}
 use Rattle.logic.proofs.Decide.{clash}
 use Rattle.book.specs.declared.Shape.{Shape}
 use Rattle.book.specs.Kinds.{kinds, kind, contents, fieldsOf, none, first, last, exception}
-use Rattle.book.specs.Counts.{countsOf, allCounts, countOf, shapeFrom}
+use Rattle.book.specs.Counts.{countsOf, allCounts, countAt, shapeFrom}
 use Rattle.text.specs.declared.State.{State}
 use Rattle.text.specs.Lines.{between, headless, missing, miscounted, wholeOf}
 use Rattle.text.specs.Reading.{after, step, rowOf, shapeOf, readEnd}
@@ -78,8 +78,8 @@ z-count : (st : State) (vs : List ℤ) (k : ℕ) → k < last → getD (step st 
 z-count st vs k h = step-other st last vs k (λ e. omega arith)
 
 -- The counts of a state, as a shape has them.
-shape-counts : (st : State) (k : ℕ) → first < k → k < last → countOf (shapeOf st) k ≡ getD (st .counts) k 0
-unfolding countOf allCounts countsOf shapeFrom
+shape-counts : (st : State) (k : ℕ) → first < k → k < last → countAt (shapeOf st) k ≡ getD (st .counts) k 0
+unfolding countAt allCounts countsOf shapeFrom
 shape-counts st zero h g = absurd (omega arith)
 shape-counts st (suc zero) h g = refl
 shape-counts st (suc (suc zero)) h g = refl
@@ -93,8 +93,8 @@ pub record Form (st : State) (s : Shape) (rs : List Row) (ws : List ℤ) : Type 
   pub rows-are : rs ≡ cut ks ws ++ (lastRow (st .rows + length ks) ∷ [])
   pub size : length ws ≡ widths ks
   pub same-n : s .statements ≡ st .statements
-  pub counts-are : (k : ℕ) → first < k → k < last → getD (st .counts) k 0 + occurs k ks ≡ countOf s k
-  pub few : (k : ℕ) → first < k → k < last → getD (st .counts) k 0 ≤ kind k .limit → countOf s k ≤ kind k .limit
+  pub counts-are : (k : ℕ) → first < k → k < last → getD (st .counts) k 0 + occurs k ks ≡ countAt s k
+  pub few : (k : ℕ) → first < k → k < last → getD (st .counts) k 0 ≤ kind k .limit → countAt s k ≤ kind k .limit
 
 cut-first : (k : ℕ) (ks : List ℕ) (vs us : List ℤ) → length vs ≡ kind k .numbers → cut (k ∷ ks) (vs ++ us) ≡ record { place = k; nums = vs } ∷ cut ks us
 unfolding cut

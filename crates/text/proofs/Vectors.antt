@@ -11,7 +11,7 @@ use lib.IntN.{ℤ, pos, negsuc}
 use lib.ListN.{length}
 use Rattle.logic.specs.Tests.{both, either, pick, consIf, some}
 use Rattle.book.specs.Kinds.{kinds, kind, unknown, contents, fieldsOf, numbersOf, bytes, most, longest, rowOnce, mostRows, rangeOf}
-use Rattle.book.specs.Counts.{countsOf, frontOf, allCounts, countOf, shapeFrom, sumTo}
+use Rattle.book.specs.Counts.{countsOf, frontOf, allCounts, countAt, shapeFrom, sumTo}
 use Rattle.text.specs.Fields.{columnOf, columns, digitOf, sizeOf, minusIn, signed, same, readColumns, spelt, firstField}
 use Rattle.text.specs.Lines.{toFirst, lines, seek, kindFor, between, inside, andThen, testField, readFields, code, numbersIn, filledIn, headless, missing, miscounted, wholeOf, unless, judged, readRest, readKind, readLine}
 use Rattle.text.specs.Reading.{Outcome, start, toNat, lastOr, after, step, rowOf, prepend, readEnd, onLine, readLines, lastByte, readText, tableOf}
@@ -94,5 +94,5 @@ pub tables-right : T (tables
     (6, 4, pos 1 ∷ pos 1 ∷ pos 1 ∷ pos 1 ∷ pos 0 ∷ pos 0 ∷ pos 0 ∷ pos 0 ∷ pos 0 ∷ pos 0 ∷ pos 0 ∷ pos 0 ∷ pos 0 ∷ pos 1 ∷ pos 0 ∷ pos 0 ∷ pos 0 ∷ pos 0 ∷ pos 0 ∷ pos 0 ∷ pos 0 ∷ pos 0 ∷ pos 0 ∷ pos 1 ∷ []) ∷
     (0, 24, pos 1 ∷ pos 1 ∷ pos 1 ∷ pos 1 ∷ pos 0 ∷ pos 0 ∷ pos 0 ∷ pos 0 ∷ pos 0 ∷ pos 0 ∷ pos 0 ∷ pos 0 ∷ pos 0 ∷ pos 1 ∷ pos 0 ∷ pos 0 ∷ pos 0 ∷ pos 0 ∷ pos 0 ∷ pos 0 ∷ pos 0 ∷ pos 0 ∷ pos 1 ∷ pos 1 ∷ []) ∷
     (0, 4, pos 48 ∷ pos 0 ∷ pos 0 ∷ pos 0 ∷ []) ∷ []))
-unfolding kinds kind unknown contents fieldsOf numbersOf most rowOnce mostRows rangeOf both pick consIf some between inside andThen testField code numbersIn filledIn headless missing unless judged toNat rowOf prepend onLine tableOf countsOf frontOf allCounts countOf shapeFrom sumTo layout cut rowsOf testFields rowFault testRow testRows shapeIn miscount testTable
+unfolding kinds kind unknown contents fieldsOf numbersOf most rowOnce mostRows rangeOf both pick consIf some between inside andThen testField code numbersIn filledIn headless missing unless judged toNat rowOf prepend onLine tableOf countsOf frontOf allCounts countAt shapeFrom sumTo layout cut rowsOf testFields rowFault testRow testRows shapeIn miscount testTable
 tables-right = tt

@@ -9,7 +9,7 @@ use lib.ListN.{length, getD, take, drop}
 use Rattle.book.specs.declared.Shape.{Shape}
 use Rattle.book.specs.declared.Content.the-variants.{Edition}
 use Rattle.book.specs.Kinds.{kind, numbersOf, rangeOf, first, last}
-use Rattle.book.specs.Counts.{countOf, startOf, rowNumbers, InLimits}
+use Rattle.book.specs.Counts.{countAt, startOf, rowNumbers, InLimits}
 use Rattle.text.specs.Lines.{inside, headless, missing}
 
 -- Row i of the kind at place k: its numbers.
@@ -25,4 +25,4 @@ pub record RowRight (s : Shape) (ws : List ℤ) (k i : ℕ) : Type 0 where
 pub record Accepted (s : Shape) (ws : List ℤ) : Type 0 where
   pub limits : InLimits s
   pub size : length ws ≡ rowNumbers s
-  pub rows : (k i : ℕ) → first < k → k < last → i < countOf s k → RowRight s ws k i
+  pub rows : (k i : ℕ) → first < k → k < last → i < countAt s k → RowRight s ws k i

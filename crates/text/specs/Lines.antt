@@ -92,7 +92,7 @@ unfoldable pub filledIn : List ℤ → ℕ
 filledIn [] = 0
 filledIn (v ∷ vs) = pick (between (pos 0) (pos 0) v) (filledIn vs) (suc (filledIn vs))
 
--- 9: fewer heads are filled than the kind asks for ("exception with head 0").
+-- The kind's own refusal, 9: fewer heads are filled than it asks for ("exception with head 0").
 unfoldable pub headless : Kind → List ℤ → Bool
 headless x vs = ltb (filledIn (take (x .heads) vs)) (x .filled)
 

@@ -38,7 +38,7 @@ cut (k ∷ ks) ws = record { place = k; nums = take (kind k .numbers) ws } ∷ c
 unfoldable pub rowsOf : Shape → List ℤ → List Row
 rowsOf s ws = cut (layout 1 (countsOf s)) ws
 
--- ---- the test of a row: 6, 9, 10
+-- ---- the test of a row: 6, its kind's own refusal for heads, 9, then 10
 -- A row's numbers, tested left to right as fields that are spelt right. Rows are cut to their length, so 4 does not occur in tables.
 unfoldable pub testFields : List Content → ℕ → List ℤ → Numbers
 testFields [] n [] = numbers []
@@ -46,7 +46,7 @@ testFields [] n (v ∷ vs) = fault 4
 testFields (c ∷ cs) n [] = fault 4
 testFields (c ∷ cs) n (v ∷ vs) = testField (Value v) (rangeOf c n) (testFields cs n vs)
 
--- The refusal of a row as a whole in a book of m exceptions: 9, then 10; 0 if none.
+-- The refusal of a row as a whole in a book of m exceptions: its kind's own, 9, then 10; 0 if none.
 unfoldable pub rowFault : ℕ → Kind → List ℤ → ℕ
 rowFault m x vs = pick (headless x vs) (x .unfilled) (pick (missing m x vs) 10 0)
 

@@ -23,7 +23,7 @@ use queue::waiting;
 pub mod marking;
 pub mod ranges;
 
-// Whether a set was admitted, how much may still be spent on marking sets without a view, how many nodes searches have visited for sets without
+// Whether a set was admitted, how much may still be spent on marking sets without a view, how many nodes searches have visited (or a mark: see mark_shaven) for sets without
 // one, and where it was admitted bounds at rest for the views that have it, and how many of these the store has.
 pub struct Admission {
     pub ok: bool,

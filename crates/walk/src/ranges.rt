@@ -246,7 +246,7 @@ pub fn all_freed(
     r
 }
 
-// A range of sets without a view around one that has none, by shaving: all sets if there is no view at all; else, where shaving alone shows
+// A range of sets without a view around one that has none, by shaving: all sets if shaving shows that there is no view at all; else, where shaving alone shows
 // that t has none, t with each exception freed as far as that goes.
 pub fn shaven(words: &[u64], n: usize, ranks: &[u64], index: &Index, root: Bounds, t: u64) -> Range
     requires { ⌜ (n * 8 ≤ length (now words)) × (length (now ranks) ≤ 64) × Chains (now words) n (now index) ⌝ }

@@ -20,7 +20,7 @@ use Rattle.logic.proofs.Stores.{sets-append, pieces, Putting}
 use Rattle.book.specs.declared.Kind.{Kind}
 use Rattle.book.specs.declared.Shape.{Shape}
 use Rattle.book.specs.Kinds.{kinds, kind, none, first, last, front, bytes, rowOnce, most}
-use Rattle.book.specs.Counts.{countsOf, allCounts, countOf, sumTo, startOf, rowNumbers, textBytes, total, InLimits}
+use Rattle.book.specs.Counts.{countsOf, allCounts, countAt, sumTo, startOf, rowNumbers, textBytes, total, InLimits}
 use Rattle.book.proofs.Counts.{sum-next, sum-all}
 use Rattle.text.specs.Fields.{writtenAll}
 use Rattle.text.specs.Lines.{lineOf, unlines}
@@ -165,7 +165,7 @@ block-append c k ks t from =
 
 -- The lines of the kind of row at place j + 1.
 abbrev pub blockAt : Shape → List ℤ → ℕ → List ℕ
-blockAt s t j = linesAt (j + 1) t (front + startOf s (j + 1)) (countOf s (j + 1))
+blockAt s t j = linesAt (j + 1) t (front + startOf s (j + 1)) (countAt s (j + 1))
 
 nothing : (ws : List ℤ) → unlines (rowLines (cut [] ws)) ≡ []
 unfolding cut rowLines unlines
@@ -175,10 +175,10 @@ come-blocks : (s : Shape) (t : List ℤ) (n j : ℕ) → j + 1 + n ≡ last → 
 unfolding pieces
 come-blocks s t zero j e = ap (λ (ks : List ℕ). unlines (rowLines (cut ks (drop (front + startOf s (j + 1)) t)))) (come-none s (j + 1) (omega arith)) ∙ nothing _
 come-blocks s t (suc n) j e =
-    let p = start-on s (j + 1) (front + startOf s (j + 1)) (countOf s (j + 1)) (kind (j + 1) .numbers) refl refl refl in
+    let p = start-on s (j + 1) (front + startOf s (j + 1)) (countAt s (j + 1)) (kind (j + 1) .numbers) refl refl refl in
     let q : suc j + 1 ≡ j + 1 + 1 = omega arith in
-    ap (λ (ks : List ℕ). unlines (rowLines (cut ks (drop (front + startOf s (j + 1)) t)))) (come-more s (j + 1) (countOf s (j + 1)) refl (omega arith) (omega arith))
-    ∙ (block-append (countOf s (j + 1)) (j + 1) (toCome s (j + 1 + 1)) t (front + startOf s (j + 1))
+    ap (λ (ks : List ℕ). unlines (rowLines (cut ks (drop (front + startOf s (j + 1)) t)))) (come-more s (j + 1) (countAt s (j + 1)) refl (omega arith) (omega arith))
+    ∙ (block-append (countAt s (j + 1)) (j + 1) (toCome s (j + 1 + 1)) t (front + startOf s (j + 1))
     ∙ ap (λ (l : List ℕ). blockAt s t j ++ l) (rw (p, ← q) (come-blocks s t n (suc j) (omega arith))))
 
 pub rows-are : (s : Shape) (t : List ℤ) → rowsText s t ≡ pieces (blockAt s t) 0 (last - 1)
@@ -186,8 +186,8 @@ unfolding rowsText rowsOf
 rows-are s t = let e = start-first s in rw (← e) at (come-blocks s t (last - 1) 0 (omega arith))
 
 module _ (s : Shape) (t : List ℤ) (l : length t ≡ front + rowNumbers s) where
-  pub block-long : (k : ℕ) → first < k → k < last → length (linesAt k t (front + startOf s k) (countOf s k)) ≡ countOf s k * bytes (kind k)
-  block-long k h g = kind-long k h g t (front + startOf s k) (countOf s k) (rows-in t s k (front + startOf s k) (countOf s k) l (omega arith) refl refl)
+  pub block-long : (k : ℕ) → first < k → k < last → length (linesAt k t (front + startOf s k) (countAt s k)) ≡ countAt s k * bytes (kind k)
+  block-long k h g = kind-long k h g t (front + startOf s k) (countAt s k) (rows-in t s k (front + startOf s k) (countAt s k) l (omega arith) refl refl)
 
   blocks-long : (n j : ℕ) → j + 1 + n ≡ last → sumTo bytes s (j + 1) + length (pieces (blockAt s t) j n) ≡ sumTo bytes s last
   unfolding pieces
@@ -195,16 +195,16 @@ module _ (s : Shape) (t : List ℤ) (l : length t ≡ front + rowNumbers s) wher
   blocks-long (suc n) j e =
       let q : suc j + 1 ≡ j + 1 + 1 = omega arith in
       let b = block-long (j + 1) (omega arith) (omega arith) in
-      let m = sum-next bytes s (j + 1) (sumTo bytes s (j + 1)) (countOf s (j + 1)) (bytes (kind (j + 1))) refl refl refl in
+      let m = sum-next bytes s (j + 1) (sumTo bytes s (j + 1)) (countAt s (j + 1)) (bytes (kind (j + 1))) refl refl refl in
       let ih = rw q at (blocks-long n (suc j) (omega arith)) in
       omega (arith, length-append (blockAt s t j) (pieces (blockAt s t) (suc j) n), b, m, ih)
 
   -- The bytes of B, of the rows and of Z are all.
   pub rows-long : bytes (kind first) + length (rowsText s t) + bytes (kind last) ≡ textBytes s
-  unfolding sumTo countOf allCounts countsOf
+  unfolding sumTo countAt allCounts countsOf
   rows-long = omega (arith, ap length (rows-are s t), blocks-long (last - 1) 0 (omega arith))
 
-  module _ (k : ℕ) (low : first < k) (high : k < last) (a f c : ℕ) (ec : c ≡ countOf s k) (ef : f ≡ front + startOf s k) where
+  module _ (k : ℕ) (low : first < k) (high : k < last) (a f c : ℕ) (ec : c ≡ countAt s k) (ef : f ≡ front + startOf s k) where
     block-is : blockAt s t (k - 1) ≡ linesAt k t f c
     block-is = let e : k - 1 + 1 ≡ k = omega arith in rw (e, ec, ef)
 
@@ -221,7 +221,7 @@ module _ (s : Shape) (t : List ℤ) (l : length t ≡ front + rowNumbers s) wher
 pub next-place : (f : ℕ → List ℕ) (n : ℕ) (l₀ : List ℕ) (at : ℕ) (m : List ℕ) (b k : ℕ) → first < k → Putting f n l₀ at m b (k - 1 + 1) → Putting f n l₀ at m b (k + 1 - 1)
 next-place f n l₀ at m b k h g = let e : k - 1 + 1 ≡ k + 1 - 1 = omega arith in rw e at g
 
-pub kind-rows : (x : Kind) (k : ℕ) → x ≡ kind k → (t : List ℤ) (s : Shape) (f c : ℕ) → length t ≡ front + rowNumbers s → k < none → f ≡ front + startOf s k → c ≡ countOf s k → f + c * x .numbers ≤ length t
+pub kind-rows : (x : Kind) (k : ℕ) → x ≡ kind k → (t : List ℤ) (s : Shape) (f c : ℕ) → length t ≡ front + rowNumbers s → k < none → f ≡ front + startOf s k → c ≡ countAt s k → f + c * x .numbers ≤ length t
 kind-rows x k e t s f c l h ef ec = rw e (rows-in t s k f c l h ef ec)
 
 -- ---- the whole text

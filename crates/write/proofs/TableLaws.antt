@@ -21,7 +21,7 @@ use Rattle.book.specs.declared.Kind.{Kind}
 use Rattle.book.specs.declared.Shape.{Shape}
 use Rattle.book.specs.declared.Content.the-variants.{Statements}
 use Rattle.book.specs.Kinds.{kinds, kind, unknown, none, first, last, front, rangeOf}
-use Rattle.book.specs.Counts.{countsOf, countOf, shapeFrom, sumTo, startOf, rowNumbers, InLimits}
+use Rattle.book.specs.Counts.{countsOf, countAt, shapeFrom, sumTo, startOf, rowNumbers, InLimits}
 use Rattle.book.proofs.Counts.{many, sum-next, sum-up, sum-all, numbers-most}
 use Rattle.text.specs.declared.Refusal.{Refusal}
 use Rattle.text.specs.declared.Reading.{Reading}
@@ -229,10 +229,10 @@ layout-cons : (k c : ℕ) (cs : List ℕ) → layout k (c ∷ cs) ≡ replicate 
 unfolding layout
 layout-cons k c cs = refl
 
-count-at : (s : Shape) (k : ℕ) → first < k → k < last → getD (countsOf s) (k - 1) 0 ≡ countOf s k
+count-at : (s : Shape) (k : ℕ) → first < k → k < last → getD (countsOf s) (k - 1) 0 ≡ countAt s k
 count-at s k h g = let e : 1 + (k - 1) ≡ k = omega arith in rw e at (row-counts s (k - 1) (omega (arith, counts-long s)))
 
-pub come-more : (s : Shape) (k c : ℕ) → c ≡ countOf s k → first < k → k < last → toCome s k ≡ replicate c k ++ toCome s (k + 1)
+pub come-more : (s : Shape) (k c : ℕ) → c ≡ countAt s k → first < k → k < last → toCome s k ≡ replicate c k ++ toCome s (k + 1)
 come-more s k c e h g =
     let a : k + 1 - 1 ≡ suc (k - 1) = omega arith in
     rw (drop-cons (countsOf s) (k - 1) 0 (omega (arith, counts-long s)), layout-cons k, count-at s k h g, e, a, add-one k)
@@ -242,12 +242,12 @@ unfolding layout
 come-none s k h = rw (drop-of-length-le (countsOf s) {i = k - 1} (omega (arith, counts-long s)))
 
 -- The rows of the kind at place k end before the table does.
-pub rows-in : (t : List ℤ) (s : Shape) (k from c : ℕ) → length t ≡ front + rowNumbers s → k < none → from ≡ front + startOf s k → c ≡ countOf s k → from + c * kind k .numbers ≤ length t
+pub rows-in : (t : List ℤ) (s : Shape) (k from c : ℕ) → length t ≡ front + rowNumbers s → k < none → from ≡ front + startOf s k → c ≡ countAt s k → from + c * kind k .numbers ≤ length t
 rows-in t s k from c l h ef ec =
     let n = sum-next (λ x. x .numbers) s k (startOf s k) c (kind k .numbers) refl ec refl in
     omega (arith, n, sum-up (λ x. x .numbers) s (k + 1) (omega arith), ef, l)
 
-pub start-on : (s : Shape) (k from c w : ℕ) → from ≡ front + startOf s k → c ≡ countOf s k → w ≡ kind k .numbers → from + c * w ≡ front + startOf s (k + 1)
+pub start-on : (s : Shape) (k from c w : ℕ) → from ≡ front + startOf s k → c ≡ countAt s k → w ≡ kind k .numbers → from + c * w ≡ front + startOf s (k + 1)
 start-on s k from c w ef ec ew = let n = sum-next (λ x. x .numbers) s k (startOf s k) c w refl ec ew in omega (arith, n, ef)
 
 pub start-first : (s : Shape) → front ≡ front + startOf s 1
@@ -265,7 +265,7 @@ pub going-start : (t : List ℤ) (s : Shape) → Going t s 1 front 2
 unfolding rowsOf
 going-start t s = record { low = omega arith; high = omega arith; place = start-first s; few-lines = omega arith; rest = refl }
 
-module _ (t : List ℤ) (s : Shape) (k from lno : ℕ) (g : Going t s k from lno) (h : k < last) (c : ℕ) (ec : c ≡ countOf s k) where
+module _ (t : List ℤ) (s : Shape) (k from lno : ℕ) (g : Going t s k from lno) (h : k < last) (c : ℕ) (ec : c ≡ countAt s k) where
   pub going-in : length t ≡ front + rowNumbers s → from + c * kind k .numbers ≤ length t
   going-in l = rows-in t s k from c l (omega arith) (g .place) ec
 
