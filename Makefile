@@ -1,7 +1,7 @@
 # run:  builds `ways`, proofs and all, and runs it on a book: make run BOOK=examples/gown.book
 # test: the gate. It proves every crate from nothing, tries the must-fail edits and runs the programs (rt ci); then it tests what it has just
-#       proved and built: the examples, the collection program, the C header, the agreement with brute force and with clingo, the
-#       installation.
+#       proved and built: the examples, the streams of `ways`, the collection program, the C header, the agreement with brute force and
+#       with clingo, the installation.
 # install, uninstall: see people.mk.
 SHELL := /bin/bash
 .SHELLFLAGS := -euo pipefail -c
@@ -11,7 +11,7 @@ BOOK ?= examples/gown.book
 LOG := build/ci.log
 PACKAGES := gringo valgrind g++
 
-.PHONY: run test packages proved library examples collection header agreement installed
+.PHONY: run test packages proved library examples streams collection header agreement installed
 
 run:
 	@mkdir -p build
@@ -21,6 +21,7 @@ run:
 # The last line is rt's own: how many passed, how many failed.
 test: packages proved library
 	$(MAKE) examples
+	$(MAKE) streams
 	$(MAKE) collection
 	$(MAKE) header
 	$(MAKE) agreement
@@ -51,6 +52,10 @@ examples:
 	echo "examples: $$count books print what is stored"
 	tests/books_page target/bin/ways docs/BOOKS.md
 	tests/symptoms target/bin/ways docs/BOOKS.md examples
+
+# A listing is whole, or cut off and not closed, whatever reads and writes do.
+streams:
+	$(MAKE) -C tests streams
 
 collection:
 	LIB=target/staticlib/libbantameasel.a collection/test.sh

@@ -66,6 +66,11 @@ fn next_of(statements: u32, point: &Option<Pair>, count: usize) -> Vec<Pair> {
     list
 }
 
+/// The first `count` resolutions of a book of free statements.
+pub fn beginning(book: &Book, count: usize) -> Vec<Pair> {
+    next_of(book.statements as u32, &None, count)
+}
+
 /// Compares First, After and both pages, up to 10,000 pairs, in a book of free statements.
 /// Answers how many calls were compared.
 pub fn compare(random: &mut Random, book: &Book) -> Result<u64, Difference> {

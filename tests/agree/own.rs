@@ -1,10 +1,11 @@
-//! Checks of the test program itself: its reading, its order and its meaning against what document 01 states.
+//! Checks of the test program itself: its reading, its order and its meaning against what document 01 states, and the
+//! closing line against document 02, (a).
 
 use crate::book::*;
 use crate::meaning::{compare_pairs, Meaning, Oracle};
 use crate::small_books::{small_books, SEVENTH_LISTING, SEVENTH_TEXT};
 use crate::text::*;
-use crate::ways::listing_of;
+use crate::ways::{listing_of, MOST};
 
 /// Every statement of document 01 about its small books, its order and its spelling, on this program's own code.
 pub fn check() -> Result<u64, String> {
@@ -25,10 +26,11 @@ pub fn check() -> Result<u64, String> {
     let seventh = &small_books()[6];
     expect("K7's text", text_of(&seventh.book) == SEVENTH_TEXT.as_bytes())?;
     expect("K7's listing", listing_of(&seventh.book, &seventh.resolutions, false) == SEVENTH_LISTING.as_bytes())?;
+    check_closing(&seventh.book, &seventh.resolutions[0])?;
     check_order()?;
     check_limits()?;
     check_spelling()?;
-    Ok(count + 5)
+    Ok(count + 6)
 }
 
 /// A named expectation.
@@ -36,8 +38,19 @@ fn expect(name: &str, holds: bool) -> Result<(), String> {
     if holds {
         Ok(())
     } else {
-        Err(format!("the test program's own code differs from document 01 at {name}"))
+        Err(format!("the test program's own code differs from the documents at {name}"))
     }
+}
+
+/// By document 02, (a), an empty listing closes with E and 0, and 9,999 lines with 9999 after E, or M if more remain.
+fn check_closing(book: &Book, pair: &Pair) -> Result<(), String> {
+    let closes = |lines: usize, more: bool, closing: &[u8]| {
+        let listing = listing_of(book, &vec![*pair; lines], more);
+        listing.ends_with(closing) && listing.len() == lines.min(MOST) * (54 + book.statements as usize) + 10
+    };
+    expect("an empty listing", closes(0, false, b"E       0\n"))?;
+    expect("9,999 lines", closes(9_999, false, b"\nE    9999\n"))?;
+    expect("9,999 lines and more", closes(9_999, true, b"\nM    9999\n") && closes(10_000, false, b"\nM    9999\n"))
 }
 
 /// The order of sets of exceptions begins 0, 1, 2, 4; entry 13 is 3, entry 14 is 5, the last 4,095.

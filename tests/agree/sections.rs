@@ -169,6 +169,7 @@ impl Run {
         self.section("larger books against clingo, to 48 statements", counts.large, Run::large_books)?;
         self.section("ways on small books and faulty texts", counts.ways, Run::ways_small)?;
         self.section("ways on K7, long texts and 9,999 lines", counts.ways.min(1), Run::ways_once)?;
+        self.section("ways on listings that fill whole parts", counts.ways.min(1), Run::ways_parts)?;
         report::print(self);
         report::all_met(self, counts)
     }
@@ -356,6 +357,17 @@ impl Run {
                 let what = format!("{} pairs listed of {} resolutions", listed.len(), 10_000 - less);
                 return Err(at_text(&text_of(&book))(what));
             }
+        }
+        Ok(())
+    }
+
+    /// `ways` prints in parts of 1,024 lines: books with half a part, with one, two, four and eight whole parts, and
+    /// with more lines than it prints.
+    fn ways_parts(&mut self, random: &mut Random, _: u64) -> Outcome {
+        for statements in 9..=14 {
+            let book = loops::free_book(random, statements);
+            let resolutions = loops::beginning(&book, ways::MOST + 1);
+            self.ways_on(&text_of(&book), &listing_of(&book, &resolutions, false))?;
         }
         Ok(())
     }

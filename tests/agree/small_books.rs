@@ -158,5 +158,5 @@ Z   4
 pub const SEVENTH_LISTING: &str = "\
 A   1   1   0   0   0   0   0   0   0   0   0   0   0+.+
 A   1   2   0   0   0   0   0   0   0   0   0   0   0.+.
-E
+E       2
 ";

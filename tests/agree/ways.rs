@@ -21,8 +21,13 @@ pub struct Closed {
 pub fn listing_of(book: &Book, resolutions: &[Pair], more: bool) -> Vec<u8> {
     let shown = &resolutions[..resolutions.len().min(MOST)];
     let mut output: Vec<u8> = shown.iter().flat_map(|pair| a_line_of(book, pair)).collect();
-    output.extend(if more || resolutions.len() > MOST { b"M\n" } else { b"E\n" });
+    output.extend(closing_line(if more || resolutions.len() > MOST { 'M' } else { 'E' }, shown.len()));
     output
+}
+
+/// The closing line below so many A lines: a letter, and their number at the right of 8 columns.
+fn closing_line(letter: char, lines: usize) -> Vec<u8> {
+    format!("{letter}{lines:>8}\n").into_bytes()
 }
 
 /// Compares what `ways` prints for a text.
@@ -52,12 +57,13 @@ fn shown_difference(output: &[u8], expected: &[u8]) -> String {
 impl Closed {
     /// Counts an expected output by its closing line.
     fn count(&mut self, output: &[u8]) {
-        let lines = output.split_inclusive(|byte| *byte == 10).count() as u64;
-        self.lines += lines - 1;
-        match (output.get(output.len().saturating_sub(2)), output[0]) {
-            (_, b'F') => self.refused += 1,
-            (Some(b'M'), _) => self.more += 1,
-            _ if lines == 1 => self.end_with_none += 1,
+        let lines: Vec<&[u8]> = output.split_inclusive(|byte| *byte == 10).collect();
+        let above = lines.len() - 1;
+        self.lines += above as u64;
+        match lines[above][0] {
+            b'F' => self.refused += 1,
+            b'M' => self.more += 1,
+            _ if above == 0 => self.end_with_none += 1,
             _ => self.end_with_some += 1,
         }
     }

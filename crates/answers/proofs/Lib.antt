@@ -1,3 +1,4 @@
 pub mod Listed
 pub mod Means
 pub mod Refused
+pub mod Counted

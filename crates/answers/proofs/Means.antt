@@ -134,7 +134,7 @@ more m xs = go (ltb m (length xs)) refl
     go true e = let h = ltb-true m (length xs) e in rw e (lt-ltb m (length (take (suc m) xs)) (omega (arith, length-take (suc m) xs)))
     go false e = let h = ltb-false m (length xs) e in rw e (le-ltb m (length (take (suc m) xs)) (omega (arith, length-take (suc m) xs)))
 
-front-printed : (b : Book) (all : List Pair) → AllLater b start all → printed mostLines (fieldsIn b) (b .statements) all ≡ listed b mostLines start
+front-printed : (b : Book) (all : List Pair) → AllLater b start all → printed 0 mostLines (fieldsIn b) (b .statements) all ≡ listed b mostLines start
 unfolding listed printed closing
 front-printed b all a =
     let e = page-is b (suc mostLines) start all tt a in

@@ -41,6 +41,6 @@ Lines m b start x = ⊥
 Lines m b (at p) (told l) = (l ≡ lineIn b p) × (length l ≤ m)
 Lines m b (at p) (turned q line) = (q ≡ 15) × (line ≡ 0) × (m < length (lineIn b p))
 
--- Of what `ways` prints: all resolutions by Line, no more than 9,999, then E, or M if more remain.
+-- Of what `ways` prints: all resolutions by Line, no more than 9,999, then E, or M if more remain, and how many lines were printed.
 abbrev pub WaysPrints : Book → Point → List ℕ → Type 0
-WaysPrints b from x = (all : List Pair) × AllLater b from all × (x ≡ printed mostLines (fieldsIn b) (b .statements) all)
+WaysPrints b from x = (all : List Pair) × AllLater b from all × (x ≡ printed 0 mostLines (fieldsIn b) (b .statements) all)

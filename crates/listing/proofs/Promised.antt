@@ -2,8 +2,8 @@
 use Prim.Native.Nat.{ℕ, suc, _+_, _-_, _*_, _/_, _<_, _≤_}
 use mathlib.Core.Path.{_≡_, refl, sym, ap, _∙_}
 use mathlib.Core.Bool.{true, false}
-use mathlib.Core.List.{List, [], _∷_, _++_}
-use mathlib.Core.Logic.{_⊎_, inl, inr, ⊎-elim}
+use mathlib.Core.List.{List, _++_}
+use mathlib.Core.Logic.{⊎-elim}
 use native.Mathlib.Nat.{lt-of-lt-of-le}
 use native.Mathlib.Omega.{arith}
 use lib.IntN.{ℤ}
@@ -27,13 +27,13 @@ use Rattle.meaning.specs.Order.{Point, start, at, LawfulPoint}
 use Rattle.meaning.specs.Twins.Next.{pageFrom}
 use Rattle.meaning.proofs.Meant.{exceptions-count}
 use Rattle.answers.specs.Operations.{onText, fieldsIn}
-use Rattle.answers.specs.Ways.{linesOf, mostLines, failed, waysOf}
+use Rattle.answers.specs.Ways.{linesOf, closingLine, mostLines, failed, waysOf}
 use Rattle.answers.proofs.Refused.{text-short}
 use Rattle.line.specs.Parts.{lineBytes}
 use Rattle.engine.specs.Loaded.{Loaded, PageIs}
 use Rattle.listing.specs.declared.Part.{Part}
 use Rattle.page.specs.Pages.{pairAt, pairsIn}
-use Rattle.listing.specs.Parts.{partLines, longestLine, partBytes, Closes, Fills, Prints, Lists, Prepared, Ready, Begins}
+use Rattle.listing.specs.Parts.{partLines, longestLine, closingBytes, partBytes, Closes, Fills, Prints, Lists, Prepared, Ready, Begins}
 use Rattle.listing.proofs.Pages.{lastPoint, page-lawful, last-point}
 use Rattle.listing.proofs.Printed.{front-is}
 use Rattle.listing.proofs.Listed.{front-listed, ended-listed, cut-listed, at-most, statements-same, fields-same, page-count, page-few, page-pairs, page-all, lines-shown, closed-shown}
@@ -44,11 +44,12 @@ module _ (w n : ℕ) (ns : List ℕ) (k : ℕ) (out out₁ : List ℕ) (i : ℕ)
   room : i ≤ partLines * longestLine
   room = rw ei (at-most k partLines w n hk hw hn)
 
-  pub closes : (x : ℕ) (out₂ : List ℕ) (p : Pair) → out₂ ≡ sets out₁ i (x ∷ 10 ∷ []) → length out₂ ≡ length out → Closes w n ns k x out₂ (record { bytes = i + 2; full = false; last = p })
-  closes x out₂ p g h = record {
+  pub closes : (x d : ℕ) (out₂ : List ℕ) (p : Pair) → out₂ ≡ sets out₁ i (closingLine x (d + k)) → length out₂ ≡ length out
+      → Closes w n ns k x d out₂ (record { bytes = i + closingBytes; full = false; last = p })
+  closes x d out₂ p g h = record {
     fits = let r = room in omega arith;
     not-full = refl;
-    is = closed-shown w n ns k out out₁ i e ei x out₂ g (let r = room in omega arith);
+    is = closed-shown w n ns k out out₁ i e ei x (d + k) out₂ g (let r = room in omega arith);
   }
 
   pub fills : (p : Pair) → length out₁ ≡ length out → p ≡ pairAt ns (partLines - 1) → Fills w n ns k out₁ (record { bytes = i; full = true; last = p })
@@ -60,20 +61,14 @@ module _ (w n : ℕ) (ns : List ℕ) (k : ℕ) (out out₁ : List ℕ) (i : ℕ)
   }
 
 module _ (w n : ℕ) (ns : List ℕ) (k m : ℕ) (o : List ℕ) (r : Part) where
-  pub prints-ended : k < partLines → k ≤ m → Closes w n ns k 69 o r → Prints w n ns k m o r
-  prints-ended h g c = record { ended = λ _ _. c; cut = λ a _. absurd (omega arith); filled = λ a _. absurd (omega arith) }
+  pub prints-cut : m < k → Closes w n ns m 77 (mostLines - m) o r → Prints w n ns k m o r
+  prints-cut h c = record { cut = λ _. c; ended = λ a _. absurd (omega arith); filled = λ a _. absurd (omega arith) }
 
-  pub prints-cut : m < k → m < partLines → Closes w n ns m 77 o r → Prints w n ns k m o r
-  prints-cut h g c = record { ended = λ _ d. absurd (omega arith); cut = λ _ _. c; filled = λ _ d. absurd (omega arith) }
+  pub prints-ended : k ≤ m → k < partLines → Closes w n ns k 69 (mostLines - m) o r → Prints w n ns k m o r
+  prints-ended h g c = record { cut = λ a. absurd (omega arith); ended = λ _ _. c; filled = λ _ d. absurd (omega arith) }
 
-  pub prints-filled : partLines ≤ k → partLines ≤ m → Fills w n ns partLines o r → Prints w n ns k m o r
-  prints-filled h g f = record { ended = λ a _. absurd (omega arith); cut = λ _ d. absurd (omega arith); filled = λ e _. rw e f }
-
-  -- Which of the three a page is.
-  pub three-ways : k ≤ partLines → (k < partLines × k ≤ m) ⊎ ((m < k × m < partLines) ⊎ (k ≡ partLines × partLines ≤ m))
-  three-ways h =
-      ⊎-elim (λ a. ⊎-elim (λ c. inl (c, omega arith)) (λ c. inr (inr (omega arith, omega arith))) (lt-or-le k partLines))
-      (λ a. ⊎-elim (λ c. inr (inl (omega arith, c))) (λ c. inr (inr (omega arith, c))) (lt-or-le m partLines)) (lt-or-le k (suc m))
+  pub prints-filled : k ≤ m → partLines ≤ k → Fills w n ns partLines o r → Prints w n ns k m o r
+  prints-filled h g f = record { cut = λ a. absurd (omega arith); ended = λ _ d. absurd (omega arith); filled = λ _ e. rw e f }
 
 -- ---- a part of a book
 module _ (s : Shape) (ws ranks : List ℕ) (from : Point) (m : ℕ) (o o′ : List ℕ) (k : ℕ) (eo : length o ≡ partLines * 3) (f : PageIs s ws ranks from o o′ k) where
@@ -83,7 +78,7 @@ module _ (s : Shape) (ws ranks : List ℕ) (from : Point) (m : ℕ) (o o′ : Li
   pub part-few : (rows : List ℤ) → Loaded s rows ws ranks → LawfulPoint (bookOf s rows) from → k ≤ partLines
   part-few rows d l = page-few s ws ranks from partLines o o′ k room-is f rows d l
 
-  module _ (w : ℕ) (ew : w ≡ lineFields (s .exceptions)) (out : List ℕ) (r : Part) (p : Prints w (s .statements) o′ k m out r) (few : k ≤ partLines) where
+  module _ (w : ℕ) (ew : w ≡ lineFields (s .exceptions)) (out : List ℕ) (r : Part) (p : Prints w (s .statements) o′ k m out r) (few : k ≤ partLines) (left : m ≤ mostLines) where
     module _ (rows : List ℤ) (d : Loaded s rows ws ranks) (l : LawfulPoint (bookOf s rows) from) where
       count : k ≡ length (pageFrom (bookOf s rows) partLines from)
       count = page-count s ws ranks from partLines o o′ k room-is f rows d l
@@ -91,40 +86,44 @@ module _ (s : Shape) (ws ranks : List ℕ) (from : Point) (m : ℕ) (o o′ : Li
       pairs-all : linesOf w (s .statements) (pairsIn o′ 0 k) ≡ linesOf (fieldsIn (bookOf s rows)) (bookOf s rows .statements) (pageFrom (bookOf s rows) partLines from)
       pairs-all = rw (page-all s ws ranks from partLines o o′ k room-is f rows d l, statements-same s rows, fields-same s rows, ew) refl
 
-    ended : k < partLines → k ≤ m → Lists s ws ranks from m out r
-    ended h g = let c = p .ended h g in record {
-      fits = c .fits;
-      fewer = λ t. absurd (clash (sym (c .not-full) ∙ t));
-      whole = λ rows d l t. c .is ∙ ap (λ (x : List ℕ). x ++ (69 ∷ 10 ∷ [])) (pairs-all rows d l) ∙ ended-listed (bookOf s rows) partLines m from (let e = count rows d l in omega arith) (let e = count rows d l in omega arith);
-      lawful = λ rows d l t. absurd (clash (sym (c .not-full) ∙ t));
-      front = λ rows d l t. absurd (clash (sym (c .not-full) ∙ t));
-    }
-
-    cut : m < k → m < partLines → Lists s ws ranks from m out r
-    cut h g = let c = p .cut h g in record {
+    cut : m < k → Lists s ws ranks from m out r
+    cut h = let c = p .cut h in record {
       fits = c .fits;
       fewer = λ t. absurd (clash (sym (c .not-full) ∙ t));
       whole = λ rows d l t.
           let q : linesOf w (s .statements) (pairsIn o′ 0 m) ≡ linesOf (fieldsIn (bookOf s rows)) (bookOf s rows .statements) (take m (pageFrom (bookOf s rows) partLines from)) = rw (page-pairs s ws ranks from partLines o o′ k room-is f rows d l m (omega arith), statements-same s rows, fields-same s rows, ew) refl in
-          c .is ∙ ap (λ (x : List ℕ). x ++ (77 ∷ 10 ∷ [])) q ∙ cut-listed (bookOf s rows) partLines m from (let e = count rows d l in omega arith);
+          c .is ∙ ap (λ (x : List ℕ). x ++ closingLine 77 (mostLines - m + m)) q ∙ cut-listed (bookOf s rows) partLines m from (let e = count rows d l in omega arith);
       lawful = λ rows d l t. absurd (clash (sym (c .not-full) ∙ t));
       front = λ rows d l t. absurd (clash (sym (c .not-full) ∙ t));
     }
 
-    filled : k ≡ partLines → partLines ≤ m → Lists s ws ranks from m out r
-    filled h g = let c = p .filled h g in record {
+    ended : k ≤ m → k < partLines → Lists s ws ranks from m out r
+    ended h g = let c = p .ended h g in record {
       fits = c .fits;
-      fewer = λ t. g;
+      fewer = λ t. absurd (clash (sym (c .not-full) ∙ t));
+      whole = λ rows d l t.
+          let e = count rows d l in
+          c .is ∙ ap (λ (x : List ℕ). x ++ closingLine 69 (mostLines - m + k)) (pairs-all rows d l)
+          ∙ ap (λ j. linesOf (fieldsIn (bookOf s rows)) (bookOf s rows .statements) (pageFrom (bookOf s rows) partLines from) ++ closingLine 69 (mostLines - m + j)) e
+          ∙ ended-listed (bookOf s rows) partLines m from (omega arith) (omega arith);
+      lawful = λ rows d l t. absurd (clash (sym (c .not-full) ∙ t));
+      front = λ rows d l t. absurd (clash (sym (c .not-full) ∙ t));
+    }
+
+    filled : k ≤ m → k ≡ partLines → Lists s ws ranks from m out r
+    filled g h = let c = p .filled g h in record {
+      fits = c .fits;
+      fewer = λ t. omega arith;
       whole = λ rows d l t. absurd (clash (sym t ∙ c .is-full));
       lawful = λ rows d l t. rw (leads rows d l) at (page-lawful (bookOf s rows) partLines from l);
-      front = λ rows d l t. rw (c .is ∙ pairs-all rows d l) (front-listed (bookOf s rows) partLines m from (r .last) (sym (count rows d l) ∙ h) (leads rows d l) g);
+      front = λ rows d l t. rw (c .is ∙ pairs-all rows d l) (front-listed (bookOf s rows) partLines m from (r .last) (sym (count rows d l) ∙ h) (leads rows d l) (omega arith) left);
     }
       where
         leads : (rows : List ℤ) → Loaded s rows ws ranks → LawfulPoint (bookOf s rows) from → lastPoint from (pageFrom (bookOf s rows) partLines from) ≡ at (r .last)
-        leads rows d l = ap (lastPoint from) (sym (rw h at (page-all s ws ranks from partLines o o′ k room-is f rows d l))) ∙ last-point (partLines - 1) 0 from o′ ∙ ap at (sym (p .filled h g .last))
+        leads rows d l = ap (lastPoint from) (sym (rw h at (page-all s ws ranks from partLines o o′ k room-is f rows d l))) ∙ last-point (partLines - 1) 0 from o′ ∙ ap at (sym (p .filled g h .last))
 
     pub lists : Lists s ws ranks from m out r
-    lists = ⊎-elim (λ a. ended (a .0) (a .1)) (λ a. ⊎-elim (λ c. cut (c .0) (c .1)) (λ c. filled (c .0) (c .1)) a) (three-ways w (s .statements) o′ k m out r few)
+    lists = ⊎-elim cut (λ a. ⊎-elim (ended a) (λ c. filled a (omega arith)) (lt-or-le k partLines)) (lt-or-le m k)
 
 pub few-taken : (s : Shape) (ws ranks : List ℕ) (p : Pair) → Ready s ws ranks p → p .taken < setCount
 few-taken s ws ranks p d =

@@ -1,8 +1,8 @@
 -- What `ways` prints, part by part: the first from the text, each other from the prepared book, the point and the lines that are left.
 use Prim.Native.Nat.{ℕ, _+_, _-_, _*_, _<_, _≤_}
-use mathlib.Core.Bool.{true, false}
+use mathlib.Core.Bool.{Bool, true, false}
 use mathlib.Core.Path.{_≡_}
-use mathlib.Core.List.{List, [], _∷_, _++_}
+use mathlib.Core.List.{List, _++_}
 use lib.IntN.{ℤ}
 use lib.ListN.{length, take}
 use Rattle.sets.specs.declared.Pair.{Pair}
@@ -11,7 +11,7 @@ use Rattle.book.specs.Limits as limit
 use Rattle.meaning.specs.Books.{Lawful}
 use Rattle.meaning.specs.Meant.{bookOf}
 use Rattle.meaning.specs.Order.{Point, at, LawfulPoint}
-use Rattle.answers.specs.Ways.{linesOf, listed, mostLines, waysOf}
+use Rattle.answers.specs.Ways.{linesOf, countColumns, closingLine, listed, mostLines, waysOf}
 use Rattle.line.specs.Parts.{lineBytes}
 use Rattle.page.specs.Pages.{pairAt, pairsIn}
 use Rattle.engine.specs.Loaded.{Loaded}
@@ -27,17 +27,17 @@ abbrev pub longestLine : ℕ
 longestLine = lineBytes limit.exceptions limit.statements
 
 abbrev pub closingBytes : ℕ
-closingBytes = 2
+closingBytes = 1 + countColumns + 1
 
 abbrev pub partBytes : ℕ
 partBytes = partLines * longestLine + closingBytes
 
 -- ---- a page in lines
--- The lines of the first k pairs and a closing line with this letter.
-pub record Closes (w n : ℕ) (ns : List ℕ) (k letter : ℕ) (o′ : List ℕ) (r : Part) : Type 0 where
+-- The lines of the first k pairs and a closing line with this letter, done lines having been printed before.
+pub record Closes (w n : ℕ) (ns : List ℕ) (k letter done : ℕ) (o′ : List ℕ) (r : Part) : Type 0 where
   pub fits : r .bytes ≤ length o′
   pub not-full : r .full ≡ false
-  pub is : take (r .bytes) o′ ≡ linesOf w n (pairsIn ns 0 k) ++ (letter ∷ 10 ∷ [])
+  pub is : take (r .bytes) o′ ≡ linesOf w n (pairsIn ns 0 k) ++ closingLine letter (done + k)
 
 -- The lines of all k pairs, and the last of them.
 pub record Fills (w n : ℕ) (ns : List ℕ) (k : ℕ) (o′ : List ℕ) (r : Part) : Type 0 where
@@ -46,11 +46,11 @@ pub record Fills (w n : ℕ) (ns : List ℕ) (k : ℕ) (o′ : List ℕ) (r : Pa
   pub last : r .last ≡ pairAt ns (partLines - 1)
   pub is : take (r .bytes) o′ ≡ linesOf w n (pairsIn ns 0 k)
 
--- A page of k pairs where m lines are left: `E` where that is all, `M` where it is more than may be printed, else the listing goes on.
+-- A page of k pairs where m lines are left: `M` where it is more than may be printed, `E` where it is all there is, else the listing goes on.
 pub record Prints (w n : ℕ) (ns : List ℕ) (k m : ℕ) (o′ : List ℕ) (r : Part) : Type 0 where
-  pub ended : k < partLines → k ≤ m → Closes w n ns k 69 o′ r
-  pub cut : m < k → m < partLines → Closes w n ns m 77 o′ r
-  pub filled : k ≡ partLines → partLines ≤ m → Fills w n ns k o′ r
+  pub cut : m < k → Closes w n ns m 77 (mostLines - m) o′ r
+  pub ended : k ≤ m → k < partLines → Closes w n ns k 69 (mostLines - m) o′ r
+  pub filled : k ≤ m → k ≡ partLines → Fills w n ns k o′ r
 
 -- ---- of a book
 -- The words and ranks are those of some book of this shape, and the pair is lawful in it.
@@ -71,10 +71,10 @@ pub record Lists (s : Shape) (ws ranks : List ℕ) (from : Point) (m : ℕ) (o�
   pub lawful : (rows : List ℤ) → Loaded s rows ws ranks → LawfulPoint (bookOf s rows) from → r .full ≡ true → Lawful (bookOf s rows) (r .last)
   pub front : (rows : List ℤ) → Loaded s rows ws ranks → LawfulPoint (bookOf s rows) from → r .full ≡ true → take (r .bytes) o′ ++ listed (bookOf s rows) (m - partLines) (at (r .last)) ≡ listed (bookOf s rows) m from
 
--- Where the listing goes on after a part, m lines having been left before it, a part's lines fewer are left, and the book is ready for its last pair.
-pub record Reaches (s : Shape) (ws ranks : List ℕ) (m : ℕ) (r : Part) : Type 0 where
-  pub fewer : r .full ≡ true → partLines ≤ m
-  pub ready : r .full ≡ true → Ready s ws ranks (r .last)
+-- Where more is to be printed after a part, m lines having been left before it, a part's lines fewer are left, and the book is ready for the pair.
+pub record Reaches (s : Shape) (ws ranks : List ℕ) (m : ℕ) (more : Bool) (p : Pair) : Type 0 where
+  pub fewer : more ≡ true → partLines ≤ m
+  pub ready : more ≡ true → Ready s ws ranks p
 
 -- ---- of a text
 -- What was printed, with what is listed from the pair on, m lines being left, is all that `ways` prints.

@@ -1,12 +1,11 @@
 // What `ways` prints, part by part: the first part from a text, each other from the prepared book, the point and the lines that are left.
 ghost use mathlib.Core.Path.{_≡_};
-ghost use mathlib.Core.List.{[], _∷_};
 ghost use Prim.Native.Nat.{_+_, _*_, _<_, _≤_};
 ghost use lib.ListN.{length};
 ghost use lib.Seq.{sets};
 ghost use Rattle.book.specs.Limits as limit;
 ghost use Rattle.meaning.specs.Order.{start, at};
-ghost use Rattle.answers.specs.Ways.{linesOf, mostLines, failed as failedOf};
+ghost use Rattle.answers.specs.Ways.{linesOf, mostLines, closingLine, failed as failedOf};
 ghost use Rattle.line.specs.Parts.{lineBytes};
 ghost use Rattle.page.specs.Pages.{pairsIn};
 ghost use Rattle.listing.specs.Parts.{partLines, closingBytes, partBytes, Prepared, Ready, Closes, Prints, Lists, Begins};
@@ -26,7 +25,7 @@ pub const PART: usize = 1024;
 // The bytes of the longest line, and of the closing line.
 pub const LONGEST: usize = 1 + (1 + Book::EXCEPTIONS) * Book::COLUMNS + Book::STATEMENTS + 1;
 
-pub const CLOSING: usize = 2;
+pub const CLOSING: usize = 10;
 
 // Room for a part.
 pub type Text = [u8; PART * LONGEST + CLOSING];
@@ -48,13 +47,18 @@ pub fn put_lines(out: &mut [u8], w: usize, n: usize, pairs: &[u64], k: usize) ->
     at
 }
 
-// A letter and a line feed at a place of a buffer.
-pub fn put_closing(out: &mut [u8], at: usize, letter: u8)
-    requires { ⌜ at + closingBytes ≤ length (now out) ⌝ }
-    ensures { λ r. ⌜ now (out .exit) ≡ sets (now (out .entry)) at (letter ∷ 10 ∷ []) ⌝ }
+// A closing line at a place of a buffer: a letter, a count of at most four digits right-justified in eight columns, a line feed.
+pub fn put_closing(out: &mut [u8], at: usize, letter: u8, count: usize)
+    requires { ⌜ (at + closingBytes ≤ length (now out)) × (count ≤ mostLines) ⌝ }
+    ensures { λ r. ⌜ now (out .exit) ≡ sets (now (out .entry)) at (closingLine letter count) ⌝ }
 {
     out[at] = letter;
-    out[at + 1] = b'\n';
+    out[at + 1] = b' ';
+    out[at + 2] = b' ';
+    out[at + 3] = b' ';
+    out[at + 4] = b' ';
+    fields::put_columns(out, at + 5, false, count as u32);
+    out[at + 9] = b'\n';
 }
 
 // A part: how many bytes it has, whether the listing goes on after it, and its last pair then.
@@ -64,13 +68,13 @@ pub struct Part {
     pub last: Pair,
 }
 
-// The first k pairs of a page in lines, and a closing line: no part follows.
-pub fn close_part(out: &mut [u8], w: usize, n: usize, pairs: &[u64], k: usize, letter: u8) -> Part
-    requires { ⌜ (w ≤ limit.exceptions) × (n ≤ limit.statements) × (k ≤ partLines) × (k * 3 ≤ length (now pairs)) × (length (now out) ≡ partBytes) ⌝ }
-    ensures { λ r. ⌜ Closes w n (now (pairs .entry)) k letter (now (out .exit)) r ⌝ }
+// The first k pairs of a page in lines, done lines having been printed before, and a closing line: no part follows.
+pub fn close_part(out: &mut [u8], w: usize, n: usize, pairs: &[u64], k: usize, letter: u8, done: usize) -> Part
+    requires { ⌜ (w ≤ limit.exceptions) × (n ≤ limit.statements) × (k ≤ partLines) × (k * 3 ≤ length (now pairs)) × (length (now out) ≡ partBytes) × (done + k ≤ mostLines) ⌝ }
+    ensures { λ r. ⌜ Closes w n (now (pairs .entry)) k letter done (now (out .exit)) r ⌝ }
 {
     let at = put_lines(out, w, n, pairs, k);
-    put_closing(out, at, letter);
+    put_closing(out, at, letter, done + k);
     Part {
         bytes: at + CLOSING,
         full: false,
@@ -84,17 +88,15 @@ pub fn close_part(out: &mut [u8], w: usize, n: usize, pairs: &[u64], k: usize, l
 
 // The lines of a page of k pairs, where m lines are left to be printed: the closing line too, unless the page is full and more may come.
 pub fn put_part(out: &mut [u8], w: usize, n: usize, pairs: &[u64], k: usize, m: usize) -> Part
-    requires { ⌜ (w ≤ limit.exceptions) × (n ≤ limit.statements) × (k ≤ partLines) × (length (now pairs) ≡ partLines * 3) × (length (now out) ≡ partBytes) ⌝ }
+    requires { ⌜ (w ≤ limit.exceptions) × (n ≤ limit.statements) × (k ≤ partLines) × (length (now pairs) ≡ partLines * 3) × (length (now out) ≡ partBytes) × (m ≤ mostLines) ⌝ }
     ensures { λ r. ⌜ Prints w n (now (pairs .entry)) k m (now (out .exit)) r ⌝ }
 {
-    if k < PART {
-        if k <= m {
-            return close_part(out, w, n, pairs, k, b'E');
-        }
-        return close_part(out, w, n, pairs, m, b'M');
+    let done = MOST - m;
+    if m < k {
+        return close_part(out, w, n, pairs, m, b'M', done);
     }
-    if m < PART {
-        return close_part(out, w, n, pairs, m, b'M');
+    if k < PART {
+        return close_part(out, w, n, pairs, k, b'E', done);
     }
     Part {
         bytes: put_lines(out, w, n, pairs, PART),
@@ -116,7 +118,7 @@ pub fn opening(words: &Words, ranks: &Ranks, s: Shape, out: &mut Text) -> Part
 
 // The part after a pair, where m lines are left to be printed.
 pub fn go_on(words: &Words, ranks: &Ranks, s: Shape, p: Pair, m: usize, out: &mut Text) -> Part
-    requires { ⌜ Ready s (now words) (now ranks) p ⌝ }
+    requires { ⌜ Ready s (now words) (now ranks) p × (m ≤ mostLines) ⌝ }
     ensures { λ r. ⌜ Lists s (now (words .entry)) (now (ranks .entry)) (at p) m (now (out .exit)) r ⌝ }
 {
     let w = line::line_fields(s.exceptions);

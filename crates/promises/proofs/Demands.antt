@@ -27,8 +27,9 @@ use Rattle.meaning.proofs.Laws.{as-published}
 use Rattle.meaning.proofs.Shown.{Shown, small-books}
 use Rattle.meaning.proofs.SmallBooks.{table}
 use Rattle.answers.specs.Operations.{Told, told, turned, left, judgeAnswer, firstPage, pageAfter, lineAnswer, asks}
-use Rattle.answers.specs.Ways.{failed, waysOf}
+use Rattle.answers.specs.Ways.{failed, waysOf, Counted}
 use Rattle.answers.specs.Means.{Means, Judges, Pages, Lines, WaysPrints}
+use Rattle.answers.proofs.Counted.{ways-counted}
 use Rattle.answers.proofs.Refused.{Known, text-known}
 use Rattle.answers.proofs.Means.{judge-means, first-means, after-means, first-page-means, page-after-means, line-means, ways-means}
 use Rattle.answers.proofs.Listed.{first-page-handed, page-after-handed}
@@ -98,7 +99,7 @@ pub record DemandOne : Type 1 where
 -- Demand 2. A book is accepted, read and written as the documents lay it out, reading and writing being inverse: the contracts of Read and Write,
 -- and the first two laws. The verdict on any pair is the one that follows from answer sets, views, domination and minimality: the contracts of
 -- Judge, whose answer is the one that `Means` and `Verdict` allow; resolutions are the published ones, and the small books show it. What Line
--- writes and `ways` prints is also said by the definitions alone.
+-- writes and `ways` prints is also said by the definitions alone, and the number of the closing line is the number of A lines above it.
 pub record DemandTwo : Type 0 where
   pub read-back : (bs : List ℕ) (s : Shape) (ws : List ℤ) → readText bs ≡ accepted s ws → (testTable (tableOf s ws) ≡ accepted s ws) × (textOf s ws ≡ bs)
   pub write-back : (t : List ℤ) (s : Shape) (ws : List ℤ) → testTable t ≡ accepted s ws → (readText (textOf s ws) ≡ accepted s ws) × (tableOf s ws ≡ t)
@@ -107,6 +108,7 @@ pub record DemandTwo : Type 0 where
   pub shown : Every Shown table
   pub line-right : (bs : List ℕ) (p : Pair) (m : ℕ) (x : Told (List ℕ)) → (x ≡ lineAnswer bs p m) ↔ Means turned (Lines m) bs (at p) x
   pub ways-right : (bs x : List ℕ) → (x ≡ waysOf bs) ↔ Means failed WaysPrints bs start x
+  pub ways-counts : (bs : List ℕ) (s : Shape) (ws : List ℤ) → readText bs ≡ accepted s ws → Counted (waysOf bs)
 
 -- Demand 3, one claim about the whole list of calls of the engine's own First and After: the contract of `run`, in `engine.Claim`, where `asks` is
 -- what First and After answer, the first later resolution; and of the structs that C gets, `across.Claim`. And pages: a page is the first so many
@@ -158,6 +160,7 @@ demands = record {
     shown = small-books;
     line-right = line-means;
     ways-right = ways-means;
+    ways-counts = ways-counted;
   };
   three = record {
     first-right = first-means;

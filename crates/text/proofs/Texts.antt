@@ -99,7 +99,7 @@ read-rows (l ∷ ls) st at end ws e =
 unfoldable pub Plain : List ℕ → Type 0
 Plain l = Every (λ b. b ≡ 10 → ⊥) l
 
-first-line : (l bs : List ℕ) → Plain l → lines (l ++ (10 ∷ bs)) ≡ l ∷ lines bs
+pub first-line : (l bs : List ℕ) → Plain l → lines (l ++ (10 ∷ bs)) ≡ l ∷ lines bs
 unfolding lines pick toFirst Plain
 first-line [] bs p = refl
 first-line (b ∷ l) bs p = rw (ne-eqb b 10 (p .0), first-line l bs (p .1))
@@ -159,7 +159,7 @@ column-plain neg m s e = go (either (eqb s 1) (leb s m)) (both neg (leb s (m * 1
     go false true e = omega arith
     go false false e = omega arith
 
-plain-append : (xs ys : List ℕ) → Plain xs → Plain ys → Plain (xs ++ ys)
+pub plain-append : (xs ys : List ℕ) → Plain xs → Plain ys → Plain (xs ++ ys)
 unfolding Plain
 plain-append [] ys p q = q
 plain-append (x ∷ xs) ys p q = (p .0, plain-append xs ys (p .1) q)
@@ -173,7 +173,7 @@ unfolding written
 field-plain (pos m) = columns-plain false m
 field-plain (negsuc m) = columns-plain true (suc m)
 
-fields-plain : (vs : List ℤ) → Plain (writtenAll vs)
+pub fields-plain : (vs : List ℤ) → Plain (writtenAll vs)
 unfolding writtenAll Plain
 fields-plain [] = tt
 fields-plain (v ∷ vs) = plain-append (written v) (writtenAll vs) (field-plain v) (fields-plain vs)

@@ -1,4 +1,9 @@
 // ways: a book on standard input, its resolutions on standard output. All the work is in the library `listing`.
+mod streams;
+
+ghost use Prim.Native.Nat.{_≤_};
+ghost use mathlib.Core.Bool.{true};
+ghost use mathlib.Core.Path.{_≡_};
 ghost use Rattle.answers.specs.Ways.{mostLines};
 ghost use Rattle.listing.specs.Parts.{Ready, Reaches};
 use book::Book;
@@ -8,31 +13,48 @@ use engine::Words;
 use listing::Part;
 use sets::Pair;
 
-const INPUT: i32 = 0;
+// Where a listing stands: whether more is to be printed, and the last pair printed then.
+struct Stand {
+    more: bool,
+    last: Pair,
+}
 
-const OUTPUT: i32 = 1;
+// Where it stands after a part. If not all of the part was written, the listing is cut off: nothing more is printed.
+fn after(part: Part, written: bool) -> Stand
+    ensures { λ r. ⌜ (r .last ≡ part .last) × (r .more ≡ true → part .full ≡ true) ⌝ }
+{
+    let last = part.last;
+    if written {
+        return Stand {
+            more: part.full,
+            last,
+        };
+    }
+    os::fail(b"ways: the listing is cut off");
+    Stand { more: false, last }
+}
 
 // Prints the part after a pair, where m lines are left.
-fn go_on(words: &Words, ranks: &Ranks, s: Shape, p: Pair, m: usize) -> Part
-    requires { ⌜ Ready s (now words) (now ranks) p ⌝ }
-    ensures { λ r. ⌜ Reaches s (now (words .entry)) (now (ranks .entry)) m r ⌝ }
+fn go_on(words: &Words, ranks: &Ranks, s: Shape, p: Pair, m: usize) -> Stand
+    requires { ⌜ Ready s (now words) (now ranks) p × (m ≤ mostLines) ⌝ }
+    ensures { λ r. ⌜ Reaches s (now (words .entry)) (now (ranks .entry)) m (r .more) (r .last) ⌝ }
 {
     let mut out = [0u8; listing::PART * listing::LONGEST + listing::CLOSING];
     let part = listing::go_on(words, ranks, s, p, m, &mut out);
-    io::write_all(OUTPUT, &out[..part.bytes]);
-    part
+    let written = streams::send(&out[..part.bytes]);
+    after(part, written)
 }
 
-// Prints what is left after a part: part after part.
-fn rest(words: &Words, ranks: &Ranks, s: Shape, from: Part)
-    requires { ⌜ Reaches s (now words) (now ranks) mostLines from ⌝ }
+// Prints what is left after the first part: part after part.
+fn rest(words: &Words, ranks: &Ranks, s: Shape, from: Stand)
+    requires { ⌜ Reaches s (now words) (now ranks) mostLines (from .more) (from .last) ⌝ }
 {
-    let mut part = from;
+    let mut stand = from;
     let mut left = listing::MOST;
-    while part.full {
+    while stand.more {
         left -= listing::PART;
-        let last = part.last;
-        part = go_on(words, ranks, s, last, left);
+        let last = stand.last;
+        stand = go_on(words, ranks, s, last, left);
     }
 }
 
@@ -43,13 +65,18 @@ fn print(text: &[u8]) {
     let mut out = [0u8; listing::PART * listing::LONGEST + listing::CLOSING];
     let b = listing::begin(text, &mut words, &mut ranks, &mut out);
     let part = b.part;
-    io::write_all(OUTPUT, &out[..part.bytes]);
-    rest(&words, &ranks, b.shape, part);
+    let written = streams::send(&out[..part.bytes]);
+    let from = after(part, written);
+    rest(&words, &ranks, b.shape, from);
 }
 
 // One byte more than a book may have is enough to know that a text is too long.
 fn main() {
     let mut text = [0u8; Book::TEXT + 1];
-    let n = io::read_full(INPUT, &mut text);
-    print(&text[..n]);
+    let got = streams::receive(&mut text);
+    if got.whole {
+        print(&text[..got.bytes]);
+    } else {
+        os::fail(b"ways: the book cannot be read");
+    }
 }

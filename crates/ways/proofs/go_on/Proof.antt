@@ -11,14 +11,17 @@ go-on-requires c κs = search needs
 array-share-prefix-out : tie.Need-array-share-prefix-out
 array-share-prefix-out c = search needs
 
-slice-aggregate-write-all : tie.Need-slice-aggregate-write-all
-slice-aggregate-write-all c = sym (length-take-le _ _ (c .before .go-on .ensures .fits))
+slice-aggregate-send : tie.Need-slice-aggregate-send
+slice-aggregate-send c = sym (length-take-le _ _ (c .before .go-on .ensures .fits))
 
-write-all-requires : tie.Need-write-all-requires
-write-all-requires c κs = search needs
+send-requires : tie.Need-send-requires
+send-requires c κs = search needs
+
+after-requires : tie.Need-after-requires
+after-requires c κs = search needs
 
 returns : tie.Need-returns
-returns c = reached _ _ _ _ _ _ _ (c .before .before .before .before .pre) (c .before .before .go-on .ensures)
+returns c = reached _ _ _ _ _ _ (c .after .ensures .0) (c .after .ensures .1) _ _ _ (c .before .before .before .before .before .pre .0) (c .before .before .before .go-on .ensures)
 
 pub go-on-spec : {M : Type 1} → statement M
 go-on-spec =
@@ -26,6 +29,7 @@ go-on-spec =
     (tie.spec
     go-on-requires
     array-share-prefix-out
-    slice-aggregate-write-all
-    write-all-requires
+    slice-aggregate-send
+    send-requires
+    after-requires
     returns)

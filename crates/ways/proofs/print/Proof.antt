@@ -11,14 +11,17 @@ begin-requires c κs = search needs
 array-share-prefix-out : tie.Need-array-share-prefix-out
 array-share-prefix-out c = search needs
 
-slice-aggregate-write-all : tie.Need-slice-aggregate-write-all
-slice-aggregate-write-all c = sym (length-take-le _ _ (c .before .before .begin .ensures .fits))
+slice-aggregate-send : tie.Need-slice-aggregate-send
+slice-aggregate-send c = sym (length-take-le _ _ (c .before .before .begin .ensures .fits))
 
-write-all-requires : tie.Need-write-all-requires
-write-all-requires c κs = search needs
+send-requires : tie.Need-send-requires
+send-requires c κs = search needs
+
+after-requires : tie.Need-after-requires
+after-requires c κs = search needs
 
 rest-requires : tie.Need-rest-requires
-rest-requires c κs = begun-reached _ _ _ _ _ (c .before .before .before .before .before .begin .ensures)
+rest-requires c κs = begun-reached _ _ _ _ _ _ (c .before .before .after .ensures .0) (c .before .before .after .ensures .1) _ _ (c .before .before .before .before .before .before .begin .ensures)
 
 returns : tie.Need-returns
 returns c = search needs
@@ -29,7 +32,8 @@ print-spec =
     (tie.spec
     begin-requires
     array-share-prefix-out
-    slice-aggregate-write-all
-    write-all-requires
+    slice-aggregate-send
+    send-requires
+    after-requires
     rest-requires
     returns)
