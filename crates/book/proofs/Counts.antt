@@ -1,7 +1,7 @@
 -- Counts of a shape in the limits are small, and so is every sum over its lines: kind by kind, each at most as often as its limit.
 use mathlib.Core.Path.{_≡_, refl, ap, _∙_}
 use mathlib.Core.Bool.{Bool, true, false}
-use mathlib.Core.List.{List, [], _∷_}
+use mathlib.Core.List.{List, _∷_}
 use Prim.Native.Nat.{ℕ, zero, suc, _+_, _-_, _*_, _<_, _≤_}
 use native.Mathlib.Nat.{add-zero, mul-le-mul-right}
 use native.Mathlib.Numerals.{add-one}
@@ -13,10 +13,12 @@ use borrow.Author.Tests.{eqb-true, eqb-false, ltb-true, ltb-false, leb-true}
 use Rattle.logic.specs.Tests.{pick}
 use Rattle.logic.proofs.Tests.{all-at}
 use Rattle.book.specs.declared.Kind.{Kind}
+use Rattle.book.specs.declared.Measure.{Measure}
+use Rattle.book.specs.declared.Measure.the-variants.{Rows, Numbers, Bytes}
 use Rattle.book.specs.declared.Shape.{Shape}
 use Rattle.book.specs.Limits as limit
 use Rattle.book.specs.Kinds.{kinds, kind, unknown, bytes, rowOnce, first, last, plain, exception, preference, none, widest, most}
-use Rattle.book.specs.Counts.{countsOf, frontOf, allCounts, countAt, sumTo, InLimits}
+use Rattle.book.specs.Counts.{countsOf, frontOf, allCounts, countAt, sumTo, measured, InLimits}
 
 pub many : length kinds ≡ none
 unfolding kinds
@@ -100,17 +102,14 @@ sum-up f s k h = let q : k + (none - k) ≡ none = omega arith in rw q at (sum-s
 pub sum-small : (f : Kind → ℕ) (s : Shape) (k n c y : ℕ) → InLimits s → k < none → n ≡ sumTo f s k → c ≡ countAt s k → y ≡ f (kind k) → n + c * y ≤ most f kinds
 sum-small f s k n c y l h e ec ey = omega (arith, sum-next f s k n c y e ec ey, add-one k, sum-most f s (k + 1) l (omega arith))
 
-pub numbers-most : most (λ x. x .numbers) kinds ≤ 100000
-unfolding most kinds
-numbers-most = omega arith
+pub measured-most : (m : Measure) → most (measured m) kinds ≤ 100000
+unfolding most kinds bytes rowOnce pick
+measured-most Rows = omega arith
+measured-most Numbers = omega arith
+measured-most Bytes = omega arith
 
-pub bytes-most : most bytes kinds ≤ 100000
-unfolding most kinds bytes
-bytes-most = omega arith
-
-pub rows-most : most rowOnce kinds ≤ 100000
-unfolding most kinds rowOnce pick
-rows-most = omega arith
+pub measured-is : (m v : Measure) (x : Kind) (n : ℕ) → m ≡ v → n ≡ measured v x → n ≡ measured m x
+measured-is m v x n e h = rw e h
 
 -- All lines of a book in the limits come to no more than all that a book may have.
 pub sum-all : (f : Kind → ℕ) (s : Shape) → InLimits s → sumTo f s none ≤ most f kinds

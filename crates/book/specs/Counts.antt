@@ -4,6 +4,8 @@ use Prim.Native.Nat.{ℕ, zero, suc, _+_, _*_, _≤_}
 use mathlib.Core.List.{List, [], _∷_, _++_}
 use lib.ListN.{getD}
 use Rattle.book.specs.declared.Kind.{Kind}
+use Rattle.book.specs.declared.Measure.{Measure}
+use Rattle.book.specs.declared.Measure.the-variants.{Rows, Numbers, Bytes}
 use Rattle.book.specs.declared.Shape.{Shape}
 use Rattle.book.specs.Limits as limit
 use Rattle.book.specs.Kinds.{kind, bytes, rowOnce, plain, exception, preference, none}
@@ -33,19 +35,25 @@ unfoldable pub sumTo : (Kind → ℕ) → Shape → ℕ → ℕ
 sumTo f s zero = 0
 sumTo f s (suc k) = sumTo f s k + countAt s k * f (kind k)
 
+-- What a line comes to, by its kind: a row of the number table or none, numbers of the table, bytes.
+abbrev pub measured : Measure → Kind → ℕ
+measured Rows x = rowOnce x
+measured Numbers x = x .numbers
+measured Bytes x = bytes x
+
 -- Where the rows of the kind at place k begin among the numbers of all rows, and how many these are.
 abbrev pub startOf : Shape → ℕ → ℕ
-startOf s k = sumTo (λ x. x .numbers) s k
+startOf s k = sumTo (measured Numbers) s k
 
 abbrev pub rowNumbers : Shape → ℕ
 rowNumbers s = startOf s none
 
 -- How many rows there are, which Z counts; and how many bytes the text has.
 abbrev pub total : Shape → ℕ
-total s = sumTo rowOnce s none
+total s = sumTo (measured Rows) s none
 
 abbrev pub textBytes : Shape → ℕ
-textBytes s = sumTo bytes s none
+textBytes s = sumTo (measured Bytes) s none
 
 -- The shape is in the limits: n, and the count of each kind.
 pub record InLimits (s : Shape) : Type 0 where

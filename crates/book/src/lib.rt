@@ -4,7 +4,7 @@ ghost use mathlib.Core.Bool.{true, false};
 ghost use Prim.Native.Nat.{_<_, _≤_};
 ghost use lib.ListN.{length, getD};
 ghost use Rattle.book.specs.Kinds.{kind, none, contents, bytes, rowOnce};
-ghost use Rattle.book.specs.Counts.{allCounts, frontOf, countAt, shapeFrom, startOf, rowNumbers, textBytes, total as totalOf, InLimits};
+ghost use Rattle.book.specs.Counts.{allCounts, frontOf, countAt, shapeFrom, measured as measuredOf, sumTo, startOf, rowNumbers, textBytes, total as totalOf, InLimits};
 ghost use Rattle.book.specs.declared.Content.the-variants.{Edition};
 ghost use Rattle.book.specs.Shapes.{limits as limitsOf, emptyBook};
 
@@ -345,19 +345,45 @@ pub fn count_of(s: Shape, k: usize) -> usize
     counts[k]
 }
 
+// What a line comes to, by its kind: a row of the number table or none, numbers of the table, bytes.
+pub enum Measure {
+    Rows,
+    Numbers,
+    Bytes,
+}
+
+// What a line of the kind at place k comes to.
+pub fn measured(m: Measure, k: usize) -> usize
+    requires { ⌜ k < none ⌝ }
+    ensures { λ r. ⌜ r ≡ measuredOf m (kind k) ⌝ }
+{
+    match m {
+        Measure::Rows => row_once(k),
+        Measure::Numbers => numbers_at(k),
+        Measure::Bytes => line_bytes(k),
+    }
+}
+
+// What the lines of the kinds before place k come to in a book of this shape.
+pub fn sum_to(m: Measure, s: Shape, k: usize) -> usize
+    requires { ⌜ (k ≤ none) × InLimits s ⌝ }
+    ensures { λ r. ⌜ r ≡ sumTo (measuredOf m) s k ⌝ }
+{
+    let mut i = 0;
+    let mut n = 0;
+    while i < k {
+        n = n + count_of(s, i) * measured(m, i);
+        i += 1;
+    }
+    n
+}
+
 // Where the rows of the kind at place k begin among the numbers of the rows.
 pub fn start_of(s: Shape, k: usize) -> usize
     requires { ⌜ (k ≤ none) × InLimits s ⌝ }
     ensures { λ r. ⌜ r ≡ startOf s k ⌝ }
 {
-    let mut i = 0;
-    let mut n = 0;
-    while i < k {
-        let x = kind_at(i);
-        n = n + count_of(s, i) * x.numbers;
-        i += 1;
-    }
-    n
+    sum_to(Measure::Numbers, s, k)
 }
 
 // How many numbers the rows of a book of this shape have.
@@ -368,30 +394,17 @@ pub fn row_numbers(s: Shape) -> usize
     start_of(s, Book::KINDS)
 }
 
-// How many rows a book of this shape has.
+// How many rows a book of this shape has, and how many bytes its text has.
 pub fn total(s: Shape) -> usize
     requires { ⌜ InLimits s ⌝ }
     ensures { λ r. ⌜ r ≡ totalOf s ⌝ }
 {
-    let mut i = 0;
-    let mut n = 0;
-    while i < Book::KINDS {
-        n = n + count_of(s, i) * row_once(i);
-        i += 1;
-    }
-    n
+    sum_to(Measure::Rows, s, Book::KINDS)
 }
 
-// How many bytes the text of a book of this shape has.
 pub fn text_bytes(s: Shape) -> usize
     requires { ⌜ InLimits s ⌝ }
     ensures { λ r. ⌜ r ≡ textBytes s ⌝ }
 {
-    let mut i = 0;
-    let mut n = 0;
-    while i < Book::KINDS {
-        n = n + count_of(s, i) * line_bytes(i);
-        i += 1;
-    }
-    n
+    sum_to(Measure::Bytes, s, Book::KINDS)
 }

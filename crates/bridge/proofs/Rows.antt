@@ -11,9 +11,10 @@ use lib.ListN.{length}
 use borrow.Author.Tests.{lt-ltb, le-ltb, ltb-true, ltb-false}
 use Rattle.logic.specs.Lists.{Every}
 use Rattle.logic.specs.Tests.{pick}
+use Rattle.book.specs.declared.Measure.the-variants.{Numbers}
 use Rattle.book.specs.declared.Shape.{Shape}
 use Rattle.book.specs.Kinds.{kinds, kind, plain, exception, preference, ruleNumbers, preferenceNumbers}
-use Rattle.book.specs.Counts.{countsOf, allCounts, countAt, sumTo, startOf, rowNumbers}
+use Rattle.book.specs.Counts.{countsOf, allCounts, countAt, sumTo, startOf, rowNumbers, measured}
 use Rattle.book.proofs.Counts.{sum-up}
 use Rattle.meaning.specs.Meant.{at, number, preferencesAt, bookOf}
 use Rattle.meaning.proofs.Meant.{exceptions-count}
@@ -50,15 +51,15 @@ module _ (r a b k : ℕ) where
 
 plain-end : (s : Shape) → startOf s plain + s .plain * ruleNumbers ≤ rowNumbers s
 unfolding sumTo countAt allCounts countsOf kind kinds
-plain-end s = omega (arith, sum-up (λ x. x .numbers) s (suc plain) (omega arith))
+plain-end s = omega (arith, sum-up (measured Numbers) s (suc plain) (omega arith))
 
 exception-end : (s : Shape) → startOf s exception + s .exceptions * ruleNumbers ≤ rowNumbers s
 unfolding sumTo countAt allCounts countsOf kind kinds
-exception-end s = omega (arith, sum-up (λ x. x .numbers) s (suc exception) (omega arith))
+exception-end s = omega (arith, sum-up (measured Numbers) s (suc exception) (omega arith))
 
 pub preference-end : (s : Shape) → startOf s preference + s .preferences * preferenceNumbers ≤ rowNumbers s
 unfolding sumTo countAt allCounts countsOf kind kinds
-preference-end s = omega (arith, sum-up (λ x. x .numbers) s (suc preference) (omega arith))
+preference-end s = omega (arith, sum-up (measured Numbers) s (suc preference) (omega arith))
 
 -- The row of a rule lies among the numbers of the rows.
 pub rule-in : (s : Shape) (k : ℕ) → k < ruleCount s → ruleStart s k + ruleNumbers ≤ rowNumbers s

@@ -11,12 +11,13 @@ use lib.Seq.{sets}
 use borrow.Author.Count.{below-more}
 use borrow.Author.Tests.{lt-ltb, le-ltb}
 use Rattle.logic.specs.Tests.{pick}
+use Rattle.book.specs.declared.Measure.the-variants.{Numbers}
 use Rattle.book.specs.declared.Shape.{Shape}
 use Rattle.book.specs.Limits as limit
 use Rattle.book.specs.Kinds.{plain, exception, ruleNumbers}
 use Rattle.book.specs.Kinds.{none as all-kinds}
-use Rattle.book.specs.Counts.{startOf}
-use Rattle.book.proofs.Counts.{plain-in, exceptions-in, sum-up, sum-all, numbers-most}
+use Rattle.book.specs.Counts.{startOf, measured}
+use Rattle.book.proofs.Counts.{plain-in, exceptions-in, sum-up, sum-all, measured-most}
 use Rattle.sets.proofs.Digits.{lt-or-le}
 use Rattle.meaning.specs.Meant.{at, ruleAt, rulesAt, bookOf}
 use Rattle.meaning.specs.Rules.{Head, none, gives}
@@ -97,7 +98,7 @@ row-readable s t w k h z e = rw e (record {
 })
 
 pub starts-small : (s : Shape) (t : List ℤ) → RowsLawful s t → (k a : ℕ) → k ≤ all-kinds → a ≡ startOf s k → a < 1000000
-starts-small s t w k a h e = omega (arith, e, sum-up (λ x. x .numbers) s k h, sum-all (λ x. x .numbers) s (w .limits), numbers-most)
+starts-small s t w k a h e = omega (arith, e, sum-up (measured Numbers) s k h, sum-all (measured Numbers) s (w .limits), measured-most Numbers)
 
 pub rules-few : (s : Shape) (t : List ℤ) → RowsLawful s t → (s .plain ≤ limit.plain) × (s .exceptions ≤ limit.exceptions)
 rules-few s t w = (plain-in s (w .limits), exceptions-in s (w .limits))

@@ -13,10 +13,11 @@ use mir.Val.{toZ}
 use mir.Facts.{toZ-pos}
 use borrow.Author.Tests.{eq-eqb, ne-eqb, lt-ltb, le-ltb}
 use Rattle.logic.specs.Tests.{pick}
+use Rattle.book.specs.declared.Measure.the-variants.{Numbers}
 use Rattle.book.specs.declared.Shape.{Shape}
 use Rattle.book.specs.Kinds.{longest, front}
-use Rattle.book.specs.Counts.{frontOf, rowNumbers, InLimits}
-use Rattle.book.proofs.Counts.{front-small, sum-all, numbers-most}
+use Rattle.book.specs.Counts.{frontOf, rowNumbers, InLimits, measured}
+use Rattle.book.proofs.Counts.{front-small, sum-all, measured-most}
 use Rattle.logic.proofs.Stores.{sets-append, pieces}
 use Rattle.text.specs.declared.Refusal.{Refusal}
 use Rattle.text.specs.declared.Reading.{Reading}
@@ -144,7 +145,7 @@ module _ (bs : List ℕ) (l rows : List ℤ) (r : Reading) (p : Parsing bs r row
     book-limits = book .limits
 
     pub few-numbers : rowNumbers s ≤ 100000
-    few-numbers = omega (arith, sum-all (λ x. x .numbers) s (book .limits), numbers-most)
+    few-numbers = omega (arith, sum-all (measured Numbers) s (book .limits), measured-most Numbers)
 
     book-long : length (tableOf s (take (rowNumbers s) rows)) ≡ front + rowNumbers s
     book-long = table-long s (take (rowNumbers s) rows) ∙ ap (λ (m : ℕ). front + m) (book .size)

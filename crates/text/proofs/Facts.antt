@@ -15,11 +15,12 @@ use borrow.Author.Tests.{eqb-true, eqb-false, leb-true}
 use Rattle.logic.specs.Tests.{pick, consIf, some}
 use Rattle.logic.proofs.Decide.{clash}
 use Rattle.logic.proofs.Tests.{both-left, both-right}
+use Rattle.book.specs.declared.Measure.the-variants.{Numbers}
 use Rattle.book.specs.declared.Shape.{Shape}
 use Rattle.book.specs.declared.Content.{Content}
 use Rattle.book.specs.declared.Content.the-variants.{Edition, Literal, Exception}
 use Rattle.book.specs.Kinds.{kinds, kind, contents, fieldsOf, numbersOf, none, first, last, plain, exception, preference, ruleNumbers, preferenceNumbers, rangeOf}
-use Rattle.book.specs.Counts.{countsOf, countAt, sumTo, startOf, rowNumbers}
+use Rattle.book.specs.Counts.{countsOf, countAt, sumTo, startOf, rowNumbers, measured}
 use Rattle.book.proofs.Counts.{sum-next, sum-up}
 use Rattle.text.specs.declared.Field.the-variants.{Value}
 use Rattle.text.specs.Lines.{between, inside, code, numbersIn, headless, missing}
@@ -201,8 +202,8 @@ preference-kind = (refl, refl)
 
 start-in : (s : Shape) (k i : ℕ) → k < none → i < countAt s k → startOf s k + i * kind k .numbers + kind k .numbers ≤ rowNumbers s
 start-in s k i h l =
-    let n = sum-next (λ x. x .numbers) s k (startOf s k) (countAt s k) (kind k .numbers) refl refl refl in
-    omega (arith, n, sum-up (λ x. x .numbers) s (k + 1) (omega arith), suc-mul i (kind k .numbers), mul-le-mul-right (kind k .numbers) l)
+    let n = sum-next (measured Numbers) s k (startOf s k) (countAt s k) (kind k .numbers) refl refl refl in
+    omega (arith, n, sum-up (measured Numbers) s (k + 1) (omega arith), suc-mul i (kind k .numbers), mul-le-mul-right (kind k .numbers) l)
 
 pub preference-named : (s : Shape) (ws : List ℤ) → Accepted s ws → (i j : ℕ) → i < countAt s preference → j < preferenceNumbers → Named (s .exceptions) (getD ws (startOf s preference + i * preferenceNumbers + j) (pos 0))
 preference-named s ws a i j l h =

@@ -17,10 +17,11 @@ use mir.Facts.{toZ-pos}
 use borrow.Author.Tests.{ltb-true, ltb-false}
 use Rattle.logic.specs.Tests.{pick}
 use Rattle.logic.proofs.Stores.{sets-append, pieces, Putting}
+use Rattle.book.specs.declared.Measure.the-variants.{Bytes}
 use Rattle.book.specs.declared.Kind.{Kind}
 use Rattle.book.specs.declared.Shape.{Shape}
 use Rattle.book.specs.Kinds.{kinds, kind, none, first, last, front, bytes, rowOnce, most}
-use Rattle.book.specs.Counts.{countsOf, allCounts, countAt, sumTo, startOf, rowNumbers, textBytes, total, InLimits}
+use Rattle.book.specs.Counts.{countsOf, allCounts, countAt, sumTo, startOf, rowNumbers, textBytes, total, InLimits, measured}
 use Rattle.book.proofs.Counts.{sum-next, sum-all}
 use Rattle.text.specs.Fields.{writtenAll}
 use Rattle.text.specs.Lines.{lineOf, unlines}
@@ -189,13 +190,13 @@ module _ (s : Shape) (t : List ℤ) (l : length t ≡ front + rowNumbers s) wher
   pub block-long : (k : ℕ) → first < k → k < last → length (linesAt k t (front + startOf s k) (countAt s k)) ≡ countAt s k * bytes (kind k)
   block-long k h g = kind-long k h g t (front + startOf s k) (countAt s k) (rows-in t s k (front + startOf s k) (countAt s k) l (omega arith) refl refl)
 
-  blocks-long : (n j : ℕ) → j + 1 + n ≡ last → sumTo bytes s (j + 1) + length (pieces (blockAt s t) j n) ≡ sumTo bytes s last
+  blocks-long : (n j : ℕ) → j + 1 + n ≡ last → sumTo (measured Bytes) s (j + 1) + length (pieces (blockAt s t) j n) ≡ sumTo (measured Bytes) s last
   unfolding pieces
-  blocks-long zero j e = let q : j + 1 ≡ last = omega arith in rw q (add-zero (sumTo bytes s last))
+  blocks-long zero j e = let q : j + 1 ≡ last = omega arith in rw q (add-zero (sumTo (measured Bytes) s last))
   blocks-long (suc n) j e =
       let q : suc j + 1 ≡ j + 1 + 1 = omega arith in
       let b = block-long (j + 1) (omega arith) (omega arith) in
-      let m = sum-next bytes s (j + 1) (sumTo bytes s (j + 1)) (countAt s (j + 1)) (bytes (kind (j + 1))) refl refl refl in
+      let m = sum-next (measured Bytes) s (j + 1) (sumTo (measured Bytes) s (j + 1)) (countAt s (j + 1)) (bytes (kind (j + 1))) refl refl refl in
       let ih = rw q at (blocks-long n (suc j) (omega arith)) in
       omega (arith, length-append (blockAt s t j) (pieces (blockAt s t) (suc j) n), b, m, ih)
 

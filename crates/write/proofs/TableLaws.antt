@@ -17,12 +17,13 @@ use mir.Val.{SFits}
 use mir.Facts.{toZ-ofZ}
 use borrow.Author.Tests.{lt-ltb, le-ltb, eqb-true, eqb-false, eq-eqb, ne-eqb, ltb-true}
 use Rattle.logic.specs.Tests.{both, pick, some}
+use Rattle.book.specs.declared.Measure.the-variants.{Numbers}
 use Rattle.book.specs.declared.Kind.{Kind}
 use Rattle.book.specs.declared.Shape.{Shape}
 use Rattle.book.specs.declared.Content.the-variants.{Statements}
 use Rattle.book.specs.Kinds.{kinds, kind, unknown, none, first, last, front, rangeOf}
-use Rattle.book.specs.Counts.{countsOf, countAt, shapeFrom, sumTo, startOf, rowNumbers, InLimits}
-use Rattle.book.proofs.Counts.{many, sum-next, sum-up, sum-all, numbers-most}
+use Rattle.book.specs.Counts.{countsOf, countAt, shapeFrom, sumTo, startOf, rowNumbers, InLimits, measured}
+use Rattle.book.proofs.Counts.{many, sum-next, sum-up, sum-all, measured-most}
 use Rattle.text.specs.declared.Refusal.{Refusal}
 use Rattle.text.specs.declared.Reading.{Reading}
 use Rattle.text.specs.declared.Reading.the-variants.{Accepted, Refused}
@@ -244,11 +245,11 @@ come-none s k h = rw (drop-of-length-le (countsOf s) {i = k - 1} (omega (arith, 
 -- The rows of the kind at place k end before the table does.
 pub rows-in : (t : List ℤ) (s : Shape) (k from c : ℕ) → length t ≡ front + rowNumbers s → k < none → from ≡ front + startOf s k → c ≡ countAt s k → from + c * kind k .numbers ≤ length t
 rows-in t s k from c l h ef ec =
-    let n = sum-next (λ x. x .numbers) s k (startOf s k) c (kind k .numbers) refl ec refl in
-    omega (arith, n, sum-up (λ x. x .numbers) s (k + 1) (omega arith), ef, l)
+    let n = sum-next (measured Numbers) s k (startOf s k) c (kind k .numbers) refl ec refl in
+    omega (arith, n, sum-up (measured Numbers) s (k + 1) (omega arith), ef, l)
 
 pub start-on : (s : Shape) (k from c w : ℕ) → from ≡ front + startOf s k → c ≡ countAt s k → w ≡ kind k .numbers → from + c * w ≡ front + startOf s (k + 1)
-start-on s k from c w ef ec ew = let n = sum-next (λ x. x .numbers) s k (startOf s k) c w refl ec ew in omega (arith, n, ef)
+start-on s k from c w ef ec ew = let n = sum-next (measured Numbers) s k (startOf s k) c w refl ec ew in omega (arith, n, ef)
 
 pub start-first : (s : Shape) → front ≡ front + startOf s 1
 unfolding sumTo kind kinds
@@ -316,7 +317,7 @@ module _ (t : List ℤ) where
         shape-bounded = rw es (shape-limits t h n (sym ea ∙ f))
 
         pub few-numbers : rowNumbers s ≤ 100000
-        few-numbers = omega (arith, sum-all (λ x. x .numbers) s shape-bounded, numbers-most)
+        few-numbers = omega (arith, sum-all (measured Numbers) s shape-bounded, measured-most Numbers)
 
         pub table-long : (r : Reading) (m : ℕ) → m ≡ rowNumbers s → (length t ≡ front + m → ⊥) → r ≡ noReading 16 0 → r ≡ readAnswer (testTable t)
         unfolding testTable pick readAnswer
