@@ -1,6 +1,8 @@
 /* A stand-in for `ways` with a deliberate fault in its reading or writing, to show that the test of the streams can
  * fail. TRUE_WAYS is the true program, which makes the listing; the environment variable FAULT names the fault. Without
- * one the stand-in reads and writes as `ways` should. */
+ * one the stand-in reads and writes as `ways` should. Its calls keep the names read and write, which the library of
+ * streams/disturb.c takes; where _FORTIFY_SOURCE is set they may get others. */
+#undef _FORTIFY_SOURCE
 #define _GNU_SOURCE
 #include <errno.h>
 #include <fcntl.h>
@@ -38,6 +40,12 @@ static int patient_writer(void) {
     return !fault("60,000 interrupted writes are too many") || ++interruptions < 60000;
 }
 
+/* Whether a write that took nothing is made again. */
+static int tries_nothing_again(void) {
+    if (errno == EINTR && fault("a write that took nothing is tried again after an interrupted one")) return 1;
+    return fault("a write that took nothing is tried again");
+}
+
 /* Whether a part was written. */
 static int send_part(const char *bytes, size_t count) {
     for (size_t done = 0; done < count;) {
@@ -46,11 +54,13 @@ static int send_part(const char *bytes, size_t count) {
         if (put < 0 && fault("a failed write is tried again once") && write(STDOUT_FILENO, "", 0) == 0)
             put = write(STDOUT_FILENO, bytes + done, count - done);
         if (put < 0) return errno == EINTR && fault("an interrupted write is done");
+        if (put == 0 && tries_nothing_again()) continue;
+        if (put == 0) return fault("a write that took nothing is done");
         done += (size_t)put;
         if (done < count && fault("the rest of a short write is lost")) return 1;
         if (done < count && fault("a short write has failed")) return 0;
-        if (done < count && fault("the second write of a part is not tested"))
-            return write(STDOUT_FILENO, bytes + done, count - done), 1;
+        if (done < count && fault("the second write of a part is not tested")) /* any answer will do */
+            return write(STDOUT_FILENO, bytes + done, count - done) >= -1;
     }
     return 1;
 }
@@ -112,8 +122,10 @@ static void make_listing(size_t length) {
     int ends[2];
     if (pipe(ends) != 0 || write(ends[1], book, length) != (ssize_t)length) abort();
     close(ends[1]);
-    dup2(ends[0], STDIN_FILENO);
-    close(ends[0]);
+    if (ends[0] != STDIN_FILENO) { /* it is that number if standard input was closed */
+        dup2(ends[0], STDIN_FILENO);
+        close(ends[0]);
+    }
     unsetenv("LD_PRELOAD");
     FILE *printed = popen("exec \"$TRUE_WAYS\"", "r");
     if (printed == NULL) abort();

@@ -6,6 +6,7 @@
  *
  *     a0*3     three calls go to the system as they are
  *     t7*100   a hundred calls move at most 7 bytes each
+ *     t0*1     one call moves nothing and answers 0
  *     f28*1    one call moves nothing and fails with errno 28
  *
  * Calls after the last step go to the system as they are. CALLS is the number of an open file. Each call is noted there

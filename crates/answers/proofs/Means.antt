@@ -140,7 +140,7 @@ front-printed b all a =
     let e = page-is b (suc mostLines) start all tt a in
     rw e (rw (take-take mostLines (suc mostLines) all (omega arith), more mostLines all) refl)
 
--- `ways`: all lines, or the first 9,999 of them, and E or M.
+-- `ways`: all lines, or the first 9,999 of them, and E or M with how many they are.
 pub ways-means : (bs x : List ℕ) → (x ≡ waysOf bs) ↔ Means failed WaysPrints bs start x
 unfolding waysOf
 ways-means bs x = means failed WaysPrints bs start (λ b. listed b mostLines start) is x

@@ -18,7 +18,7 @@ use borrow.Author.Needs.{sfits-of}
 use borrow.Author.Tests.{eq-eqb, ne-eqb, lt-ltb, le-ltb, le-leb, lt-leb, ltb-true, ltb-false}
 use Rattle.logic.specs.Tests.{both, either, pick}
 use Rattle.text.specs.declared.Field.the-variants.{Value, Misspelt}
-use Rattle.text.specs.Fields.{columnOf, columns, digitOf, sizeOf, minusIn, signed, same, readColumns, spelt, firstField, misspelling}
+use Rattle.text.specs.Fields.{columnOf, columns, digitOf, sizeOf, minusIn, signed, same, readColumns, spelt, firstField, misspelling, inColumns}
 use Rattle.text.specs.Lines.{between}
 
 module _ (b : ℕ) where
@@ -104,19 +104,19 @@ module _ (a b c d p q r s : ℕ) where
 -- ---- four columns compared
 module _ (neg : Bool) (m a b c d x y z w : ℕ) where
   pub wrong-1 : x ≡ columnOf neg m 1000 → (x ≡ a → ⊥) → false ≡ same (columns neg m) (a ∷ b ∷ c ∷ d ∷ [])
-  unfolding columns same both
+  unfolding columns inColumns same both
   wrong-1 e f = rw (← e, ne-eqb x a f)
 
   pub wrong-2 : x ≡ columnOf neg m 1000 → x ≡ a → y ≡ columnOf neg m 100 → (y ≡ b → ⊥) → false ≡ same (columns neg m) (a ∷ b ∷ c ∷ d ∷ [])
-  unfolding columns same both
+  unfolding columns inColumns same both
   wrong-2 e p f q = rw (← e, eq-eqb x a p, ← f, ne-eqb y b q)
 
   pub wrong-3 : x ≡ columnOf neg m 1000 → x ≡ a → y ≡ columnOf neg m 100 → y ≡ b → z ≡ columnOf neg m 10 → (z ≡ c → ⊥) → false ≡ same (columns neg m) (a ∷ b ∷ c ∷ d ∷ [])
-  unfolding columns same both
+  unfolding columns inColumns same both
   wrong-3 e p f q g r = rw (← e, eq-eqb x a p, ← f, eq-eqb y b q, ← g, ne-eqb z c r)
 
   pub all-but-last : x ≡ columnOf neg m 1000 → x ≡ a → y ≡ columnOf neg m 100 → y ≡ b → z ≡ columnOf neg m 10 → z ≡ c → w ≡ columnOf neg m 1 → eqb w d ≡ same (columns neg m) (a ∷ b ∷ c ∷ d ∷ [])
-  unfolding columns same both
+  unfolding columns inColumns same both
   all-but-last e p f q g r h = rw (← e, eq-eqb x a p, ← f, eq-eqb y b q, ← g, eq-eqb z c r, ← h) (and-true (eqb w d))
     where
       and-true : (t : Bool) → t ≡ both t true

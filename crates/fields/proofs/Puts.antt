@@ -14,13 +14,13 @@ use mir.Facts.{toZ-ofZ}
 use borrow.Author.Needs.{sfits-of}
 use borrow.Author.Tests.{ltb-true}
 use Rattle.logic.proofs.Stores.{pieces}
-use Rattle.text.specs.Fields.{columnOf, columns, written, writtenAll}
+use Rattle.text.specs.Fields.{columnOf, columns, written, writtenAll, inColumns}
 use Rattle.fields.specs.Short.{isShort, allShort}
 use Rattle.fields.proofs.Columns.{back, back-same}
 
 pub four : (l : List ℕ) (i m : ℕ) (neg : Bool) (a b c d : ℕ) → a ≡ columnOf neg m 1000 → b ≡ columnOf neg m 100 → c ≡ columnOf neg m 10 → d ≡ columnOf neg m 1
     → set (set (set (set l i a) (i + 1) b) (i + 2) c) (i + 3) d ≡ sets l i (columns neg m)
-unfolding columns
+unfolding columns inColumns
 four l i m neg a b c d ea eb ec ed =
     let e1 : i + 1 ≡ suc i = omega arith in
     let e2 : i + 2 ≡ suc (suc i) = omega arith in

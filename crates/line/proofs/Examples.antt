@@ -5,7 +5,7 @@ use Prim.Native.Nat.{ℕ}
 use lib.ListN.{replicate}
 use Rattle.logic.specs.Tests.{both, either, pick, keep, consIf, concatMap}
 use Rattle.sets.specs.Sets.{member, sizeTo, size}
-use Rattle.text.specs.Fields.{columnOf, columns, written, writtenAll}
+use Rattle.text.specs.Fields.{columnOf, columns, written, writtenAll, inColumns}
 use Rattle.text.specs.ALines.{from, lineFields, takenFields, mark, aLine}
 
 -- Three spaces before a digit.
@@ -17,9 +17,9 @@ abbrev printed : ℕ → List ℕ → List ℕ
 printed d marks = 65 ∷ (digit 49 ++ (digit d ++ (concatMap digit (replicate 11 48) ++ (marks ++ (10 ∷ [])))))
 
 first-line : aLine (lineFields 2) 3 (record { taken = 1; held = 5; denied = 0 }) ≡ printed 49 (43 ∷ 46 ∷ 43 ∷ [])
-unfolding aLine writtenAll written columns columnOf both either pick size sizeTo lineFields takenFields keep consIf from member mark concatMap
+unfolding aLine writtenAll written columns inColumns columnOf both either pick size sizeTo lineFields takenFields keep consIf from member mark concatMap
 first-line = refl
 
 second-line : aLine (lineFields 2) 3 (record { taken = 2; held = 2; denied = 0 }) ≡ printed 50 (46 ∷ 43 ∷ 46 ∷ [])
-unfolding aLine writtenAll written columns columnOf both either pick size sizeTo lineFields takenFields keep consIf from member mark concatMap
+unfolding aLine writtenAll written columns inColumns columnOf both either pick size sizeTo lineFields takenFields keep consIf from member mark concatMap
 second-line = refl

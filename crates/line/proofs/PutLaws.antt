@@ -14,7 +14,7 @@ use Rattle.logic.proofs.Stores.{put-on, pieces, pieces-length, Putting, putting
 use Rattle.sets.specs.Sets.{member, size, sizeTo}
 use Rattle.sets.specs.declared.Pair.{Pair}
 use Rattle.book.specs.Limits as limit
-use Rattle.text.specs.Fields.{columns, written, writtenAll}
+use Rattle.text.specs.Fields.{columns, written, writtenAll, inColumns}
 use Rattle.text.specs.ALines.{from, lineFields, takenFields, mark, aLine}
 use Rattle.text.proofs.Lines.{fields-length}
 use Rattle.line.specs.Parts.{fieldsOf, takenOf, lineBytes}
@@ -57,7 +57,7 @@ module _ (taken : ℕ) where
 
   module _ (w : ℕ) (l₀ l : List ℕ) (at a i : ℕ) (g : Putting memberField w l₀ at l a i) (h : i < w) (x : Bool) (ex : x ≡ member (i + 1) taken) (m : List ℕ) (b : ℕ) where
     pub member-put : x ≡ true → m ≡ sets l a (columns false (i + 1)) → b ≡ a + 4 → Putting memberField w l₀ at m b (i + 1)
-    unfolding memberField pick columns
+    unfolding memberField pick columns inColumns
     member-put e em eb = putting-next memberField w l₀ at l a i g h m b (rw (← ex, e) em) (rw (← ex, e) eb)
 
     pub member-skipped : x ≡ false → m ≡ l → b ≡ a → Putting memberField w l₀ at m b (i + 1)
@@ -131,7 +131,7 @@ line-parts w n p = ap (λ (bs : List ℕ). 65 ∷ bs) (append-assoc (columns fal
 
 -- How long a line is.
 pub line-length : (w n : ℕ) (p : Pair) → length (aLine w n p) ≡ lineBytes w n
-unfolding columns
+unfolding columns inColumns
 line-length w n p =
     rw (line-parts w n p, length-append (fieldsOf (takenFields w (p .taken))) (map (mark p) (from 1 n) ++ (10 ∷ [])), length-append (map (mark p) (from 1 n)) (10 ∷ []))
     (omega (arith, taken-length w (p .taken), marks-length p n))
@@ -157,7 +157,7 @@ count-short r a e = omega (arith, size-small 64 a)
 module _ (l m₁ m₂ m₃ : List ℕ) (at w n : ℕ) (p : Pair) (c : ℕ) (ec : c ≡ size (p .taken)) (e₁ : m₁ ≡ sets (set l at 65) (at + 1) (columns false c)) (e₂ : m₂ ≡ sets m₁ (at + 5) (fieldsOf (takenFields w (p .taken))))
     (e₃ : m₃ ≡ sets m₂ (at + 5 + w * 4) (map (mark p) (from 1 n))) where
   pub line-put : set m₃ (at + 5 + w * 4 + n) 10 ≡ sets l at (aLine w n p)
-  unfolding columns
+  unfolding columns inColumns
   line-put =
       let cs = columns false (size (p .taken)) in
       let ts = fieldsOf (takenFields w (p .taken)) in

@@ -4,4 +4,4 @@ pub mod Stores
 pub mod Listed
 pub mod Promised
 pub mod Whole
-pub mod Reached
+pub mod Steps

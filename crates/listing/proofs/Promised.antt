@@ -18,7 +18,7 @@ use Rattle.book.specs.declared.Shape.{Shape}
 use Rattle.book.specs.Limits as limit
 use Rattle.book.specs.Kinds.{setCount, longest, most, bytes, kinds}
 use Rattle.text.specs.declared.Refusal.{Refusal}
-use Rattle.text.specs.Fields.{written, writtenAll, columns}
+use Rattle.text.specs.Fields.{written, writtenAll, columns, inColumns}
 use Rattle.text.specs.ALines.{lineFields}
 use Rattle.text.specs.Reading.{readText}
 use Rattle.text.specs.Reading.Outcome.{accepted, refused}
@@ -48,6 +48,7 @@ module _ (w n : ℕ) (ns : List ℕ) (k : ℕ) (out out₁ : List ℕ) (i : ℕ)
       → Closes w n ns k x d out₂ (record { bytes = i + closingBytes; full = false; last = p })
   closes x d out₂ p g h = record {
     fits = let r = room in omega arith;
+    small = let r = room in omega arith;
     not-full = refl;
     is = closed-shown w n ns k out out₁ i e ei x (d + k) out₂ g (let r = room in omega arith);
   }
@@ -55,6 +56,7 @@ module _ (w n : ℕ) (ns : List ℕ) (k : ℕ) (out out₁ : List ℕ) (i : ℕ)
   pub fills : (p : Pair) → length out₁ ≡ length out → p ≡ pairAt ns (partLines - 1) → Fills w n ns k out₁ (record { bytes = i; full = true; last = p })
   fills p h ep = record {
     fits = let r = room in omega arith;
+    small = let r = room in omega arith;
     is-full = refl;
     last = ep;
     is = lines-shown w n ns k out out₁ i e ei (let r = room in omega arith);
@@ -89,6 +91,7 @@ module _ (s : Shape) (ws ranks : List ℕ) (from : Point) (m : ℕ) (o o′ : Li
     cut : m < k → Lists s ws ranks from m out r
     cut h = let c = p .cut h in record {
       fits = c .fits;
+      small = c .small;
       fewer = λ t. absurd (clash (sym (c .not-full) ∙ t));
       whole = λ rows d l t.
           let q : linesOf w (s .statements) (pairsIn o′ 0 m) ≡ linesOf (fieldsIn (bookOf s rows)) (bookOf s rows .statements) (take m (pageFrom (bookOf s rows) partLines from)) = rw (page-pairs s ws ranks from partLines o o′ k room-is f rows d l m (omega arith), statements-same s rows, fields-same s rows, ew) refl in
@@ -100,6 +103,7 @@ module _ (s : Shape) (ws ranks : List ℕ) (from : Point) (m : ℕ) (o o′ : Li
     ended : k ≤ m → k < partLines → Lists s ws ranks from m out r
     ended h g = let c = p .ended h g in record {
       fits = c .fits;
+      small = c .small;
       fewer = λ t. absurd (clash (sym (c .not-full) ∙ t));
       whole = λ rows d l t.
           let e = count rows d l in
@@ -113,6 +117,7 @@ module _ (s : Shape) (ws ranks : List ℕ) (from : Point) (m : ℕ) (o o′ : Li
     filled : k ≤ m → k ≡ partLines → Lists s ws ranks from m out r
     filled g h = let c = p .filled g h in record {
       fits = c .fits;
+      small = c .small;
       fewer = λ t. omega arith;
       whole = λ rows d l t. absurd (clash (sym t ∙ c .is-full));
       lawful = λ rows d l t. rw (leads rows d l) at (page-lawful (bookOf s rows) partLines from l);
@@ -142,9 +147,10 @@ module _ (bs : List ℕ) (q : Refusal) (r : readText bs ≡ refused (q .number) 
 
   pub begins-refused : (out out₁ ws ranks : List ℕ) (s : Shape) (p : Pair) → 10 ≤ length out → length out₁ ≡ length out → out₁ ≡ sets out 0 (failed (q .number) (q .line))
       → Begins bs ws ranks out₁ (record { part = record { bytes = 10; full = false; last = p }; shape = s })
-  unfolding waysOf onText failed writtenAll written columns
+  unfolding waysOf onText failed writtenAll written columns inColumns
   begins-refused out out₁ ws ranks s p h n e = record {
     fits = omega arith;
+    small = omega arith;
     whole = λ c. rw r (rw e (front-is out (failed (q .number) (q .line)) h));
     more = λ c. absurd (clash c);
   }
@@ -157,6 +163,7 @@ module _ (bs : List ℕ) (s : Shape) (ws ranks : List ℕ) (d : (rows : List ℤ
   unfolding waysOf onText
   begins-accepted out r o = record {
     fits = o .fits;
+    small = o .small;
     whole = λ c. rw (d .1) (o .whole (d .0) (d .2) tt c);
     more = λ c. record { ready = record { rows = d .0; loaded = d .2; lawful = o .lawful (d .0) (d .2) tt c }; rest = rw (d .1) (o .front (d .0) (d .2) tt c) };
   }

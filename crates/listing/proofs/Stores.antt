@@ -2,7 +2,7 @@
 use Prim.Native.Nat.{ℕ, zero, suc, _+_, _*_, _<_, _≤_}
 use mathlib.Core.Path.{_≡_, refl, ap}
 use mathlib.Core.Bool.{false}
-use mathlib.Core.List.{List, _∷_, _++_}
+use mathlib.Core.List.{List, [], _∷_, _++_}
 use native.Mathlib.Numerals.{unary-clauses}
 use native.Mathlib.Omega.{arith}
 use borrow.Author.Tests.{lt-leb}
@@ -11,9 +11,9 @@ use lib.ListN.{length, set}
 use lib.Seq.{sets}
 use Rattle.logic.specs.Tests.{both, either, pick, concatMap}
 use Rattle.logic.proofs.Stores.{pieces, pieces-length, Putting, putting-room, putting-end}
-use Rattle.text.specs.Fields.{columnOf, written, writtenAll, columns}
+use Rattle.text.specs.Fields.{columnOf, written, writtenAll, columns, inColumns}
 use Rattle.text.specs.ALines.{aLine}
-use Rattle.answers.specs.Ways.{mostLines, linesOf, justified, countColumns, closingLine, failed}
+use Rattle.answers.specs.Ways.{mostLines, linesOf, countColumns, closingLine, failed}
 use Rattle.line.specs.Parts.{lineBytes}
 use Rattle.line.proofs.PutLaws.{line-length}
 use Rattle.page.specs.Pages.{pairAt, pairsIn}
@@ -21,26 +21,30 @@ use Rattle.listing.specs.Parts.{closingBytes}
 
 -- ---- the closing line
 pub closing-length : (x k : ℕ) → length (closingLine x k) ≡ closingBytes
-unfolding closingLine justified
+unfolding closingLine inColumns
 closing-length x k = refl
 
 -- A count of at most four digits has spaces in the columns before them.
-pub count-short : (k : ℕ) → k ≤ mostLines → justified countColumns k ≡ 32 ∷ 32 ∷ 32 ∷ 32 ∷ columns false k
-unfolding justified columns columnOf either both pick
+count-short : (k : ℕ) → k ≤ mostLines → inColumns countColumns false k ≡ 32 ∷ 32 ∷ 32 ∷ 32 ∷ columns false k
+unfolding columns inColumns columnOf either both pick
 count-short k h = rw (over 10000000 (omega arith), over 1000000 (omega arith), over 100000 (omega arith), over 10000 (omega arith)) refl
   where
     over : (s : ℕ) → mostLines < s → leb s k ≡ false
     over s g = lt-leb s k (omega arith)
 
+closing-is : (x k : ℕ) → k ≤ mostLines → closingLine x k ≡ x ∷ 32 ∷ 32 ∷ 32 ∷ 32 ∷ (columns false k ++ (10 ∷ []))
+unfolding closingLine
+closing-is x k h = ap (λ (l : List ℕ). x ∷ (l ++ (10 ∷ []))) (count-short k h)
+
 pub closed : (l m₁ : List ℕ) (at x k : ℕ) → k ≤ mostLines → m₁ ≡ sets (set (set (set (set (set l at x) (at + 1) 32) (at + 2) 32) (at + 3) 32) (at + 4) 32) (at + 5) (columns false k)
     → set m₁ (at + 9) 10 ≡ sets l at (closingLine x k)
-unfolding closingLine columns
+unfolding columns inColumns
 closed l m₁ at x k h e =
     let n : at + 9 ≡ suc (suc (suc (suc (suc (suc (suc (suc (suc at)))))))) = omega arith in
-    rw (count-short k h, e, n) (simp unary-clauses refl)
+    rw (closing-is x k h, e, n) (simp unary-clauses refl)
 
 pub failed-put : (l m₁ m₂ : List ℕ) (q k : ℕ) → m₁ ≡ sets (set l 0 70) 1 (columns false q) → m₂ ≡ sets m₁ 5 (columns false k) → set m₂ 9 10 ≡ sets l 0 (failed q k)
-unfolding failed writtenAll written columns
+unfolding failed writtenAll written columns inColumns
 failed-put l m₁ m₂ q k e f = rw (f, e) refl
 
 -- ---- the lines of a page

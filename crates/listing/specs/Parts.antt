@@ -1,10 +1,10 @@
 -- What `ways` prints, part by part: the first from the text, each other from the prepared book, the point and the lines that are left.
 use Prim.Native.Nat.{ℕ, _+_, _-_, _*_, _<_, _≤_}
-use mathlib.Core.Bool.{Bool, true, false}
+use mathlib.Core.Bool.{true, false}
 use mathlib.Core.Path.{_≡_}
 use mathlib.Core.List.{List, _++_}
 use lib.IntN.{ℤ}
-use lib.ListN.{length, take}
+use lib.ListN.{length, take, drop}
 use Rattle.sets.specs.declared.Pair.{Pair}
 use Rattle.book.specs.declared.Shape.{Shape}
 use Rattle.book.specs.Limits as limit
@@ -36,12 +36,14 @@ partBytes = partLines * longestLine + closingBytes
 -- The lines of the first k pairs and a closing line with this letter, done lines having been printed before.
 pub record Closes (w n : ℕ) (ns : List ℕ) (k letter done : ℕ) (o′ : List ℕ) (r : Part) : Type 0 where
   pub fits : r .bytes ≤ length o′
+  pub small : r .bytes ≤ partBytes
   pub not-full : r .full ≡ false
   pub is : take (r .bytes) o′ ≡ linesOf w n (pairsIn ns 0 k) ++ closingLine letter (done + k)
 
 -- The lines of all k pairs, and the last of them.
 pub record Fills (w n : ℕ) (ns : List ℕ) (k : ℕ) (o′ : List ℕ) (r : Part) : Type 0 where
   pub fits : r .bytes ≤ length o′
+  pub small : r .bytes ≤ partBytes
   pub is-full : r .full ≡ true
   pub last : r .last ≡ pairAt ns (partLines - 1)
   pub is : take (r .bytes) o′ ≡ linesOf w n (pairsIn ns 0 k)
@@ -66,15 +68,11 @@ pub record Ready (s : Shape) (ws ranks : List ℕ) (p : Pair) : Type 0 where
 -- The part from a point on, where m lines are left: all that is listed; or its front, and the rest is what is listed from the last pair on.
 pub record Lists (s : Shape) (ws ranks : List ℕ) (from : Point) (m : ℕ) (o′ : List ℕ) (r : Part) : Type 0 where
   pub fits : r .bytes ≤ length o′
+  pub small : r .bytes ≤ partBytes
   pub fewer : r .full ≡ true → partLines ≤ m
   pub whole : (rows : List ℤ) → Loaded s rows ws ranks → LawfulPoint (bookOf s rows) from → r .full ≡ false → take (r .bytes) o′ ≡ listed (bookOf s rows) m from
   pub lawful : (rows : List ℤ) → Loaded s rows ws ranks → LawfulPoint (bookOf s rows) from → r .full ≡ true → Lawful (bookOf s rows) (r .last)
   pub front : (rows : List ℤ) → Loaded s rows ws ranks → LawfulPoint (bookOf s rows) from → r .full ≡ true → take (r .bytes) o′ ++ listed (bookOf s rows) (m - partLines) (at (r .last)) ≡ listed (bookOf s rows) m from
-
--- Where more is to be printed after a part, m lines having been left before it, a part's lines fewer are left, and the book is ready for the pair.
-pub record Reaches (s : Shape) (ws ranks : List ℕ) (m : ℕ) (more : Bool) (p : Pair) : Type 0 where
-  pub fewer : more ≡ true → partLines ≤ m
-  pub ready : more ≡ true → Ready s ws ranks p
 
 -- ---- of a text
 -- What was printed, with what is listed from the pair on, m lines being left, is all that `ways` prints.
@@ -85,5 +83,27 @@ pub record GoesOn (bs : List ℕ) (ws ranks done : List ℕ) (s : Shape) (p : Pa
 -- The first part of a text.
 pub record Begins (bs ws ranks o′ : List ℕ) (r : Begun) : Type 0 where
   pub fits : r .part .bytes ≤ length o′
+  pub small : r .part .bytes ≤ partBytes
   pub whole : r .part .full ≡ false → take (r .part .bytes) o′ ≡ waysOf bs
   pub more : r .part .full ≡ true → GoesOn bs ws ranks (take (r .part .bytes) o′) (r .shape) (r .part .last) (mostLines - partLines)
+
+-- ---- byte by byte
+-- The bytes are those that `ways` prints for the text from place i on.
+abbrev pub Next : List ℕ → ℕ → List ℕ → Type 0
+Next bs i xs = xs ≡ take (length xs) (drop i (waysOf bs))
+
+-- After the first i bytes of all that `ways` prints for the text come those that are listed from the pair on, m lines being left.
+pub record Midway (bs ws ranks : List ℕ) (i : ℕ) (s : Shape) (p : Pair) (m : ℕ) : Type 0 where
+  pub done : List ℕ
+  pub long : length done ≡ i
+  pub goes-on : GoesOn bs ws ranks done s p m
+  pub few : m ≤ mostLines
+  pub short : i ≤ (mostLines - m) * partBytes
+
+-- A part of what `ways` prints for the text, where i bytes were printed and m lines were left before it: the next bytes, which are the last; or
+-- the listing goes on after them.
+pub record Step (bs ws ranks : List ℕ) (i : ℕ) (s : Shape) (m : ℕ) (o′ : List ℕ) (r : Part) : Type 0 where
+  pub next : Next bs i (take (r .bytes) o′)
+  pub fewer : r .full ≡ true → partLines ≤ m
+  pub ends : r .full ≡ false → i + r .bytes ≡ length (waysOf bs)
+  pub goes-on : r .full ≡ true → Midway bs ws ranks (i + r .bytes) s (r .last) (m - partLines)

@@ -12,7 +12,7 @@ use borrow.Author.Tests.{eqb-true}
 use Rattle.text.specs.declared.Field.{Field}
 use Rattle.text.specs.declared.Field.the-variants.{Value, Misspelt}
 use Rattle.logic.specs.Tests.{both, either, pick}
-use Rattle.text.specs.Fields.{columnOf, columns, written, digitOf, sizeOf, minusIn, signed, same, readColumns, spelt, firstField, misspelling}
+use Rattle.text.specs.Fields.{columnOf, columns, written, digitOf, sizeOf, minusIn, signed, same, readColumns, spelt, firstField, misspelling, inColumns}
 use Rattle.logic.proofs.Tests.{both-left, both-right, all, all-at}
 
 pub same-eq : (xs ys : List ℕ) → same xs ys ≡ true → xs ≡ ys
@@ -42,11 +42,11 @@ abbrev tripNeg : ℕ → Bool
 tripNeg v = is (λ z. isNeg z v) (firstField (written (negsuc v)))
 
 test-pos : all tripPos 10000 ≡ true
-unfolding firstField columnOf columns written digitOf sizeOf minusIn signed same readColumns spelt both either pick
+unfolding firstField columnOf columns inColumns written digitOf sizeOf minusIn signed same readColumns spelt both either pick
 test-pos = refl
 
 test-neg : all tripNeg 999 ≡ true
-unfolding firstField columnOf columns written digitOf sizeOf minusIn signed same readColumns spelt both either pick
+unfolding firstField columnOf columns inColumns written digitOf sizeOf minusIn signed same readColumns spelt both either pick
 test-neg = refl
 
 -- a number of four columns
@@ -70,7 +70,7 @@ field-read (pos m) h = is-pos _ m (all-at tripPos 10000 m test-pos h)
 field-read (negsuc m) h = is-neg _ m (all-at tripNeg 999 m test-neg h)
 
 first-field : (v : ℤ) (bs : List ℕ) → firstField (written v ++ bs) ≡ firstField (written v)
-unfolding firstField written columns
+unfolding firstField written columns inColumns
 first-field (pos m) bs = refl
 first-field (negsuc m) bs = refl
 
@@ -79,18 +79,18 @@ pub read-written : (v : ℤ) (bs : List ℕ) → Short v → firstField (written
 read-written v bs h = first-field v bs ∙ field-read v h
 
 pub field-length : (v : ℤ) → length (written v) ≡ 4
-unfolding written columns
+unfolding written columns inColumns
 field-length (pos m) = refl
 field-length (negsuc m) = refl
 
 pub drop-field : (v : ℤ) (bs : List ℕ) → drop 4 (written v ++ bs) ≡ bs
-unfolding written columns
+unfolding written columns inColumns
 drop-field (pos m) bs = refl
 drop-field (negsuc m) bs = refl
 
 -- ---- the other way
 signed-columns : (neg : Bool) (m : ℕ) → written (signed neg m) ≡ columns neg m
-unfolding written columns columnOf signed both either pick
+unfolding written columns inColumns columnOf signed both either pick
 signed-columns false m = refl
 signed-columns true zero = refl
 signed-columns true (suc m) = refl

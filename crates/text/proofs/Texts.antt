@@ -3,7 +3,7 @@
 use mathlib.Core.Path.{_≡_, refl, sym, ap, _∙_}
 use mathlib.Core.Bool.{Bool, true, false}
 use mathlib.Core.List.{List, [], _∷_, _++_}
-use Prim.Native.Nat.{ℕ, suc, _+_, _*_, _/_, _%_, _<_}
+use Prim.Native.Nat.{ℕ, zero, suc, _+_, _*_, _/_, _%_, _^_, _<_}
 use native.Mathlib.Omega.{arith}
 use lib.Dec.{eqb, leb}
 use lib.IntN.{ℤ, pos, negsuc}
@@ -14,7 +14,7 @@ use Rattle.logic.specs.Tests.{both, either, pick}
 use Rattle.book.specs.declared.Shape.{Shape}
 use Rattle.book.specs.Kinds.{kind, none}
 use Rattle.text.specs.declared.State.{State}
-use Rattle.text.specs.Fields.{columnOf, columns, written, writtenAll}
+use Rattle.text.specs.Fields.{columnOf, columns, written, writtenAll, inColumns}
 use Rattle.text.specs.Lines.{Line, readLine, lineOf, lines, unlines, toFirst}
 use Rattle.text.specs.Lines.Line.{line, wrong}
 use Rattle.text.specs.Reading.{Outcome, readLines, onLine, prepend, rowOf, step, readEnd, lastByte}
@@ -99,7 +99,7 @@ read-rows (l ∷ ls) st at end ws e =
 unfoldable pub Plain : List ℕ → Type 0
 Plain l = Every (λ b. b ≡ 10 → ⊥) l
 
-pub first-line : (l bs : List ℕ) → Plain l → lines (l ++ (10 ∷ bs)) ≡ l ∷ lines bs
+first-line : (l bs : List ℕ) → Plain l → lines (l ++ (10 ∷ bs)) ≡ l ∷ lines bs
 unfolding lines pick toFirst Plain
 first-line [] bs p = refl
 first-line (b ∷ l) bs p = rw (ne-eqb b 10 (p .0), first-line l bs (p .1))
@@ -164,14 +164,15 @@ unfolding Plain
 plain-append [] ys p q = q
 plain-append (x ∷ xs) ys p q = (p .0, plain-append xs ys (p .1) q)
 
-columns-plain : (neg : Bool) (m : ℕ) → Plain (columns neg m)
-unfolding Plain columns
-columns-plain neg m = (column-plain neg m 1000, (column-plain neg m 100, (column-plain neg m 10, (column-plain neg m 1, tt))))
+pub columns-plain : (w : ℕ) (neg : Bool) (m : ℕ) → Plain (inColumns w neg m)
+unfolding Plain inColumns
+columns-plain zero neg m = tt
+columns-plain (suc w) neg m = (column-plain neg m (10 ^ w), columns-plain w neg m)
 
 field-plain : (v : ℤ) → Plain (written v)
-unfolding written
-field-plain (pos m) = columns-plain false m
-field-plain (negsuc m) = columns-plain true (suc m)
+unfolding written columns
+field-plain (pos m) = columns-plain 4 false m
+field-plain (negsuc m) = columns-plain 4 true (suc m)
 
 pub fields-plain : (vs : List ℤ) → Plain (writtenAll vs)
 unfolding writtenAll Plain

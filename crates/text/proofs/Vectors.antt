@@ -12,7 +12,7 @@ use lib.ListN.{length}
 use Rattle.logic.specs.Tests.{both, either, pick, consIf, some}
 use Rattle.book.specs.Kinds.{kinds, kind, unknown, contents, fieldsOf, numbersOf, bytes, most, longest, rowOnce, mostRows, rangeOf}
 use Rattle.book.specs.Counts.{countsOf, frontOf, allCounts, countAt, shapeFrom, sumTo}
-use Rattle.text.specs.Fields.{columnOf, columns, digitOf, sizeOf, minusIn, signed, same, readColumns, spelt, firstField}
+use Rattle.text.specs.Fields.{columnOf, columns, digitOf, sizeOf, minusIn, signed, same, readColumns, spelt, firstField, inColumns}
 use Rattle.text.specs.Lines.{toFirst, lines, seek, kindFor, between, inside, andThen, testField, readFields, code, numbersIn, filledIn, headless, missing, miscounted, wholeOf, unless, judged, readRest, readKind, readLine}
 use Rattle.text.specs.Reading.{Outcome, start, toNat, lastOr, after, step, rowOf, prepend, readEnd, onLine, readLines, lastByte, readText, tableOf}
 use Rattle.text.specs.Reading.Outcome.{accepted, refused}
@@ -75,7 +75,7 @@ pub texts-right : T (texts
     (10, 3, "B   1   1\nX   1   0   0   0   0   0   0   0   0\nP   1   2\nZ   2\n") ∷
     (11, 2, "B   1   1\nZ   1\n") ∷
     (11, 4, "B   1   1\nR   0   0   0   0   0   0   0   0   0\nR   0   0   0   0   0   0   0   0   0\nZ   1\n") ∷ []))
-unfolding kinds kind unknown contents fieldsOf bytes most longest rowOnce mostRows shapeFrom frontOf rangeOf both either pick consIf some columnOf columns digitOf sizeOf minusIn signed same readColumns spelt firstField toFirst lines seek kindFor between inside andThen testField readFields code numbersIn filledIn headless missing miscounted wholeOf unless judged readRest readKind readLine start toNat lastOr after step rowOf prepend readEnd onLine readLines lastByte readText tableOf
+unfolding kinds kind unknown contents fieldsOf bytes most longest rowOnce mostRows shapeFrom frontOf rangeOf both either pick consIf some columnOf columns inColumns digitOf sizeOf minusIn signed same readColumns spelt firstField toFirst lines seek kindFor between inside andThen testField readFields code numbersIn filledIn headless missing miscounted wholeOf unless judged readRest readKind readLine start toNat lastOr after step rowOf prepend readEnd onLine readLines lastByte readText tableOf
 texts-right = tt
 
 pub tables-right : T (tables

@@ -1,6 +1,6 @@
 -- A field of 4 columns (document 01, 'A book and its lines'): "a whole number right-justified after spaces, no plus sign, no leading
 -- zero, no "-0"". Bytes are ASCII: 32 is a space, 45 a minus, 48 to 57 are the digits.
-use Prim.Native.Nat.{ℕ, suc, _+_, _-_, _*_, _/_, _%_}
+use Prim.Native.Nat.{ℕ, zero, suc, _+_, _-_, _*_, _/_, _%_, _^_}
 use mathlib.Core.Bool.{Bool, true, false}
 use mathlib.Core.List.{List, [], _∷_, _++_}
 use lib.Dec.{eqb, ltb, leb}
@@ -10,14 +10,18 @@ use Rattle.logic.specs.Tests.{both, either, pick}
 use Rattle.text.specs.declared.Field.{Field}
 use Rattle.text.specs.declared.Field.the-variants.{Value, Misspelt}
 
--- The byte in the column worth `scale` (1000, 100, 10 or 1) of a number of size m: from the number's first digit on, and always in the
+-- The byte in the column worth `scale` (a power of 10) of a number of size m: from the number's first digit on, and always in the
 -- last column, a digit; directly before them a minus, if the number is negative; else a space.
 unfoldable pub columnOf : Bool → ℕ → ℕ → ℕ
 columnOf neg m scale = pick (either (eqb scale 1) (leb scale m)) (48 + m / scale % 10) (pick (both neg (leb scale (m * 10))) 45 32)
 
--- The four columns of a number of size m, negative or not.
+-- The w columns of a number of size m, negative or not, right-justified; and the four columns of a field.
+unfoldable pub inColumns : ℕ → Bool → ℕ → List ℕ
+inColumns zero neg m = []
+inColumns (suc w) neg m = columnOf neg m (10 ^ w) ∷ inColumns w neg m
+
 unfoldable pub columns : Bool → ℕ → List ℕ
-columns neg m = columnOf neg m 1000 ∷ columnOf neg m 100 ∷ columnOf neg m 10 ∷ columnOf neg m 1 ∷ []
+columns neg m = inColumns 4 neg m
 
 -- How a number from -999 to 9999 is written.
 unfoldable pub written : ℤ → List ℕ

@@ -1,14 +1,12 @@
 // Standard input and output. A call that a signal interrupted is made again; any other that fails is the last.
-ghost use Prim.Native.Nat.{_<_};
+ghost use Prim.Native.Nat.{_+_, _<_, _^_};
 ghost use mathlib.Core.Bool.{false};
 ghost use mathlib.Core.Path.{_≡_};
+ghost use lib.ListN.{length};
 ghost use Rattle.io.specs.Counts.{Counts};
+ghost use Rattle.listing.specs.Parts.{Next};
 
-const INPUT: i32 = 0;
-
-const OUTPUT: i32 = 1;
-
-// How many interruptions are borne: more than come in an hour of nothing else.
+// How many interruptions of one read of the book, or of the writing of one part, are borne: more than come in an hour of nothing else.
 const PATIENCE: u64 = 4294967295;
 
 // A call that moved no byte and answered this is the last, unless it was only interrupted and there is patience left.
@@ -24,13 +22,23 @@ fn is_last(got: isize, patience: u64) -> bool
     os::errno() != libc::EINTR
 }
 
-// Writes all the bytes and answers true; or stops at the first write that fails and answers false, when some of them may have been written.
-pub fn send(bytes: &[u8]) -> bool {
+// One write to standard output. The bytes are those that are printed for the text from place `at` on; text and place stand here for this alone.
+fn write_next(text: &[u8], at: usize, bytes: &[u8]) -> isize
+    requires { ⌜ Next (now text) at (now bytes) ⌝ }
+{
+    libc::write(libc::STDOUT_FILENO, bytes)
+}
+
+// Writes all the bytes, which are those that are printed for the text from place `at` on, and answers true; or stops at the first write that
+// fails and answers false, when some of them may have been written.
+pub fn send(text: &[u8], at: usize, bytes: &[u8]) -> bool
+    requires { ⌜ Next (now text) at (now bytes) × (at + length (now bytes) < 2 ^ 64) ⌝ }
+{
     let mut done = 0;
     let mut patience = PATIENCE;
     while done < bytes.len() {
         let rest = &bytes[done..];
-        let got = libc::write(OUTPUT, rest);
+        let got = write_next(text, at + done, rest);
         let put = io::count(got, rest);
         if put == 0 {
             if is_last(got, patience) {
@@ -57,7 +65,7 @@ pub fn receive(room: &mut [u8]) -> Received
     let mut patience = PATIENCE;
     while done < room.len() {
         let rest = &mut room[done..];
-        let got = libc::read(INPUT, rest);
+        let got = libc::read(libc::STDIN_FILENO, rest);
         let put = io::count(got, rest);
         if put == 0 {
             if is_last(got, patience) {

@@ -2,7 +2,7 @@ use Prim.Native.Nat.{_+_, _-_, _*_}
 use native.Mathlib.Omega.{arith}
 use borrow.Author.Needs.{needs}
 use Rattle.logic.proofs.Stores.{Putting, putting-start, putting-next, putting-end}
-use Rattle.text.specs.Fields.{columns}
+use Rattle.text.specs.Fields.{columns, inColumns}
 use Rattle.line.proofs.PutLaws.{zeroField, zeros-are}
 use Rattle.line.proofs.put_zeros.Statement.{statement}
 use Rattle.line.proofs.put_zeros.Tie as tie
@@ -32,7 +32,7 @@ loop-less : tie.Need-loop-less Inv-loop μ-loop
 loop-less c = omega arith
 
 loop-again : tie.Need-loop-again Inv-loop μ-loop
-unfolding columns
+unfolding columns inColumns
 loop-again c =
     let put-columns = c .before .before .put-columns in
     let loop = c .before .before .before .before .before .loop in

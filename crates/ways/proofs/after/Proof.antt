@@ -1,20 +1,17 @@
-use mathlib.Core.Path.{refl}
+use mathlib.Core.Path.{refl, sym, _∙_}
 use Rattle.logic.proofs.Decide.{clash}
 use borrow.Author.Needs.{needs}
 use Rattle.ways.proofs.after.Statement.{statement}
 use Rattle.ways.proofs.after.Tie as tie
 
+add-t6 : tie.Need-add-t6
+add-t6 c = search needs
+
 returns : tie.Need-returns
-returns c = search needs
-
-slice-aggregate-fail : tie.Need-slice-aggregate-fail
-slice-aggregate-fail c = search needs
-
-fail-requires : tie.Need-fail-requires
-fail-requires c κs = search needs
+returns c = ((search needs, λ e. absurd (clash (sym e ∙ (search needs)))), (λ e. (refl, refl, refl)))
 
 returns-2 : tie.Need-returns-2
-returns-2 c = (refl, λ e. absurd (clash e))
+returns-2 c = ((search needs, λ e. refl), (λ e. absurd (clash (sym (search needs) ∙ e))))
 
 pub after-spec : {M : Type 1} → statement M
-after-spec = tie.close (tie.spec returns slice-aggregate-fail fail-requires returns-2)
+after-spec = tie.close (tie.spec add-t6 returns returns-2)

@@ -1,6 +1,9 @@
 use lib.Seq.{length-take-le}
 use mathlib.Core.Path.{sym}
-use Rattle.listing.proofs.Reached.{begun-reached}
+use native.Mathlib.Omega.{arith}
+use Rattle.answers.specs.Ways.{mostLines}
+use Rattle.listing.proofs.Steps.{first-step}
+use Rattle.ways.proofs.Stands.{place-small, stood}
 use borrow.Author.Needs.{needs}
 use Rattle.ways.proofs.print.Statement.{statement}
 use Rattle.ways.proofs.print.Tie as tie
@@ -15,13 +18,18 @@ slice-aggregate-send : tie.Need-slice-aggregate-send
 slice-aggregate-send c = sym (length-take-le _ _ (c .before .before .begin .ensures .fits))
 
 send-requires : tie.Need-send-requires
-send-requires c κs = search needs
+send-requires c κs =
+    let b = c .before .before .begin .ensures in
+    (first-step _ _ _ _ _ b .next, rw (length-take-le _ _ (b .fits)) (place-small 0 mostLines _ (omega arith) (omega arith) (b .small)))
 
 after-requires : tie.Need-after-requires
 after-requires c κs = search needs
 
 rest-requires : tie.Need-rest-requires
-rest-requires c κs = begun-reached _ _ _ _ _ _ (c .before .before .after .ensures .0) (c .before .before .after .ensures .1) _ _ (c .before .before .before .before .before .before .begin .ensures)
+rest-requires c κs =
+    let b = c .before .before .before .before .before .before .begin .ensures in
+    let a = c .before .before .after .ensures in
+    stood _ _ _ _ _ _ _ _ _ _ (first-step _ _ _ _ _ b) (a .0 .0) (a .0 .1) (a .1)
 
 returns : tie.Need-returns
 returns c = search needs

@@ -2,15 +2,16 @@ use mathlib.Core.Logic.{⊎-elim}
 use Prim.Native.Nat.{_+_, _-_, _≤_}
 use lib.ListN.{length}
 use native.Mathlib.Omega.{arith}
+use Rattle.ways.proofs.Stands.{next-rest}
 use borrow.Author.Needs.{needs}
 use Rattle.ways.proofs.streams.send.Statement.{statement}
 use Rattle.ways.proofs.streams.send.Tie as tie
 
 abbrev Inv-loop : tie.InvT-loop
-Inv-loop bytes done₀ patience₀ done patience = done ≤ length bytes
+Inv-loop text at bytes done₀ patience₀ done patience = done ≤ length bytes
 
 abbrev μ-loop : tie.MeasureT-loop
-μ-loop bytes done₀ patience₀ done patience = (length bytes - done) + patience
+μ-loop text at bytes done₀ patience₀ done patience = (length bytes - done) + patience
 
 loop-holds : tie.Need-loop-holds Inv-loop μ-loop
 loop-holds c = search needs
@@ -24,8 +25,11 @@ part-rest-start c = search needs
 part-rest-end : tie.Need-part-rest-end Inv-loop μ-loop
 part-rest-end c = search needs
 
-write-requires : tie.Need-write-requires Inv-loop μ-loop
-write-requires c κs = search needs
+add-write-next : tie.Need-add-write-next Inv-loop μ-loop
+add-write-next c = search needs
+
+write-next-requires : tie.Need-write-next-requires Inv-loop μ-loop
+write-next-requires c κs = next-rest _ (c .before .before .before .before .before .args .bytes .now) _ (c .before .before .loop .done) (c .before .before .before .before .before .pre .0) (search needs)
 
 count-requires : tie.Need-count-requires Inv-loop μ-loop
 count-requires c κs = search needs
@@ -61,7 +65,8 @@ send-spec =
     sub-rest
     part-rest-start
     part-rest-end
-    write-requires
+    add-write-next
+    write-next-requires
     count-requires
     is-last-requires
     returns
