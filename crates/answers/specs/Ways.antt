@@ -64,7 +64,7 @@ numberFrom k [] = k
 numberFrom k (b ∷ bs) = numberFrom (k * 10 + digitOf b) bs
 
 -- Bytes that close with their count: cut into lines as texts are, they are lines that begin with A, no others, and a last one of E or M and 8
--- columns. The columns are the number of lines above, right-justified, and read as it.
+-- columns. The columns are the number of lines above, right-justified, and so read as it.
 pub record Counted (x : List ℕ) : Type 0 where
   pub above : List (List ℕ)
   pub letter : ℕ

@@ -1,5 +1,5 @@
 -- What the parts are of all that `ways` prints for a text, byte by byte: each is the next bytes, until they are all.
-use Prim.Native.Nat.{ℕ, _+_, _-_}
+use Prim.Native.Nat.{ℕ, _+_, _-_, _≤_}
 use mathlib.Core.Bool.{Bool, true, false}
 use mathlib.Core.List.{List, _++_}
 use mathlib.Core.Path.{_≡_, refl, sym, ap, _∙_}
@@ -13,8 +13,16 @@ use Rattle.meaning.specs.Order.{at}
 use Rattle.answers.specs.Ways.{waysOf, listed, mostLines}
 use Rattle.listing.specs.declared.Part.{Part}
 use Rattle.listing.specs.declared.Begun.{Begun}
-use Rattle.listing.specs.Parts.{partLines, Lists, Begins, Next, Midway, Step}
+use Rattle.listing.specs.Parts.{partLines, Lists, Begins, Next, Midway}
 use Rattle.listing.proofs.Whole.{part-goes-on}
+
+-- A part of what `ways` prints for the text, where i bytes were printed and m lines were left before it: the next bytes, which are the last; or
+-- the listing goes on after them.
+pub record Step (bs ws ranks : List ℕ) (i : ℕ) (s : Shape) (m : ℕ) (o : List ℕ) (r : Part) : Type 0 where
+  pub next : Next bs i (take (r .bytes) o)
+  pub fewer : r .full ≡ true → partLines ≤ m
+  pub ends : r .full ≡ false → i + r .bytes ≡ length (waysOf bs)
+  pub goes-on : r .full ≡ true → Midway bs ws ranks (i + r .bytes) s (r .last) (m - partLines)
 
 -- The front of what is left is next.
 front-next : (bs xs ys : List ℕ) (i : ℕ) → drop i (waysOf bs) ≡ xs ++ ys → Next bs i xs
@@ -64,8 +72,8 @@ module _ (bs ws ranks o : List ℕ) (r : Begun) (b : Begins bs ws ranks o r) whe
   begun-next false e = all-next bs (take (r .part .bytes) o) 0 (sym (b .whole e))
   begun-next true e = front-next bs (take (r .part .bytes) o) (listed (bookOf (r .shape) (b .more e .ready .rows)) (mostLines - partLines) (at (r .part .last))) 0 (sym (b .more e .rest))
 
-  pub first-step : Step bs ws ranks 0 (r .shape) mostLines o (r .part)
-  first-step = record {
+  begun-step : Step bs ws ranks 0 (r .shape) mostLines o (r .part)
+  begun-step = record {
     next = begun-next (r .part .full) refl;
     fewer = λ e. omega arith;
     ends = λ e. omega (arith, begun-are, ap length (b .whole e));
@@ -77,3 +85,6 @@ module _ (bs ws ranks o : List ℕ) (r : Begun) (b : Begins bs ws ranks o r) whe
       short = omega (arith, b .small);
     };
   }
+
+  pub first-step : (i : ℕ) → i ≡ 0 → Step bs ws ranks i (r .shape) mostLines o (r .part)
+  first-step i e = rw e begun-step

@@ -55,7 +55,7 @@ pub record Prints (w n : ℕ) (ns : List ℕ) (k m : ℕ) (o′ : List ℕ) (r :
   pub filled : k ≤ m → k ≡ partLines → Fills w n ns k o′ r
 
 -- ---- of a book
--- The words and ranks are those of some book of this shape, and the pair is lawful in it.
+-- The words and ranks are those of some book of this shape; and a pair is lawful in it.
 pub record Prepared (s : Shape) (ws ranks : List ℕ) : Type 0 where
   pub rows : List ℤ
   pub loaded : Loaded s rows ws ranks
@@ -88,22 +88,15 @@ pub record Begins (bs ws ranks o′ : List ℕ) (r : Begun) : Type 0 where
   pub more : r .part .full ≡ true → GoesOn bs ws ranks (take (r .part .bytes) o′) (r .shape) (r .part .last) (mostLines - partLines)
 
 -- ---- byte by byte
--- The bytes are those that `ways` prints for the text from place i on.
+-- The bytes are the first of those that `ways` prints for the text from place i on.
 abbrev pub Next : List ℕ → ℕ → List ℕ → Type 0
 Next bs i xs = xs ≡ take (length xs) (drop i (waysOf bs))
 
--- After the first i bytes of all that `ways` prints for the text come those that are listed from the pair on, m lines being left.
+-- After the first i bytes of all that `ways` prints for the text come those that are listed from the pair on, m lines being left. The last two
+-- only say that the place is a number of the machine.
 pub record Midway (bs ws ranks : List ℕ) (i : ℕ) (s : Shape) (p : Pair) (m : ℕ) : Type 0 where
   pub done : List ℕ
   pub long : length done ≡ i
   pub goes-on : GoesOn bs ws ranks done s p m
   pub few : m ≤ mostLines
   pub short : i ≤ (mostLines - m) * partBytes
-
--- A part of what `ways` prints for the text, where i bytes were printed and m lines were left before it: the next bytes, which are the last; or
--- the listing goes on after them.
-pub record Step (bs ws ranks : List ℕ) (i : ℕ) (s : Shape) (m : ℕ) (o′ : List ℕ) (r : Part) : Type 0 where
-  pub next : Next bs i (take (r .bytes) o′)
-  pub fewer : r .full ≡ true → partLines ≤ m
-  pub ends : r .full ≡ false → i + r .bytes ≡ length (waysOf bs)
-  pub goes-on : r .full ≡ true → Midway bs ws ranks (i + r .bytes) s (r .last) (m - partLines)

@@ -15,7 +15,7 @@ use Rattle.text.specs.declared.Field.the-variants.{Value, Misspelt}
 unfoldable pub columnOf : Bool → ℕ → ℕ → ℕ
 columnOf neg m scale = pick (either (eqb scale 1) (leb scale m)) (48 + m / scale % 10) (pick (both neg (leb scale (m * 10))) 45 32)
 
--- The w columns of a number of size m, negative or not, right-justified; and the four columns of a field.
+-- The w columns of a number of size m, below 10 ^ w, negative or not, right-justified; and the four columns of a field.
 unfoldable pub inColumns : ℕ → Bool → ℕ → List ℕ
 inColumns zero neg m = []
 inColumns (suc w) neg m = columnOf neg m (10 ^ w) ∷ inColumns w neg m

@@ -1,7 +1,6 @@
 // ways: a book on standard input, its resolutions on standard output. All the work is in the library `listing`.
 mod streams;
 
-ghost use Prim.Native.Nat.{_+_, _<_, _^_};
 ghost use mathlib.Core.Bool.{true, false};
 ghost use mathlib.Core.Path.{_≡_};
 ghost use Rattle.answers.specs.Ways.{mostLines};
@@ -13,32 +12,34 @@ use engine::Ranks;
 use engine::Words;
 use listing::Part;
 use sets::Pair;
+use streams::Output;
+use streams::Sent;
 
-// Where a listing stands: how many bytes were written, whether no write failed, whether more is to be printed, and the last pair printed then.
+// Where a listing stands: the output, whether no write failed, whether more is to be printed, and the last pair printed then.
 pub struct Stand {
-    pub bytes: usize,
+    pub to: Output,
     pub whole: bool,
     pub more: bool,
     pub last: Pair,
 }
 
 // Where it stands after a part. If not all of the part was written, the listing is cut off: nothing more is printed.
-fn after(at: usize, part: Part, written: bool) -> Stand
-    requires { ⌜ at + part .bytes < 2 ^ 64 ⌝ }
-    ensures { λ r. ⌜ (r .whole ≡ written) × (written ≡ false → r .more ≡ false) ⌝ }
-    ensures { λ r. ⌜ (written ≡ true → (r .bytes ≡ at + part .bytes) × (r .more ≡ part .full) × (r .last ≡ part .last)) ⌝ }
+fn after(part: Part, sent: Sent) -> Stand
+    ensures { λ r. ⌜ (r .to ≡ sent .to) × (r .whole ≡ sent .whole) × (r .last ≡ part .last) ⌝ }
+    ensures { λ r. ⌜ (sent .whole ≡ true → r .more ≡ part .full) × (sent .whole ≡ false → r .more ≡ false) ⌝ }
 {
+    let to = sent.to;
     let last = part.last;
-    if written {
+    if sent.whole {
         return Stand {
-            bytes: at + part.bytes,
+            to,
             whole: true,
             more: part.full,
             last,
         };
     }
     Stand {
-        bytes: at,
+        to,
         whole: false,
         more: false,
         last,
@@ -47,14 +48,15 @@ fn after(at: usize, part: Part, written: bool) -> Stand
 
 // Prints the part after the last pair printed, where m lines are left.
 fn go_on(text: &[u8], words: &Words, ranks: &Ranks, s: Shape, from: Stand, m: usize) -> Stand
-    requires { ⌜ Midway (now text) (now words) (now ranks) (from .bytes) s (from .last) m ⌝ }
+    requires { ⌜ Midway (now text) (now words) (now ranks) (from .to .taken) s (from .last) m ⌝ }
     ensures { λ r. ⌜ Stood (now (text .entry)) (now (words .entry)) (now (ranks .entry)) s m r ⌝ }
 {
     let mut out = [0u8; listing::PART * listing::LONGEST + listing::CLOSING];
     let last = from.last;
+    let to = from.to;
     let part = listing::go_on(words, ranks, s, last, m, &mut out);
-    let written = streams::send(text, from.bytes, &out[..part.bytes]);
-    after(from.bytes, part, written)
+    let sent = streams::send(text, to, &out[..part.bytes]);
+    after(part, sent)
 }
 
 // Prints what is left after the first part: part after part.
@@ -80,8 +82,8 @@ fn print(text: &[u8]) -> Stand
     let mut out = [0u8; listing::PART * listing::LONGEST + listing::CLOSING];
     let b = listing::begin(text, &mut words, &mut ranks, &mut out);
     let part = b.part;
-    let written = streams::send(text, 0, &out[..part.bytes]);
-    let from = after(0, part, written);
+    let sent = streams::send(text, streams::untouched(), &out[..part.bytes]);
+    let from = after(part, sent);
     rest(text, &words, &ranks, b.shape, from)
 }
 

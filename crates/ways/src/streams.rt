@@ -1,12 +1,12 @@
-// Standard input and output. A call that a signal interrupted is made again; any other that fails is the last.
-ghost use Prim.Native.Nat.{_+_, _<_, _^_};
-ghost use mathlib.Core.Bool.{false};
+// Standard input and output. A call that a signal interrupted is made again, as long as there is patience; any other that fails is the last.
+ghost use Prim.Native.Nat.{_+_, _<_, _≤_, _^_};
+ghost use mathlib.Core.Bool.{true, false};
 ghost use mathlib.Core.Path.{_≡_};
 ghost use lib.ListN.{length};
-ghost use Rattle.io.specs.Counts.{Counts};
+ghost use Rattle.io.specs.Counts.{Counts, clamped};
 ghost use Rattle.listing.specs.Parts.{Next};
 
-// How many interruptions of one read of the book, or of the writing of one part, are borne: more than come in an hour of nothing else.
+// How many interruptions are borne as the book is read, or as a part is written: at a million in a second they last more than an hour.
 const PATIENCE: u64 = 4294967295;
 
 // A call that moved no byte and answered this is the last, unless it was only interrupted and there is patience left.
@@ -22,33 +22,75 @@ fn is_last(got: isize, patience: u64) -> bool
     os::errno() != libc::EINTR
 }
 
-// One write to standard output. The bytes are those that are printed for the text from place `at` on; text and place stand here for this alone.
-fn write_next(text: &[u8], at: usize, bytes: &[u8]) -> isize
-    requires { ⌜ Next (now text) at (now bytes) ⌝ }
-{
-    libc::write(libc::STDOUT_FILENO, bytes)
+// Standard output, by how many bytes it has taken. Only the two functions below make one.
+pub struct Output {
+    taken: usize,
 }
 
-// Writes all the bytes, which are those that are printed for the text from place `at` on, and answers true; or stops at the first write that
-// fails and answers false, when some of them may have been written.
-pub fn send(text: &[u8], at: usize, bytes: &[u8]) -> bool
-    requires { ⌜ Next (now text) at (now bytes) × (at + length (now bytes) < 2 ^ 64) ⌝ }
+// Standard output before the first write.
+pub fn untouched() -> Output
+    ensures { λ r. ⌜ r .taken ≡ 0 ⌝ }
 {
+    Output { taken: 0 }
+}
+
+// What a write answered, how many bytes it took, and the output after it.
+struct Wrote {
+    got: isize,
+    put: usize,
+    to: Output,
+}
+
+// One write. The bytes are the next of those that are printed for the text; the text stands here for this alone.
+fn write_next(text: &[u8], to: Output, bytes: &[u8]) -> Wrote
+    requires { ⌜ Next (now text) (to .taken) (now bytes) × (to .taken + length (now bytes) < 2 ^ 64) ⌝ }
+    ensures { λ r. ⌜ (r .put ≡ clamped (r .got) (length (now (bytes .entry)))) × (r .put ≤ length (now (bytes .entry))) × (r .to .taken ≡ to .taken + r .put) ⌝ }
+{
+    let got = libc::write(libc::STDOUT_FILENO, bytes);
+    let put = io::count(got, bytes);
+    Wrote {
+        got,
+        put,
+        to: Output {
+            taken: to.taken + put,
+        },
+    }
+}
+
+// Whether all bytes were written, and the output then.
+pub struct Sent {
+    pub whole: bool,
+    pub to: Output,
+}
+
+// Writes the bytes, which are the next of those that are printed for the text; or stops at the first write that fails, when some of them may
+// have been written.
+pub fn send(text: &[u8], to: Output, bytes: &[u8]) -> Sent
+    requires { ⌜ Next (now text) (to .taken) (now bytes) × (to .taken + length (now bytes) < 2 ^ 64) ⌝ }
+    ensures { λ r. ⌜ (r .whole ≡ true → r .to .taken ≡ to .taken + length (now (bytes .entry))) ⌝ }
+{
+    let mut out = to;
     let mut done = 0;
     let mut patience = PATIENCE;
     while done < bytes.len() {
-        let rest = &bytes[done..];
-        let got = write_next(text, at + done, rest);
-        let put = io::count(got, rest);
-        if put == 0 {
-            if is_last(got, patience) {
-                return false;
+        let wrote = write_next(text, out, &bytes[done..]);
+        if wrote.put == 0 {
+            if is_last(wrote.got, patience) {
+                return Sent {
+                    whole: false,
+                    to: out,
+                };
             }
             patience -= 1;
         }
-        done += put;
+        done += wrote.put;
+        let next = wrote.to;
+        out = next;
     }
-    true
+    Sent {
+        whole: true,
+        to: out,
+    }
 }
 
 // What was read: how many bytes, and whether no read failed.

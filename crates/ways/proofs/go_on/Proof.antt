@@ -18,7 +18,7 @@ slice-aggregate-send c = sym (length-take-le _ _ (c .before .go-on .ensures .fit
 send-requires : tie.Need-send-requires
 send-requires c κs = 
     let l = c .before .go-on .ensures in
-    let f = c .before .before .before .before .before .pre in
+    let f = c .before .before .before .before .before .before .pre in
     let s = step _ _ _ _ _ _ _ f _ _ l in
     (s .next, rw (length-take-le _ _ (l .fits)) (place-small _ _ _ (f .few) (f .short) (l .small)))
 
@@ -28,9 +28,9 @@ after-requires c κs = search needs
 returns : tie.Need-returns
 returns c = 
     let l = c .before .before .before .go-on .ensures in
-    let f = c .before .before .before .before .before .before .before .pre in
+    let f = c .before .before .before .before .before .before .before .before .pre in
     let a = c .after .ensures in
-    stood _ _ _ _ _ _ _ _ _ _ (step _ _ _ _ _ _ _ f _ _ l) (a .0 .0) (a .0 .1) (a .1)
+    stood _ _ _ _ _ _ _ _ _ _ (step _ _ _ _ _ _ _ f _ _ l) (l .fits) (c .before .send .ensures) (a .0 .0) (a .0 .1) (a .0 .2) (a .1 .0) (a .1 .1)
 
 pub go-on-spec : {M : Type 1} → statement M
 go-on-spec =
