@@ -12,7 +12,7 @@ use Rattle.logic.specs.Tests.{Decides}
 use Rattle.logic.proofs.Decide.{reworded}
 use Rattle.sets.specs.declared.Pair.{Pair}
 use Rattle.sets.specs.Sets.{bitOf, Within, Apart, without}
-use Rattle.sets.proofs.Digits.{bit-lt, bit-over, bit-without, lt-or-le}
+use Rattle.sets.proofs.Digits.{shifted, bit-lt, bit-over, bit-without, lt-or-le}
 use Rattle.sets.proofs.Words as N
 use Rattle.sets.proofs.Words.{single, single-has}
 use Rattle.sets.proofs.Pairs.{sub-trans}
@@ -20,7 +20,6 @@ use Rattle.masks.specs.declared.Bounds.{Bounds}
 use Rattle.masks.specs.Views.{MaskView}
 use Rattle.masks.proofs.Booleans.{refused, granted, decides-true, decides-false}
 use Rattle.bounds.specs.Sound.{In, Propagated, withSets}
-use Rattle.bounds.proofs.Singles.{shifted}
 use Rattle.bounds.proofs.Ranges.{in-sets, in-root, set-below}
 use Rattle.probe.specs.declared.Answer.{Answer}
 use Rattle.probe.specs.declared.Answer.the-variants.{Found, Nothing}

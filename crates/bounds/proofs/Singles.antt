@@ -1,25 +1,22 @@
 -- A pair with one member: any pair has it whole or not at all, and the highest member of a word makes one.
 -- By cases on the word in which the member stands, from the laws of one place of a word (sets, single).
-use mathlib.Core.Path.{_≡_, refl, sym, ap, _∙_}
+use mathlib.Core.Path.{_≡_, refl, ap, _∙_}
 use mathlib.Core.Logic.{⊎-elim}
 use Prim.Native.Nat.{ℕ, zero, suc, _+_, _-_, _*_, _/_, _^_, _%_, _<_, _≤_}
-use native.Mathlib.Nat.{le-refl, one-mul, pow-suc, div-one, mod-lt}
+use native.Mathlib.Nat.{le-refl, pow-suc}
 use native.Mathlib.Omega.{arith}
-use lib.Count.{leadingZeros, leading-top, leading-le, trailingZeros, under}
-use lib.Dec.{lit<}
-use lib.Pow.{shl-exact, shr-shr, high}
+use lib.Count.{leadingZeros, leading-top, leading-le}
+use lib.Pow.{high}
 use Rattle.sets.specs.declared.Pair.{Pair}
 use Rattle.sets.specs.Sets.{bitOf, Within, Apart}
 use Rattle.sets.specs.Pairs.{Sub, Off, Atom}
+use Rattle.sets.proofs.Digits.{shifted}
 use Rattle.sets.proofs.Words as N
 use Rattle.sets.proofs.Words.{none-sub, none-off, single-has}
 use Rattle.sets.proofs.Pairs.{atom-held, atom-denied, atom-taken}
-use Rattle.bounds.specs.Singles.{wordOf, oneOf, Place, Lowest, Picked}
+use Rattle.bounds.specs.Singles.{wordOf, oneOf, Place, Picked}
 
 -- ---- the pair made
-pub shifted : (k : ℕ) → k < 64 → 1 * 2 ^ k % 2 ^ 64 ≡ 2 ^ k
-shifted k h = shl-exact 1 k 64 (lit< tt) (omega arith) ∙ one-mul _
-
 module _ (s k : ℕ) (h : k < 64) where
   pub one-held : s ≡ 0 → _≡_ {A = Pair} (record { taken = 0; held = 1 * 2 ^ k % 2 ^ 64; denied = 0 }) (oneOf s k)
   unfolding oneOf
@@ -96,30 +93,3 @@ module _ (x : ℕ) (p : 0 < x) (h : x < 2 ^ 64) where
           let q : x ≡ 1 * 2 ^ j + (x - 2 ^ j) = omega arith in
           let r : x - 2 ^ j < 2 ^ j = omega (arith, pow-suc 2 j) in
           ap (λ (y : ℕ). y / 2 ^ j % 2) q ∙ ap (λ (y : ℕ). y % 2) (high 1 j r)
-
--- ---- the lowest member
--- The digits of half a number.
-bit-half : (x i : ℕ) → bitOf x (suc i) ≡ bitOf (x / 2) i
-bit-half x i = let e : suc i ≡ 1 + i = omega arith in ap (λ (m : ℕ). x / 2 ^ m % 2) e ∙ ap (λ (m : ℕ). m % 2) (sym (shr-shr x 1 i))
-
--- Of the k lowest places those below the lowest member have none, and if there is one it stands there.
-lowest-of : (k x : ℕ) → ((j : ℕ) → j < trailingZeros k x → bitOf x j ≡ 0) × (trailingZeros k x < k → bitOf x (trailingZeros k x) ≡ 1)
-unfolding trailingZeros
-lowest-of zero x = (λ j h. absurd (omega arith), λ h. absurd (omega arith))
-lowest-of (suc k) x = go (x % 2) refl (mod-lt x (lit< tt)) (lowest-of k (x / 2))
-  where
-    here : bitOf x 0 ≡ x % 2
-    here = ap (λ (m : ℕ). m % 2) (div-one x)
-
-    go : (d : ℕ) → x % 2 ≡ d → d < 2 → ((j : ℕ) → j < trailingZeros k (x / 2) → bitOf (x / 2) j ≡ 0) × (trailingZeros k (x / 2) < k → bitOf (x / 2) (trailingZeros k (x / 2)) ≡ 1)
-        → ((j : ℕ) → j < under d (trailingZeros k (x / 2)) → bitOf x j ≡ 0) × (under d (trailingZeros k (x / 2)) < suc k → bitOf x (under d (trailingZeros k (x / 2))) ≡ 1)
-    go zero e l ih = (below, λ h. bit-half x (trailingZeros k (x / 2)) ∙ ih .1 (omega arith))
-      where
-        below : (j : ℕ) → j < suc (trailingZeros k (x / 2)) → bitOf x j ≡ 0
-        below zero h = here ∙ e
-        below (suc j) h = bit-half x j ∙ ih .0 j (omega arith)
-    go (suc zero) e l ih = (λ j h. absurd (omega arith), λ h. here ∙ e)
-    go (suc (suc d)) e l ih = absurd (omega arith)
-
-pub lowest-is : (x : ℕ) → Lowest x (trailingZeros 64 x)
-lowest-is x = let h = lowest-of 64 x in record { below = h .0; member = h .1 }

@@ -22,11 +22,6 @@ pub record Place (x k : ℕ) : Type 0 where
   pub small : k < 64
   pub member : bitOf x k ≡ 1
 
--- Place k is that of the lowest member of the word x, 64 if it has none.
-pub record Lowest (x k : ℕ) : Type 0 where
-  pub below : (j : ℕ) → j < k → bitOf x j ≡ 0
-  pub member : k < 64 → bitOf x k ≡ 1
-
 -- The pair m has one member, and it is one of x if x has any.
 pub record Picked (x m : Pair) : Type 0 where
   pub atom : Atom m

@@ -3,7 +3,7 @@
 use mathlib.Core.Path.{_≡_, sym, _∙_}
 use mathlib.Core.List.{List}
 use Prim.Native.Nat.{ℕ, _-_, _*_, _/_, _≤_}
-use native.Mathlib.Nat.{div-mul-le-self}
+use native.Mathlib.Nat.{le-refl, div-mul-le-self}
 use native.Mathlib.Omega.{arith}
 use lib.IntN.{ℤ}
 use lib.ListN.{length, take, length-take}
@@ -11,7 +11,6 @@ use lib.Seq.{sets}
 use Rattle.sets.specs.declared.Pair.{Pair}
 use Rattle.sets.specs.Pairs.{flat}
 use Rattle.book.specs.declared.Shape.{Shape}
-use Rattle.book.proofs.Counts.{exceptions-in}
 use Rattle.text.specs.Reading.{over}
 use Rattle.text.proofs.Lent.{over-sets}
 use Rattle.masks.specs.declared.Bounds.{Bounds}
@@ -57,17 +56,21 @@ module _ (b : Book) (from : Point) (o o′ : List ℕ) (r k : ℕ) (ek : k ≡ l
 module _ (s : Shape) (ws ranks : List ℕ) (root : Bounds) (q : Task) (i : RootIs s ws ranks root) (er : q .rules ≡ ruleCount s) (es : q .statements ≡ s .statements) where
   serves : (rows : List ℤ) → Loaded s rows ws ranks → Serves (bookOf s rows) ws ranks root q
   unfolding bookOf
-  serves rows l = record { rooted = rw er (i .rooted rows l); statements = es; few = rw (exceptions-count s rows) (exceptions-in s (l .limits)) }
+  serves rows l = record { rooted = rw er (i .rooted rows l); statements = es }
+
+  few : (rows : List ℤ) → length (bookOf s rows .exceptions) ≤ s .exceptions
+  unfolding bookOf
+  few rows = rw (exceptions-count s rows) (le-refl (s .exceptions))
 
   module _ (o o′ : List ℕ) (r : ℕ) (em : q .room ≡ length o / 3) where
-    pub first-is : FirstPage ws ranks root q o o′ r → PageIs s ws ranks start o o′ r
+    pub first-is : FirstPage ws ranks root q (s .exceptions) o o′ r → PageIs s ws ranks start o o′ r
     first-is f = record {
-      count = λ rows l p. let d = f .page (bookOf s rows) (serves rows l) in page-count (bookOf s rows) start o o′ r (q .room) em (d .0) (d .1) p (d .2);
-      filled = λ rows l p. let d = f .page (bookOf s rows) (serves rows l) in page-filled (bookOf s rows) start o o′ r (q .room) em (d .0) (d .1) p (d .2);
+      count = λ rows l p. let d = f .page (bookOf s rows) (serves rows l) (few rows) in page-count (bookOf s rows) start o o′ r (q .room) em (d .0) (d .1) p (d .2);
+      filled = λ rows l p. let d = f .page (bookOf s rows) (serves rows l) (few rows) in page-filled (bookOf s rows) start o o′ r (q .room) em (d .0) (d .1) p (d .2);
     }
 
-    pub after-is : PageAfter ws ranks root q o o′ r → PageIs s ws ranks (at (q .point)) o o′ r
+    pub after-is : PageAfter ws ranks root q (s .exceptions) o o′ r → PageIs s ws ranks (at (q .point)) o o′ r
     after-is f = record {
-      count = λ rows l p. let d = f .page (bookOf s rows) (serves rows l) p in page-count (bookOf s rows) (at (q .point)) o o′ r (q .room) em (d .0) (d .1) p (d .2);
-      filled = λ rows l p. let d = f .page (bookOf s rows) (serves rows l) p in page-filled (bookOf s rows) (at (q .point)) o o′ r (q .room) em (d .0) (d .1) p (d .2);
+      count = λ rows l p. let d = f .page (bookOf s rows) (serves rows l) (few rows) p in page-count (bookOf s rows) (at (q .point)) o o′ r (q .room) em (d .0) (d .1) p (d .2);
+      filled = λ rows l p. let d = f .page (bookOf s rows) (serves rows l) (few rows) p in page-filled (bookOf s rows) (at (q .point)) o o′ r (q .room) em (d .0) (d .1) p (d .2);
     }

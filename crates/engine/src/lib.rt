@@ -1,6 +1,5 @@
 // A prepared book: the verdict on a pair, and the pages of its resolutions.
-ghost use Prim.Native.Nat.{_+_, _<_};
-ghost use Rattle.book.specs.Kinds.{setCount};
+ghost use Prim.Native.Nat.{_+_, _^_, _<_};
 ghost use Rattle.book.specs.Counts.{InLimits};
 ghost use Rattle.meaning.specs.Order.{start, at as atPair};
 ghost use Rattle.queue.specs.Chains.{Chains};
@@ -61,12 +60,12 @@ pub fn first_in(words: &Words, ranks: &Ranks, s: Shape, out: &mut [u64]) -> usiz
             denied: 0,
         },
     };
-    walk::first_page(words, ranks, &index, root, task, out)
+    walk::first_page(words, ranks, &index, root, s.exceptions, task, out)
 }
 
 // The first resolutions later than a pair that is lawful in the prepared book.
 pub fn after_in(words: &Words, ranks: &Ranks, s: Shape, p: Pair, out: &mut [u64]) -> usize
-    requires { ⌜ InLimits s × (p .taken < setCount) ⌝ }
+    requires { ⌜ InLimits s × (p .taken < 2 ^ s .exceptions) ⌝ }
     ensures { λ r. ⌜ PageIs s (now (words .entry)) (now (ranks .entry)) (atPair p) (now (out .entry)) (now (out .exit)) r ⌝ }
 {
     let rules = s.plain + s.exceptions;
@@ -79,5 +78,5 @@ pub fn after_in(words: &Words, ranks: &Ranks, s: Shape, p: Pair, out: &mut [u64]
         room: out.len() / 3,
         point: p,
     };
-    walk::page_after(words, ranks, &index, root, task, out)
+    walk::page_after(words, ranks, &index, root, s.exceptions, task, out)
 }

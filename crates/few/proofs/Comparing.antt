@@ -11,11 +11,10 @@ use lib.Dec.{eqb, ltb}
 use borrow.Author.Tests.{ltb-true, ltb-false}
 use Rattle.logic.proofs.Decide.{clash}
 use Rattle.sets.specs.declared.Pair.{Pair}
-use Rattle.sets.specs.Sets.{bitOf, member, Apart}
+use Rattle.sets.specs.Sets.{bitOf, member, Apart, Lowest}
 use Rattle.sets.proofs.Digits.{by-digits, bit-lt, bit-or, bit-xor, ext}
 use Rattle.sets.proofs.Words.{member-suc, apart-separate}
 use Rattle.sets.proofs.Pairs.{pair}
-use Rattle.bounds.specs.Singles.{Lowest}
 use Rattle.meaning.specs.Order.{value, differs}
 use Rattle.meaning.proofs.Ordered.{held-digit, denied-digit}
 use Rattle.few.specs.Few.{Sooner}

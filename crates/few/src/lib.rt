@@ -156,7 +156,7 @@ pub fn collect(
 pub fn sooner(a: Pair, b: Pair) -> bool
     ensures { λ r. ⌜ Sooner a b r ⌝ }
 {
-    let i = waiting::low((a.held ^ b.held) | (a.denied ^ b.denied));
+    let i = sets::low((a.held ^ b.held) | (a.denied ^ b.denied));
     if 64 <= i {
         return false;
     }

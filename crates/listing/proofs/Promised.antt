@@ -1,22 +1,19 @@
 -- What `opening`, `go_on` and `begin` promise, from what their parts left.
-use Prim.Native.Nat.{ℕ, suc, _+_, _-_, _*_, _/_, _<_, _≤_}
+use Prim.Native.Nat.{ℕ, suc, _+_, _-_, _*_, _/_, _^_, _<_, _≤_}
 use mathlib.Core.Path.{_≡_, refl, sym, ap, _∙_}
 use mathlib.Core.Bool.{true, false}
 use mathlib.Core.List.{List, _++_}
 use mathlib.Core.Logic.{⊎-elim}
-use native.Mathlib.Nat.{lt-of-lt-of-le}
 use native.Mathlib.Omega.{arith}
 use lib.IntN.{ℤ}
 use lib.ListN.{length, take}
-use lib.Pow.{pow-mono}
 use lib.Seq.{sets}
 use Rattle.logic.proofs.Decide.{clash}
 use Rattle.sets.specs.declared.Pair.{Pair}
 use Rattle.sets.proofs.Digits.{lt-or-le}
-use Rattle.book.proofs.Counts.{exceptions-in}
 use Rattle.book.specs.declared.Shape.{Shape}
 use Rattle.book.specs.Limits as limit
-use Rattle.book.specs.Kinds.{setCount, longest, most, bytes, kinds}
+use Rattle.book.specs.Kinds.{longest, most, bytes, kinds}
 use Rattle.text.specs.declared.Refusal.{Refusal}
 use Rattle.text.specs.Fields.{written, writtenAll, columns, inColumns}
 use Rattle.text.specs.ALines.{lineFields}
@@ -130,10 +127,8 @@ module _ (s : Shape) (ws ranks : List ℕ) (from : Point) (m : ℕ) (o o′ : Li
     pub lists : Lists s ws ranks from m out r
     lists = ⊎-elim cut (λ a. ⊎-elim (ended a) (λ c. filled a (omega arith)) (lt-or-le k partLines)) (lt-or-le m k)
 
-pub few-taken : (s : Shape) (ws ranks : List ℕ) (p : Pair) → Ready s ws ranks p → p .taken < setCount
-few-taken s ws ranks p d =
-    let h : length (bookOf s (d .rows) .exceptions) ≤ limit.exceptions = rw (exceptions-count s (d .rows)) (exceptions-in s (d .loaded .limits)) in
-    lt-of-lt-of-le (d .lawful .exceptions) (pow-mono h)
+pub few-taken : (s : Shape) (ws ranks : List ℕ) (p : Pair) → Ready s ws ranks p → p .taken < 2 ^ s .exceptions
+few-taken s ws ranks p d = rw (exceptions-count s (d .rows)) at (d .lawful .exceptions)
 
 -- ---- from the text
 module _ (bs : List ℕ) (q : Refusal) (r : readText bs ≡ refused (q .number) (q .line)) where

@@ -69,7 +69,15 @@ pub struct Part {
 }
 
 // The first k pairs of a page in lines, done lines having been printed before, and a closing line: no part follows.
-pub fn close_part(out: &mut [u8], w: usize, n: usize, pairs: &[u64], k: usize, letter: u8, done: usize) -> Part
+pub fn close_part(
+    out: &mut [u8],
+    w: usize,
+    n: usize,
+    pairs: &[u64],
+    k: usize,
+    letter: u8,
+    done: usize,
+) -> Part
     requires { ⌜ (w ≤ limit.exceptions) × (n ≤ limit.statements) × (k ≤ partLines) × (k * 3 ≤ length (now pairs)) × (length (now out) ≡ partBytes) × (done + k ≤ mostLines) ⌝ }
     ensures { λ r. ⌜ Closes w n (now (pairs .entry)) k letter done (now (out .exit)) r ⌝ }
 {

@@ -1,12 +1,18 @@
 -- Pieces stored into a list one after the other: before each, what is left to put, from here, gives the final list.
-use mathlib.Core.Path.{_≡_, refl, ap, _∙_}
+use mathlib.Core.Path.{_≡_, refl, sym, ap, _∙_}
 use mathlib.Core.List.{List, [], _∷_, _++_}
 use Prim.Native.Nat.{ℕ, zero, suc, _+_, _-_, _*_, _<_, _≤_}
 use native.Mathlib.Nat.{add-zero, suc-mul, zero-mul}
 use native.Mathlib.Numerals.{add-one}
 use native.Mathlib.Omega.{arith}
-use lib.ListN.{length, set, length-append}
-use lib.Seq.{sets, length-sets}
+use lib.ListN.{length, take, drop, set, length-append}
+use lib.Seq.{sets, length-sets, take-nil}
+
+-- What is left after d of the first d + m are the first m of what is left after d.
+pub drop-take : {A : Type 0} (d m : ℕ) (l : List A) → drop d (take (d + m) l) ≡ take m (drop d l)
+drop-take zero m l = let e : 0 + m ≡ m = omega arith in rw e refl
+drop-take (suc d) m [] = let e : suc d + m ≡ suc (d + m) = omega arith in rw e (sym (take-nil m))
+drop-take (suc d) m (x ∷ l) = let e : suc d + m ≡ suc (d + m) = omega arith in rw e (drop-take d m l)
 
 -- Two lists joined are stored as the first, and then the second from where the first ends.
 pub sets-append : {A : Type 0} (a b l : List A) (i : ℕ) → sets l i (a ++ b) ≡ sets (sets l i a) (i + length a) b

@@ -1,17 +1,12 @@
 -- What the operations answer: the text's refusal, the pair's, or what the prepared book gives. A page of one pair is the next answer.
 use mathlib.Core.Path.{_≡_, refl, sym, ap, _∙_}
 use mathlib.Core.List.{List}
-use Prim.Native.Nat.{ℕ, zero, suc, _/_, _<_, _≤_}
-use native.Mathlib.Nat.{lt-of-lt-of-le}
+use Prim.Native.Nat.{ℕ, zero, suc, _/_, _^_, _<_}
 use lib.IntN.{ℤ}
 use lib.ListN.{length, getD}
-use lib.Pow.{pow-mono}
 use Rattle.sets.specs.declared.Pair.{Pair}
 use Rattle.sets.specs.Pairs.{flat}
 use Rattle.book.specs.declared.Shape.{Shape}
-use Rattle.book.proofs.Counts.{exceptions-in}
-use Rattle.book.specs.Limits as limit
-use Rattle.book.specs.Kinds.{setCount}
 use Rattle.text.specs.declared.Refusal.{Refusal}
 use Rattle.text.specs.Reading.{readText, over}
 use Rattle.text.specs.Reading.Outcome.{accepted, refused as unread}
@@ -98,8 +93,8 @@ module _ (bs : List ℕ) (s : Shape) (ws ranks : List ℕ) (d : (rows : List ℤ
     pub lawful-was : k ≡ 0 → Lawful (bookOf s (d .0)) p
     lawful-was e = none-lawful (bookOf s (d .0)) p (sym same ∙ e)
 
-    pub few-taken : k ≡ 0 → p .taken < setCount
-    few-taken e = let h : length (bookOf s (d .0) .exceptions) ≤ limit.exceptions = rw (exceptions-count s (d .0)) (exceptions-in s (d .2 .limits)) in lt-of-lt-of-le (lawful-was e .exceptions) (pow-mono h)
+    pub few-taken : k ≡ 0 → p .taken < 2 ^ s .exceptions
+    few-taken e = rw (exceptions-count s (d .0)) at (lawful-was e .exceptions)
 
     pub after-refused : (k ≡ 0 → ⊥) → answerOf (Refused (record { number = k; line = 0 })) ≡ afterAnswer bs p
     unfolding answerOf afterAnswer onText

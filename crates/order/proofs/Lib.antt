@@ -1,2 +1,5 @@
+pub mod Following
 pub mod Places
 pub mod Rule
+pub mod Shares
+pub mod Turns

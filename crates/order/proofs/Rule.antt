@@ -1,86 +1,218 @@
--- The sets of exceptions stand in the order of document 01: `order-rule`. One test is computed over the whole list, which is the table of src/lib.rt:
--- it has an entry for each set, each entry is a set, and the keys rise. A law says what that is at each place, and between any two places.
-use mathlib.Core.Path.{_≡_, refl}
-use mathlib.Core.Bool.{Bool, true, false}
-use mathlib.Core.List.{List, [], _∷_}
+-- The sets of w exceptions stand in the order of document 01: `order-rule`, for every width. It is proved from the counts, by induction on the
+-- width: the sets of one size rise by number and are all there (`lists`), and together the sizes have as many places as there are sets.
+use mathlib.Core.Path.{_≡_, refl, sym, ap, subst, _∙_}
 use mathlib.Core.Logic.{⊎-elim}
-use Prim.Native.Nat.{ℕ, zero, suc, _+_, _-_, _*_, _<_}
-use native.Mathlib.Nat.{le-of-suc-le-suc}
+use Prim.Native.Nat.{ℕ, zero, suc, _+_, _-_, _*_, _%_, _^_, _<_, _≤_}
 use native.Mathlib.Omega.{arith}
-use lib.Dec.{eqb, ltb}
-use lib.ListN.{length, getD}
-use Rattle.logic.proofs.Decide.{is, decides-both, decides-lt, decides-eq}
-use Rattle.sets.specs.Sets.{sizeTo}
-use Rattle.sets.proofs.Digits.{lt-or-le}
-use Rattle.order.specs.Listed.{ofSize, upToSize}
-use Rattle.book.specs.Limits.{exceptions}
-use Rattle.book.specs.Kinds.{setCount}
-use Rattle.order.specs.Order.{Earlier, fewer, smaller, Ordered, order, setAt}
-use Rattle.sets.proofs.Sizes.{size-narrow}
-use Rattle.order.proofs.Places.{ordered}
+use lib.Pow.{high, low}
+use Rattle.logic.proofs.Decide.{holds, fails, decides-lt, decides-eq, holds-or-not}
+use Rattle.sets.specs.Sets.{sizeTo, size}
+use Rattle.sets.proofs.Digits.{bit-over, bit-mod, lt-or-le}
+use Rattle.sets.proofs.Sizes.{size-above, size-narrow, size-zero, size-mod, size-with, size-most}
+use Rattle.order.specs.Formula.{count, countBelow, ofSize, fromSize, setAt, rank, placeOf, Lists}
+use Rattle.order.specs.Order.{Earlier, fewer, smaller, Ordered}
 
--- The size of a set and its number in one number.
-unfoldable key : ℕ → ℕ
-key v = sizeTo exceptions v * setCount + v
+-- ---- counts
+-- No set of w numbers has more than w of them.
+pub count-none : (w n : ℕ) → w < n → count w n ≡ 0
+unfolding count
+count-none w zero h = absurd (omega arith)
+count-none zero (suc n) h = refl
+count-none (suc w) (suc n) h = let x = count-none w (suc n) (omega arith) in let y = count-none w n (omega arith) in omega arith
 
--- A set with a smaller key is earlier.
-earlier-key : (a b : ℕ) → a < setCount → b < setCount → key a < key b → Earlier a b
-unfolding key
-earlier-key a b ha hb l =
-    let ea = size-narrow exceptions a (omega arith) ha in
-    let eb = size-narrow exceptions b (omega arith) hb in
-    ⊎-elim (λ m. fewer (omega arith)) (λ m. smaller (omega arith) (omega arith)) (lt-or-le (sizeTo exceptions a) (sizeTo exceptions b))
+-- The sets of fewer than n + 1 of w + 1 numbers: those without w + 1, and those with it.
+below-both : (w n : ℕ) → countBelow (suc w) (suc n) ≡ countBelow w (suc n) + countBelow w n
+unfolding count countBelow
+below-both w zero = refl
+below-both w (suc n) = let x = below-both w n in omega arith
 
--- Each entry is a set of exceptions, and its key is at least m and less than the keys after it.
-unfoldable rising : ℕ → List ℕ → Bool
-rising m [] = true
-rising m (x ∷ xs) = elim (ltb x setCount) [ true ↦ elim (ltb m (suc (key x))) [ true ↦ rising (suc (key x)) xs | false ↦ false ] | false ↦ false ]
+-- All sizes together have every set.
+pub below-all : (w : ℕ) → countBelow w (suc w) ≡ 2 ^ w
+unfolding count countBelow
+below-all zero = refl
+below-all (suc w) =
+    let x = below-both w (suc w) in let y = below-all w in let z = count-none w (suc w) (omega arith) in omega arith
 
--- The test of a whole list.
-unfoldable right : List ℕ → Bool
-right xs = elim (eqb (length xs) setCount) [ true ↦ rising 0 xs | false ↦ false ]
+-- Larger sizes come after all smaller ones.
+pub below-mono : (w m n : ℕ) → m < n → countBelow w m + count w m ≤ countBelow w n
+unfolding countBelow
+below-mono w m zero h = absurd (omega arith)
+below-mono w m (suc n) h = ⊎-elim (λ (e : m ≡ n). rw e (omega arith)) (λ n′. let x = below-mono w m n (omega arith) in omega arith) (holds-or-not (decides-eq m n))
 
--- The order passes it, by computing.
-order-right : right order ≡ true
-unfolding right rising key sizeTo ofSize upToSize order
-order-right = refl
+-- ---- the sets of one size
+-- Those without the last number, and those with it.
+pub of-low : (w n k : ℕ) → k < count w (suc n) → ofSize (suc w) (suc n) k ≡ ofSize w (suc n) k
+unfolding ofSize
+of-low w n k h = rw (holds (decides-lt k (count w (suc n))) h, ofSize)
 
--- What the test says of the first entry and of the rest.
-first : (m x : ℕ) (xs : List ℕ) → rising m (x ∷ xs) ≡ true → (x < setCount) × ((m < suc (key x)) × (rising (suc (key x)) xs ≡ true))
-unfolding rising
-first m x xs e = (decides-both _ _ (decides-lt x setCount) (decides-both _ _ (decides-lt m (suc (key x))) (is (rising (suc (key x)) xs)))) .yes e
+pub of-high : (w n k : ℕ) → count w (suc n) ≤ k → ofSize (suc w) (suc n) k ≡ 2 ^ w + ofSize w n (k - count w (suc n))
+unfolding ofSize
+of-high w n k h = rw (fails (decides-lt k (count w (suc n))) (λ l. omega arith), ofSize)
 
--- What it says of the entry at a place.
-entry : (m : ℕ) (xs : List ℕ) → rising m xs ≡ true → (k : ℕ) → k < length xs → (getD xs k 0 < setCount) × (m < suc (key (getD xs k 0)))
-entry m [] e k h = absurd (omega arith)
-entry m (x ∷ xs) e zero h = let p = first m x xs e in (p .0, p .1 .0)
-entry m (x ∷ xs) e (suc k) h =
-    let p = first m x xs e in
-    let q = entry (suc (key x)) xs (p .1 .1) k (le-of-suc-le-suc h) in
-    (q .0, omega arith)
+-- Each is a set of w numbers and has that size.
+pub of-size : (w n k : ℕ) → k < count w n → (ofSize w n k < 2 ^ w) × (sizeTo w (ofSize w n k) ≡ n)
+unfolding count ofSize
+of-size zero zero k h = (omega arith, size-zero 0)
+of-size zero (suc n) k h = absurd (omega arith)
+of-size (suc w) zero k h = let x = of-size w zero k h in (omega (arith, x .0), size-above (suc w) w _ (omega arith) (x .0) ∙ x .1)
+of-size (suc w) (suc n) k h =
+    ⊎-elim
+    (λ l. let x = of-size w (suc n) k l in rw (of-low w n k l) (omega (arith, x .0), size-above (suc w) w _ (omega arith) (x .0) ∙ x .1))
+    (λ l. let m : k - count w (suc n) < count w n = omega arith in let x = of-size w n (k - count w (suc n)) m in rw (of-high w n k l) (omega (arith, x .0), size-with w _ (x .0) ∙ ap suc (x .1)))
+    (lt-or-le k (count w (suc n)))
 
--- What it says of two places.
-keys-rise : (m : ℕ) (xs : List ℕ) → rising m xs ≡ true → (j k : ℕ) → j < k → k < length xs → key (getD xs j 0) < key (getD xs k 0)
-keys-rise m [] e j k l h = absurd (omega arith)
-keys-rise m (x ∷ xs) e j zero l h = absurd (omega arith)
-keys-rise m (x ∷ xs) e zero (suc k) l h = le-of-suc-le-suc (entry (suc (key x)) xs (first m x xs e .1 .1) k (le-of-suc-le-suc h) .1)
-keys-rise m (x ∷ xs) e (suc j) (suc k) l h = keys-rise (suc (key x)) xs (first m x xs e .1 .1) j k (le-of-suc-le-suc l) (le-of-suc-le-suc h)
+-- They rise.
+of-rises : (w n j k : ℕ) → j < k → k < count w n → ofSize w n j < ofSize w n k
+unfolding count
+of-rises w zero j k l h = absurd (omega arith)
+of-rises zero (suc n) j k l h = absurd (omega arith)
+of-rises (suc w) (suc n) j k l h =
+    ⊎-elim (λ b. let x = of-rises w (suc n) j k l b in rw (of-low w n j (omega arith), of-low w n k b) x)
+    (λ b. ⊎-elim
+    (λ a. let x = of-size w (suc n) j a .0 in rw (of-low w n j a, of-high w n k b) (omega arith))
+    (λ a. let d : j - count w (suc n) < k - count w (suc n) = omega arith in let m : k - count w (suc n) < count w n = omega arith in let x = of-rises w n (j - count w (suc n)) (k - count w (suc n)) d m in rw (of-high w n j a, of-high w n k b) (omega arith))
+    (lt-or-le j (count w (suc n))))
+    (lt-or-le k (count w (suc n)))
 
--- A list that passes the test meets the rule.
-right-ordered : (xs : List ℕ) → right xs ≡ true → Ordered (λ k. getD xs k 0)
-unfolding right
-right-ordered xs e =
-    let p = (decides-both _ _ (decides-eq (length xs) setCount) (is (rising 0 xs))) .yes e in
-    let at : (k : ℕ) → k < setCount → getD xs k 0 < setCount = λ k h. entry 0 xs (p .1) k (rw (p .0) h) .0 in
-    ordered (λ k. getD xs k 0)
-    (λ j k l h. earlier-key (getD xs j 0) (getD xs k 0) (at j (omega arith)) (at k h) (keys-rise 0 xs (p .1) j k l (rw (p .0) h))) at
+-- ---- all sizes
+-- Where a place stands: its size, and its place among the sets of that size.
+pub record Standing (w place v : ℕ) : Type 0 where
+  pub of : ℕ
+  pub rest : ℕ
+  pub place-is : countBelow w of + rest ≡ place
+  pub there : rest < count w of
+  pub set-is : v ≡ ofSize w of rest
 
--- The order of the sets of exceptions meets the rule of document 01.
-pub order-rule : Ordered setAt
-unfolding setAt
-order-rule = right-ordered order order-right
+from-standing : (w d n k top : ℕ) → n + d ≡ top → countBelow w n + k < countBelow w top → Standing w (countBelow w n + k) (fromSize w d n k)
+unfolding fromSize countBelow
+from-standing w zero n k top e h = let f : top ≡ n = omega arith in absurd (omega (arith, rw f at h))
+from-standing w (suc d) n k top e h =
+    ⊎-elim (λ l. rw (holds (decides-lt k (count w n)) l, fromSize) (record { of = n; rest = k; place-is = refl; there = l; set-is = refl }))
+    (λ l. let f : countBelow w (suc n) + (k - count w n) ≡ countBelow w n + k = omega arith in
+    rw (fails (decides-lt k (count w n)) (λ m. omega arith), fromSize) (rw f at (from-standing w d (suc n) (k - count w n) top (omega arith) (rw f h))))
+    (lt-or-le k (count w n))
 
--- The entries that document 01 names: it begins 0, 1, 2, 4; entry 13 is 3, entry 14 is 5, the last is the set of all.
-pub named : (setAt 0 ≡ 0) × (setAt 1 ≡ 1) × (setAt 2 ≡ 2) × (setAt 3 ≡ 4) × (setAt 13 ≡ 3) × (setAt 14 ≡ 5) × (setAt (setCount - 1) ≡ setCount - 1)
-unfolding setAt ofSize upToSize order
+pub standing : (w k : ℕ) → k < 2 ^ w → Standing w k (setAt w k)
+unfolding setAt countBelow
+standing w k h =
+    let e : 0 + k ≡ k = omega arith in
+    rw e at (from-standing w (suc w) 0 k (suc w) (omega arith) (let x = below-all w in omega arith))
+
+module _ (w : ℕ) (small : w ≤ 64) where
+  stands-below : (k v : ℕ) → Standing w k v → v < 2 ^ w
+  stands-below k v s = rw (s .set-is) (of-size w (s .of) (s .rest) (s .there) .0)
+
+  stands-size : (k v : ℕ) (s : Standing w k v) → size v ≡ s .of
+  stands-size k v s = sym (size-narrow w v small (stands-below k v s)) ∙ ap (sizeTo w) (s .set-is) ∙ of-size w (s .of) (s .rest) (s .there) .1
+
+  -- Two places of one size.
+  same-size : (m n r s : ℕ) → n ≡ m → countBelow w m + r < countBelow w n + s → s < count w n → ofSize w m r < ofSize w n s
+  same-size m n r s e l h = rw e (of-rises w m r s (omega (arith, rw e at l)) (rw e at h))
+
+  -- A later place has a later set.
+  rises : (j k u v : ℕ) → j < k → Standing w j u → Standing w k v → Earlier u v
+  rises j k u v l a b =
+      let ea = stands-size j u a in
+      let eb = stands-size k v b in
+      ⊎-elim (λ m. fewer (omega arith))
+      (λ m. let below : b .of < a .of → ⊥ = λ n. let x = below-mono w (b .of) (a .of) n in omega (arith, a .place-is, b .place-is, b .there) in
+      let e : b .of ≡ a .of = omega arith in
+      smaller (omega arith) (rw (a .set-is, b .set-is) (same-size (a .of) (b .of) (a .rest) (b .rest) e (omega (arith, a .place-is, b .place-is)) (b .there))))
+      (lt-or-le (a .of) (b .of))
+
+-- ---- the place of a set
+-- It hangs on the first w numbers alone.
+rank-mod : (w v m : ℕ) → w ≤ m → rank w (v % 2 ^ m) ≡ rank w v
+unfolding rank
+rank-mod zero v m h = refl
+rank-mod (suc w) v m h = rw (rank-mod w v m (omega arith), bit-mod v m w (omega arith), size-mod m v (suc w) h)
+
+rank-low : (w v : ℕ) → v < 2 ^ w → rank (suc w) v ≡ rank w v
+unfolding rank
+rank-low w v h = rw (bit-over v w w h (omega arith)) (omega arith)
+
+rank-high : (w v : ℕ) → v < 2 ^ w → rank (suc w) (2 ^ w + v) ≡ count w (suc (sizeTo w v)) + rank w v
+unfolding rank
+rank-high w v h =
+    let e : 1 * 2 ^ w + v ≡ 2 ^ w + v = omega arith in
+    let x = rw e at (high 1 w h) in
+    let y = rw (rw e at (low 1 w h)) at (rank-mod w (2 ^ w + v) w (omega arith)) in
+    rw (x, ← y, size-with w v h) (omega arith)
+
+of-same : (w n k : ℕ) → k < count w n → (k < count (suc w) n) × (ofSize (suc w) n k ≡ ofSize w n k)
+unfolding count ofSize
+of-same w zero k h = (h, refl)
+of-same w (suc n) k h = (omega arith, of-low w n k h)
+
+of-more : (w n k : ℕ) → k < count w n → (count w (suc n) + k < count (suc w) (suc n)) × (ofSize (suc w) (suc n) (count w (suc n) + k) ≡ 2 ^ w + ofSize w n k)
+unfolding count
+of-more w n k h = let e : count w (suc n) + k - count w (suc n) ≡ k = omega arith in (omega arith, rw e at (of-high w n (count w (suc n) + k) (omega arith)))
+
+-- The set v is at place k of those of n of the first w numbers.
+abbrev Ranked : ℕ → ℕ → ℕ → ℕ → Type 0
+Ranked w v n k = (k < count w n) × (ofSize w n k ≡ v)
+
+rank-none : (v : ℕ) → v < 2 ^ 0 → Ranked 0 v (sizeTo 0 v) (rank 0 v)
+unfolding rank count sizeTo ofSize
+rank-none v h = (omega arith, omega arith)
+
+-- The size of a set and its place among the sets of that size give the set back.
+pub rank-there : (w v : ℕ) → v < 2 ^ w → Ranked w v (sizeTo w v) (rank w v)
+rank-there zero v h = rank-none v h
+rank-there (suc w) v h =
+    ⊎-elim
+    (λ (l : v < 2 ^ w). let x = rank-there w v l in let y = of-same w (sizeTo w v) (rank w v) (x .0) in
+    rw (size-above (suc w) w v (omega arith) l, rank-low w v l) (y .0, y .1 ∙ x .1))
+    (λ (l : 2 ^ w ≤ v). let e : v ≡ 2 ^ w + (v - 2 ^ w) = omega arith in
+    let b : v - 2 ^ w < 2 ^ w = omega arith in
+    let x = rank-there w (v - 2 ^ w) b in let y = of-more w (sizeTo w (v - 2 ^ w)) (rank w (v - 2 ^ w)) (x .0) in
+    subst (λ (u : ℕ). Ranked (suc w) u (sizeTo (suc w) u) (rank (suc w) u)) (sym e)
+    (rw (size-with w (v - 2 ^ w) b, rank-high w (v - 2 ^ w) b) (y .0, y .1 ∙ ap (λ (u : ℕ). 2 ^ w + u) (x .1))))
+    (lt-or-le v (2 ^ w))
+
+-- A place has one standing.
+pub standing-there : (w n r k : ℕ) → n ≤ w → r < count w n → k ≡ countBelow w n + r → (k < 2 ^ w) × (setAt w k ≡ ofSize w n r)
+standing-there w n r k h l e =
+    let x = below-mono w n (suc w) (omega arith) in
+    let y = below-all w in
+    let b : k < 2 ^ w = omega arith in
+    let s = standing w k b in
+    let p = s .place-is in
+    let q = s .there in
+    let below : s .of < n → ⊥ = λ m. let z = below-mono w (s .of) n m in omega arith in
+    let above : n < s .of → ⊥ = λ m. let z = below-mono w n (s .of) m in omega arith in
+    let f : s .of ≡ n = omega (arith, below, above) in
+    let g : s .rest ≡ r = omega (arith, rw f at p) in
+    (b, s .set-is ∙ rw (f, g))
+
+pub place-there : (w v : ℕ) → v < 2 ^ w → (placeOf w v < 2 ^ w) × (setAt w (placeOf w v) ≡ v)
+unfolding placeOf
+place-there w v h =
+    let x = rank-there w v h in
+    let y = standing-there w (sizeTo w v) (rank w v) (placeOf w v) (size-most w v) (x .0) refl in
+    (y .0, y .1 ∙ x .1)
+
+-- The counts are those of sets: of n of w numbers there are `count w n` sets, and `ofSize w n` lists them.
+pub lists : (w n : ℕ) → w ≤ 64 → Lists w n (count w n) (ofSize w n)
+lists w n h = record {
+  sets = λ k l. let x = of-size w n k l in (x .0, sym (size-narrow w (ofSize w n k) h (x .0)) ∙ x .1);
+  present = λ v l e. let f : sizeTo w v ≡ n = size-narrow w v h l ∙ e in let x = rank-there w v l in (rank w v, rw f at (x .0), rw f at (x .1));
+  rises = of-rises w n;
+}
+
+-- The order of the sets of exceptions meets the rule of document 01, for any number of exceptions.
+pub order-rule : (w : ℕ) → w ≤ 64 → Ordered w (setAt w)
+order-rule w h = record {
+  below = λ k l. stands-below w h k (setAt w k) (standing w k l);
+  present = λ v l. let x = place-there w v l in (placeOf w v, x .0, x .1);
+  rises = λ j k l m. rises w h j k (setAt w j) (setAt w k) l (standing w j (omega arith)) (standing w k m);
+}
+
+-- The entries that document 01 names, for twelve exceptions and for sixteen.
+pub named : (setAt 12 0 ≡ 0) × (setAt 12 1 ≡ 1) × (setAt 12 2 ≡ 2) × (setAt 12 3 ≡ 4) × (setAt 12 13 ≡ 3) × (setAt 12 14 ≡ 5) × (setAt 12 4095 ≡ 4095)
+unfolding setAt fromSize ofSize count
 named = (refl, refl, refl, refl, refl, refl, refl)
+
+pub named-sixteen : (setAt 16 0 ≡ 0) × (setAt 16 1 ≡ 1) × (setAt 16 2 ≡ 2) × (setAt 16 3 ≡ 4) × (setAt 16 17 ≡ 3) × (setAt 16 18 ≡ 5) × (setAt 16 65535 ≡ 65535)
+unfolding setAt fromSize ofSize count
+named-sixteen = (refl, refl, refl, refl, refl, refl, refl)

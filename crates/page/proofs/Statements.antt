@@ -8,13 +8,12 @@ use native.Mathlib.Omega.{arith}
 use Rattle.sets.specs.declared.Pair.{Pair}
 use Rattle.sets.specs.Sets.{member, Apart, without}
 use Rattle.sets.specs.Pairs.{Sub, Off, joinOf, minusOf}
-use Rattle.sets.proofs.Digits.{bit-lt, bit-without}
+use Rattle.sets.proofs.Digits.{shifted, bit-lt, bit-without}
 use Rattle.sets.proofs.Words.{none-sub}
 use Rattle.sets.proofs.Pairs.{join-sub, sub-minus}
 use Rattle.masks.specs.declared.Bounds.{Bounds}
 use Rattle.bounds.specs.Singles.{oneOf}
 use Rattle.bounds.specs.Sound.{Keeps, intoOf, outOf}
-use Rattle.bounds.proofs.Singles.{shifted}
 use Rattle.bounds.proofs.Steps.{keeps-less}
 use Rattle.meaning.specs.Order.{valueOf, value}
 use Rattle.page.specs.Orders.{bare, about, said, given}

@@ -11,6 +11,7 @@ use lib.IntN as Z
 use lib.Signed.{ltZ}
 use Rattle.logic.proofs.Decide.{clash}
 use Rattle.book.specs.Kinds.{entriesEach, ruleFields}
+use Rattle.sets.proofs.Digits.{shifted}
 use Rattle.sets.specs.declared.Pair.{Pair}
 use Rattle.sets.specs.Pairs.{joinOf}
 use Rattle.meaning.specs.Literals.{Literal}
@@ -18,7 +19,7 @@ use Rattle.meaning.specs.Meant.{entry, headOf, at, entriesAt, ruleAt}
 use Rattle.masks.specs.declared.Masks.{Masks}
 use Rattle.bridge.specs.Packed.{nothing, maskOf, maskAll, maskHead, masksOf}
 use Rattle.prepare.specs.Packing.{Readable}
-use Rattle.prepare.proofs.Numbers.{back, Small, back-same, back-small, no-neg, shifted}
+use Rattle.prepare.proofs.Numbers.{back, Small, back-same, back-small, no-neg}
 
 -- ---- one number
 -- The pair that has the set w on one side: denied for a negative number, else held.

@@ -2,12 +2,10 @@
 -- By cases on the sign; a number of at most the limit fits an i32.
 use mathlib.Core.Path.{_≡_, refl, sym, ap, _∙_}
 use mathlib.Core.Bool.{true, false}
-use Prim.Native.Nat.{ℕ, _*_, _%_, _^_, _<_, _≤_}
-use native.Mathlib.Nat.{one-mul}
+use Prim.Native.Nat.{ℕ, _≤_}
 use native.Mathlib.Omega.{arith}
-use lib.Dec.{ltb, lit<}
+use lib.Dec.{ltb}
 use lib.IntN.{ℤ, pos, negsuc, natAbs, _-ℤ_}
-use lib.Pow.{shl-exact}
 use lib.Signed.{ltZ}
 use mir.Syntax.{w32}
 use mir.Val.{toZ, ofZ, SFits}
@@ -59,7 +57,3 @@ module _ (x : ℤ) (h : Small x) where
 
   pub kept-is : ltZ (back x) (pos 0) ≡ false → back x ≡ pos (natAbs x)
   kept-is e = back-same x h ∙ kept x (rw (back-same x h) at e)
-
--- A one that is shifted within a word.
-pub shifted : (k : ℕ) → k < 64 → 1 * 2 ^ k % 2 ^ 64 ≡ 2 ^ k
-shifted k h = shl-exact 1 k 64 (lit< tt) (omega arith) ∙ one-mul _

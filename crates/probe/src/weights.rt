@@ -19,7 +19,7 @@ pub fn add(t: &mut Weights, from: u64, m: u64, w: u64)
     let mut rest = m;
     let mut j: u64 = 0;
     while j < 64 {
-        let i = waiting::low(rest);
+        let i = sets::low(rest);
         if 64 <= i {
             return;
         }
@@ -138,7 +138,7 @@ pub fn heavier(t: &Weights, from: u64, m: u64, s: Best) -> Best
     let mut rest = m;
     let mut j: u64 = 0;
     while j < 64 {
-        let i = waiting::low(rest);
+        let i = sets::low(rest);
         if 64 <= i {
             return o;
         }
@@ -167,7 +167,7 @@ pub fn add_rules(t: &mut Weights, words: &[u64], n: usize, from: u64, m: u64, fr
     let mut rest = m;
     let mut j: u64 = 0;
     while j < 64 {
-        let i = waiting::low(rest);
+        let i = sets::low(rest);
         if 64 <= i {
             return;
         }

@@ -38,9 +38,9 @@ pub fn place(x: Pair) -> u64
     ensures { λ i. ⌜ i ≤ 64 ⌝ }
 {
     if x.held != 0 {
-        return waiting::low(x.held);
+        return sets::low(x.held);
     }
-    waiting::low(x.denied)
+    sets::low(x.denied)
 }
 
 // Puts rule k before the rules with its head; whether that is one conclusion or none.

@@ -39,7 +39,7 @@ pub fn rows(index: &Index, from: u64, m: u64, t: Waiting) -> Waiting
     let mut o = t;
     let mut k: u64 = 0;
     while k < 64 {
-        let i = waiting::low(rest);
+        let i = sets::low(rest);
         if 64 <= i {
             return o;
         }
@@ -86,7 +86,7 @@ pub fn put(index: &mut Index, from: u64, m: u64, k: u64)
     let mut rest = m;
     let mut j: u64 = 0;
     while j < 64 {
-        let i = waiting::low(rest);
+        let i = sets::low(rest);
         if 64 <= i {
             return;
         }

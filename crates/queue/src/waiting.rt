@@ -1,6 +1,5 @@
 // Sets of rules that wait for a step. Which rules wait, no contract depends on: every step is sound.
 ghost use Prim.Native.Nat.{_≤_};
-ghost use Rattle.bounds.specs.Singles.{Lowest};
 use sets::Pair;
 
 // A bit for each of 256 rules.
@@ -67,13 +66,6 @@ pub fn all() -> Work {
     }
 }
 
-// The place of the lowest member of a word, 64 if it has none.
-pub fn low(x: u64) -> u64
-    ensures { λ r. ⌜ (r ≤ 64) × Lowest x r ⌝ }
-{
-    u64::trailing_zeros(x) as u64
-}
-
 // The word without its member at place i.
 pub fn cleared(x: u64, i: u64) -> u64 {
     if i < 64 {
@@ -84,7 +76,7 @@ pub fn cleared(x: u64, i: u64) -> u64 {
 
 // The word without its lowest member.
 pub fn fewer(x: u64) -> u64 {
-    cleared(x, low(x))
+    cleared(x, sets::low(x))
 }
 
 // The first rule that waits, 256 if none does.
@@ -92,16 +84,16 @@ pub fn next(t: Waiting) -> u64
     ensures { λ r. ⌜ r ≤ 256 ⌝ }
 {
     if t.a != 0 {
-        return low(t.a);
+        return sets::low(t.a);
     }
     if t.b != 0 {
-        return 64 + low(t.b);
+        return 64 + sets::low(t.b);
     }
     if t.c != 0 {
-        return 128 + low(t.c);
+        return 128 + sets::low(t.c);
     }
     if t.d != 0 {
-        return 192 + low(t.d);
+        return 192 + sets::low(t.d);
     }
     256
 }

@@ -9,9 +9,10 @@ use native.Mathlib.Omega.{arith}
 use lib.IntN.{ℤ, pos}
 use lib.Signed.{leZ}
 use lib.ListN.{getD, drop, take, length, length-drop}
-use lib.Seq.{sets, drop-cons, drop-at, length-take-le, sets-eq, getD-take, take-append-le, take-nil}
+use lib.Seq.{sets, drop-cons, drop-at, length-take-le, sets-eq, getD-take, take-append-le}
 use borrow.Author.Tests.{eq-eqb, ne-eqb, lt-ltb, le-ltb, le-leb, lt-leb}
 use Rattle.logic.specs.Tests.{either, pick, consIf, some}
+use Rattle.logic.proofs.Stores.{drop-take}
 use Rattle.book.specs.declared.Kind.{Kind}
 use Rattle.book.specs.declared.Content.{Content}
 use Rattle.book.specs.declared.Content.the-variants.{Edition, Statements, Literal, Exception, Total}
@@ -136,22 +137,12 @@ field-take : (m : ℕ) (bs : List ℕ) → 4 ≤ m → firstField (take m bs) �
 unfolding firstField
 field-take m bs h = rw (getD-take m bs 0 0 (omega arith), getD-take m bs 1 0 (omega arith), getD-take m bs 2 0 (omega arith), getD-take m bs 3 0 (omega arith))
 
-drop-take : (m : ℕ) (bs : List ℕ) → drop 4 (take (4 + m) bs) ≡ take m (drop 4 bs)
-drop-take m bs = let e : 4 + m ≡ suc (suc (suc (suc m))) = omega arith in rw e (go bs)
-  where
-    go : (cs : List ℕ) → drop 4 (take (suc (suc (suc (suc m)))) cs) ≡ take m (drop 4 cs)
-    go [] = sym (take-nil m)
-    go (a ∷ []) = sym (take-nil m)
-    go (a ∷ b ∷ []) = sym (take-nil m)
-    go (a ∷ b ∷ c ∷ []) = sym (take-nil m)
-    go (a ∷ b ∷ c ∷ d ∷ cs) = refl
-
 fields-take : (fs : List Content) (n : ℕ) (bs : List ℕ) → readFields fs n (take (length fs * 4) bs) ≡ readFields fs n bs
 unfolding readFields
 fields-take [] n bs = refl
 fields-take (f ∷ fs) n bs =
     let e : suc (length fs) * 4 ≡ 4 + length fs * 4 = omega arith in
-    rw (e, field-take (4 + length fs * 4) bs (omega arith), drop-take (length fs * 4) bs, fields-take fs n (drop 4 bs))
+    rw (e, field-take (4 + length fs * 4) bs (omega arith), drop-take 4 (length fs * 4) bs, fields-take fs n (drop 4 bs))
 
 -- the first numbers of those that were stored
 stored-take : (l vs : List ℤ) (to m : ℕ) → to + length vs ≤ length l → m ≤ length vs → take m (drop to (sets l to vs)) ≡ take m vs

@@ -3,18 +3,22 @@ use mathlib.Core.Path.{_≡_, refl, sym, ap, subst, _∙_}
 use mathlib.Core.Bool.{Bool, true, false}
 use mathlib.Core.Logic.{_⊎_, inl, inr, ⊎-elim}
 use Prim.Native.Nat.{ℕ, zero, suc, _+_, _-_, _*_, _/_, _%_, _^_, _<_, _≤_, min, max}
-use native.Mathlib.Nat.{mod-lt, mod-eq-of-lt, div-eq-of-lt, lt-of-lt-of-le, mul-mod-left, div-self, le-refl, eq-or-lt-of-le, pow-suc}
+use native.Mathlib.Nat.{mod-lt, mod-eq-of-lt, div-eq-of-lt, lt-of-lt-of-le, mul-mod-left, div-self, le-refl, eq-or-lt-of-le, pow-suc, one-mul}
 use native.Mathlib.Numerals.{add-one}
 use native.Mathlib.Omega.{arith}
 use lib.Bits.{bitAnd, bitOr, bitXor, differ, and-shr, or-shr, xor-shr, and-mod, or-mod, xor-mod}
 use lib.Count.{ones, ones-cat}
 use lib.Dec.{eqb, ltb, lit<}
-use lib.Pow.{split, shr-lt, field, mod-mod-pow, pow-pos, pow-add, pow-lt, pow-mono, shl-shr}
+use lib.Pow.{split, shr-lt, field, mod-mod-pow, pow-pos, pow-add, pow-lt, pow-mono, shl-shr, shl-exact}
 use borrow.Author.Tests.{eq-eqb, ne-eqb, ltb-true, ltb-false}
 use Rattle.sets.specs.Sets.{bitOf, sizeTo, without}
 
 two : zero < 2
 two = lit< tt
+
+-- A one that is shifted within a word.
+pub shifted : (k : ℕ) → k < 64 → 1 * 2 ^ k % 2 ^ 64 ≡ 2 ^ k
+shifted k h = shl-exact 1 k 64 (lit< tt) (omega arith) ∙ one-mul _
 
 -- A number is below 2 to the power of itself.
 pub lt-pow : (n : ℕ) → n < 2 ^ n

@@ -1,5 +1,5 @@
 -- Sets of numbers. A set is a number, and i is worth 2 ^ (i - 1) in it (document 01, 'The order of pairs'). Numbers begin at 1.
-use Prim.Native.Nat.{ℕ, zero, suc, _+_, _-_, _/_, _%_, _^_, _≤_}
+use Prim.Native.Nat.{ℕ, zero, suc, _+_, _-_, _/_, _%_, _^_, _<_, _≤_}
 use mathlib.Core.Bool.{Bool, true}
 use mathlib.Core.Path.{_≡_}
 use lib.Bits.{bitAnd, bitXor}
@@ -45,3 +45,8 @@ Apart a b = (k : ℕ) → bitOf a k + bitOf b k ≤ 1
 -- What a has and b has not, by word operations.
 abbrev pub without : ℕ → ℕ → ℕ
 without a b = bitXor a (bitAnd a b)
+
+-- Place k is that of the lowest one of the word x, 64 if it has none.
+pub record Lowest (x k : ℕ) : Type 0 where
+  pub below : (j : ℕ) → j < k → bitOf x j ≡ 0
+  pub member : k < 64 → bitOf x k ≡ 1

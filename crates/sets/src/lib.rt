@@ -6,7 +6,7 @@ ghost use mathlib.Core.Bool.{false, not};
 ghost use Prim.Native.Nat.{ℕ, _<_, _≤_};
 ghost use lib.Dec.{eqb};
 ghost use Rattle.logic.specs.Tests.{Decides, both, either};
-ghost use Rattle.sets.specs.Sets.{member as memberOf, Contained, Separate, size as sizeOf};
+ghost use Rattle.sets.specs.Sets.{member as memberOf, Contained, Separate, size as sizeOf, Lowest};
 ghost use Rattle.sets.specs.Pairs.{joinOf, meetOf, minusOf, Sub, Off};
 
 // The set with no number.
@@ -68,6 +68,13 @@ pub fn size(a: u64) -> u32
     ensures { λ r. ⌜ r ≡ sizeOf a ⌝ }
 {
     u64::count_ones(a)
+}
+
+// The place of the lowest one of a word, 64 if it has none.
+pub fn low(x: u64) -> u64
+    ensures { λ r. ⌜ (r ≤ 64) × Lowest x r ⌝ }
+{
+    u64::trailing_zeros(x) as u64
 }
 
 // A pair (S, T) as document 01 has it: exceptions taken, statements held, statements denied. Programs in C have the same struct.

@@ -1,9 +1,9 @@
 -- The parts of a listing by the place of their set of exceptions: the part of the first j places and that of the next join, since the order of
 -- the sets is the order of pairs; all places together have every resolution.
-use mathlib.Core.Path.{_≡_}
+use mathlib.Core.Path.{_≡_, sym}
 use mathlib.Core.List.{List, [], _++_}
 use mathlib.Core.Logic.{_⊎_, inl, inr, ⊎-elim}
-use Prim.Native.Nat.{ℕ, zero, suc, _<_, _≤_}
+use Prim.Native.Nat.{ℕ, zero, suc, _+_, _^_, _<_, _≤_}
 use native.Mathlib.Omega.{arith}
 use native.Mathlib.Nat.{lt-of-lt-of-le, le-refl}
 use lib.ListN.{length}
@@ -15,14 +15,18 @@ use Rattle.sets.proofs.Digits.{lt-or-le}
 use Rattle.sets.proofs.Words.{sub-le}
 use Rattle.book.specs.Limits.{exceptions}
 use Rattle.book.specs.Kinds.{setCount}
-use Rattle.order.specs.Order.{setAt, Earlier, fewer, smaller}
+use Rattle.masks.specs.declared.Bounds.{Bounds}
+use Rattle.order.specs.Order.{Earlier, fewer, smaller, Ordered}
+use Rattle.order.specs.Formula.{setAt, Follows}
 use Rattle.order.proofs.Places.{place-earlier}
 use Rattle.order.proofs.Rule.{order-rule}
 use Rattle.meaning.specs.Books.{Book}
 use Rattle.meaning.specs.Order as order
 use Rattle.meaning.specs.Order.{Before, Point, LawfulPoint, AllLater}
 use Rattle.meaning.proofs.Parts.{Part, part-none, part-join, part-all, part-there}
-use Rattle.walk.specs.Walks.{Passed}
+use Rattle.walk.specs.declared.Placed.{Placed}
+use Rattle.walk.specs.Plans.{Barred}
+use Rattle.walk.specs.Walks.{Passed, Standing, Skipped}
 use Rattle.walk.proofs.Steps.{subset-earlier}
 
 -- A pair with an earlier set comes before.
@@ -30,63 +34,91 @@ earlier-before : (p q : Pair) → Earlier (p .taken) (q .taken) → Before p q
 earlier-before p q (fewer l) = order.fewer l
 earlier-before p q (smaller e l) = order.smaller e l
 
--- A set at an earlier place.
-pub at-or-past : (j k : ℕ) → j ≤ k → k < setCount → (p q : Pair) → Passed j p → setAt k ≡ q .taken → Before p q
-at-or-past zero k l h p q s e = absurd s
-at-or-past (suc j) k l h p q (inl s) e = at-or-past j k (omega arith) h p q s e
-at-or-past (suc j) k l h p q (inr d) e = earlier-before p q (rw (d, e) at (order-rule .rises j k (omega arith) h))
+module _ (x : ℕ) (small : x ≤ exceptions) where
+  rule : Ordered x (setAt x)
+  rule = order-rule x (omega arith)
 
-passed-at : (i j : ℕ) (p : Pair) → i < j → setAt i ≡ p .taken → Passed j p
-passed-at i zero p l e = absurd (omega arith)
-passed-at i (suc j) p l e = ⊎-elim (λ x. inl (passed-at i j p x e)) (λ x. inr (rw x at e)) (last i j l)
-  where
-    last : (i j : ℕ) → i < suc j → (i < j) ⊎ (i ≡ j)
-    last i j l = ⊎-elim (λ e. inr e) (λ n. inl (omega arith)) (holds-or-not (decides-eq i j))
+  -- ---- the set at a place
+  module _ (p : Placed) (s : Standing x p) (h : p .place < 2 ^ x) where
+    pub set-inside : p .set < 2 ^ x
+    set-inside = rw (s .is h) (rule .below (p .place) h)
 
--- All places have every pair whose exceptions the limits allow.
-pub passed-all : (p : Pair) → p .taken < setCount → Passed setCount p
-passed-all p h = let k = order-rule .present (p .taken) h in passed-at (k .0) setCount p (k .1) (k .2)
+    pub set-marked : p .set < setCount
+    set-marked = lt-of-lt-of-le set-inside (pow-mono small)
 
-passed-or-not : (j : ℕ) (p : Pair) → Passed j p ⊎ (Passed j p → ⊥)
-passed-or-not zero p = inr (λ s. s)
-passed-or-not (suc j) p =
-    ⊎-elim (λ s. inl (inl s)) (λ n. ⊎-elim (λ e. inl (inr e)) (λ m. inr (λ s. ⊎-elim n m s)) (holds-or-not (decides-eq (setAt j) (p .taken)))) (passed-or-not j p)
+    pub standing-next : (u : ℕ) → Follows x (p .set) u → Standing x (record { place = p .place + 1; set = u })
+    standing-next u f = record { to = omega arith; is = λ l. sym (f .next (p .place) l (sym (s .is h))) }
 
--- A set whose place has not been passed comes after one whose place has.
-rest-after : (j : ℕ) (p q : Pair) → Passed j p → (Passed j q → ⊥) × (q .taken < setCount) → Before p q
-rest-after j p q s n =
-    let k = order-rule .present (q .taken) (n .1) in
-    ⊎-elim (λ l. absurd (n .0 (passed-at (k .0) j q l (k .2)))) (λ l. at-or-past j (k .0) l (k .1) p q s (k .2)) (lt-or-le (k .0) j)
+  module _ (root : Bounds) (marks : List ℕ) (p : Placed) where
+    pub skipped-none : Standing x p → Skipped x root marks p p
+    skipped-none s = record { from = le-refl _; stands = s; barred = λ i a b. absurd (omega arith) }
 
-rest-or-not : (j : ℕ) (q : Pair) → ((Passed j q → ⊥) × (q .taken < setCount)) ⊎ ((Passed j q → ⊥) × (q .taken < setCount) → ⊥)
-rest-or-not j q =
-    ⊎-elim (λ s. inr (λ n. n .0 s)) (λ n. ⊎-elim (λ l. inl (n, l)) (λ m. inr (λ x. m (x .1))) (holds-or-not (decides-lt (q .taken) setCount))) (passed-or-not j q)
+    pub skipped-more : (r : Placed) → Skipped x root marks p r → r .place < 2 ^ x → Barred root marks (r .set) → (u : ℕ) → Follows x (r .set) u
+        → Skipped x root marks p (record { place = r .place + 1; set = u })
+    skipped-more r s h f u n = record {
+      from = omega (arith, s .from);
+      stands = standing-next r (s .stands) h u n;
+      barred = λ i a b. ⊎-elim (λ l. s .barred i a l) (λ l. let e : i ≡ r .place = omega arith in rw (e, ← s .stands .is h) f) (lt-or-le i (r .place));
+    }
 
--- A proper subset of the set at place j stands at an earlier place.
-pub subset-place : (j : ℕ) → j < setCount → (u : ℕ) → Within u (setAt j) → (u ≡ setAt j → ⊥) → (i : ℕ) × (i < j) × (setAt i ≡ u)
-subset-place j h u f n =
-    let k = order-rule .present u (let x = sub-le u (setAt j) f in let y = order-rule .below j h in omega arith) in
-    (k .0, place-earlier order-rule (k .0) j (k .1) (rw (k .2) (subset-earlier u (setAt j) f n)), k .2)
+  -- ---- the places passed
+  -- A set at an earlier place.
+  pub at-or-past : (j k : ℕ) → j ≤ k → k < 2 ^ x → (p q : Pair) → Passed x j p → setAt x k ≡ q .taken → Before p q
+  at-or-past zero k l h p q s e = absurd s
+  at-or-past (suc j) k l h p q (inl s) e = at-or-past j k (omega arith) h p q s e
+  at-or-past (suc j) k l h p q (inr d) e = earlier-before p q (rw (d, e) at (rule .rises j k (omega arith) h))
 
-module _ (b : Book) (from : Point) where
-  -- Before the first place there is nothing.
-  pub none-yet : Part b from (Passed zero) []
-  none-yet = part-none b from (Passed zero) (λ p r l s. s)
+  passed-at : (i j : ℕ) (p : Pair) → i < j → setAt x i ≡ p .taken → Passed x j p
+  passed-at i zero p l e = absurd (omega arith)
+  passed-at i (suc j) p l e = ⊎-elim (λ x. inl (passed-at i j p x e)) (λ x. inr (rw x at e)) (last i j l)
+    where
+      last : (i j : ℕ) → i < suc j → (i < j) ⊎ (i ≡ j)
+      last i j l = ⊎-elim (λ e. inr e) (λ n. inl (omega arith)) (holds-or-not (decides-eq i j))
 
-  -- One place more.
-  pub one-more : (j : ℕ) (xs ys : List Pair) → j < setCount → Part b from (Passed j) xs → Part b from (λ p. setAt j ≡ p .taken) ys → Part b from (Passed (suc j)) (xs ++ ys)
-  one-more j xs ys h s t = part-join b from (Passed j) (λ p. setAt j ≡ p .taken) xs ys s t (at-or-past j j (le-refl j) h)
+  -- All places have every pair whose exceptions the limits allow.
+  pub passed-all : (p : Pair) → p .taken < 2 ^ x → Passed x (2 ^ x) p
+  passed-all p h = let k = rule .present (p .taken) h in passed-at (k .0) (2 ^ x) p (k .1) (k .2)
 
-  -- All places have been passed.
-  pub all-places : (few : length (b .exceptions) ≤ exceptions) (xs : List Pair) → Part b from (Passed setCount) xs → AllLater b from xs
-  all-places few xs s = part-all b from (Passed setCount) xs (λ p r. passed-all p (lt-of-lt-of-le (r .view .lawful .exceptions) (pow-mono few))) s
+  passed-or-not : (j : ℕ) (p : Pair) → Passed x j p ⊎ (Passed x j p → ⊥)
+  passed-or-not zero p = inr (λ s. s)
+  passed-or-not (suc j) p =
+      ⊎-elim (λ s. inl (inl s)) (λ n. ⊎-elim (λ e. inl (inr e)) (λ m. inr (λ s. ⊎-elim n m s)) (holds-or-not (decides-eq (setAt x j) (p .taken)))) (passed-or-not j p)
 
-  -- Where the walk stops early, the resolutions at the places that are left follow those at the places passed.
-  pub cut-short : (few : length (b .exceptions) ≤ exceptions) → LawfulPoint b from → (j : ℕ) (xs : List Pair) → Part b from (Passed j) xs → (ys : List Pair) × AllLater b from (xs ++ ys)
-  cut-short few l j xs s =
-      let t = part-there b from (λ p. (Passed j p → ⊥) × (p .taken < setCount)) (rest-or-not j) l in (
-        t .0,
-        part-all b from (λ p. Passed j p ⊎ ((Passed j p → ⊥) × (p .taken < setCount))) (xs ++ t .0)
-            (λ p r. ⊎-elim (λ x. inl x) (λ n. inr (n, lt-of-lt-of-le (r .view .lawful .exceptions) (pow-mono few))) (passed-or-not j p))
-            (part-join b from (Passed j) (λ p. (Passed j p → ⊥) × (p .taken < setCount)) xs (t .0) s (t .1) (rest-after j)),
-      )
+  -- A set whose place has not been passed comes after one whose place has.
+  rest-after : (j : ℕ) (p q : Pair) → Passed x j p → (Passed x j q → ⊥) × (q .taken < 2 ^ x) → Before p q
+  rest-after j p q s n =
+      let k = rule .present (q .taken) (n .1) in
+      ⊎-elim (λ l. absurd (n .0 (passed-at (k .0) j q l (k .2)))) (λ l. at-or-past j (k .0) l (k .1) p q s (k .2)) (lt-or-le (k .0) j)
+
+  rest-or-not : (j : ℕ) (q : Pair) → ((Passed x j q → ⊥) × (q .taken < 2 ^ x)) ⊎ ((Passed x j q → ⊥) × (q .taken < 2 ^ x) → ⊥)
+  rest-or-not j q =
+      ⊎-elim (λ s. inr (λ n. n .0 s)) (λ n. ⊎-elim (λ l. inl (n, l)) (λ m. inr (λ x. m (x .1))) (holds-or-not (decides-lt (q .taken) (2 ^ x)))) (passed-or-not j q)
+
+  -- A proper subset of the set at place j stands at an earlier place.
+  pub subset-place : (j : ℕ) → j < 2 ^ x → (u : ℕ) → Within u (setAt x j) → (u ≡ setAt x j → ⊥) → (i : ℕ) × (i < j) × (setAt x i ≡ u)
+  subset-place j h u f n =
+      let k = rule .present u (let x = sub-le u (setAt x j) f in let y = rule .below j h in omega arith) in
+      (k .0, place-earlier {w = x} {f = setAt x} rule (k .0) j (k .1) (rw (k .2) (subset-earlier u (setAt x j) f n)), k .2)
+
+  module _ (b : Book) (from : Point) where
+    -- Before the first place there is nothing.
+    pub none-yet : Part b from (Passed x zero) []
+    none-yet = part-none b from (Passed x zero) (λ p r l s. s)
+
+    -- One place more.
+    pub one-more : (j : ℕ) (xs ys : List Pair) → j < 2 ^ x → Part b from (Passed x j) xs → Part b from (λ p. setAt x j ≡ p .taken) ys → Part b from (Passed x (suc j)) (xs ++ ys)
+    one-more j xs ys h s t = part-join b from (Passed x j) (λ p. setAt x j ≡ p .taken) xs ys s t (at-or-past j j (le-refl j) h)
+
+    -- All places have been passed.
+    pub all-places : (few : length (b .exceptions) ≤ x) (xs : List Pair) → Part b from (Passed x (2 ^ x)) xs → AllLater b from xs
+    all-places few xs s = part-all b from (Passed x (2 ^ x)) xs (λ p r. passed-all p (lt-of-lt-of-le (r .view .lawful .exceptions) (pow-mono few))) s
+
+    -- Where the walk stops early, the resolutions at the places that are left follow those at the places passed.
+    pub cut-short : (few : length (b .exceptions) ≤ x) → LawfulPoint b from → (j : ℕ) (xs : List Pair) → Part b from (Passed x j) xs → (ys : List Pair) × AllLater b from (xs ++ ys)
+    cut-short few l j xs s =
+        let t = part-there b from (λ p. (Passed x j p → ⊥) × (p .taken < 2 ^ x)) (rest-or-not j) l in (
+          t .0,
+          part-all b from (λ p. Passed x j p ⊎ ((Passed x j p → ⊥) × (p .taken < 2 ^ x))) (xs ++ t .0)
+              (λ p r. ⊎-elim (λ x. inl x) (λ n. inr (n, lt-of-lt-of-le (r .view .lawful .exceptions) (pow-mono few))) (passed-or-not j p))
+              (part-join b from (Passed x j) (λ p. (Passed x j p → ⊥) × (p .taken < 2 ^ x)) xs (t .0) s (t .1) (rest-after j)),
+        )

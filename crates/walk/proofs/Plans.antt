@@ -33,7 +33,7 @@ use Rattle.walk.specs.Marks.{Struck, shares, between, IsMarked, Marked, 
 use Rattle.walk.specs.declared.ranges.Range.{Range}
 use Rattle.resolution.specs.Rooted.{Rooted}
 use Rattle.resolution.proofs.Resolutions.{resolution-same}
-use Rattle.walk.specs.Plans.{NoView, HasView, Wider, Told, Full, MarksRight, Admits, Bounded}
+use Rattle.walk.specs.Plans.{NoView, HasView, Wider, Told, Full, MarksRight, Admits, Bounded, Barred, marked, beyond, short}
 use Rattle.walk.proofs.Steps.{all-within}
 use Rattle.walk.proofs.Marks.{right-more}
 
@@ -159,15 +159,6 @@ module _ (ws : List ℕ) (n : ℕ) (ranks : List ℕ) (root : Bounds) (t : ℕ) 
 
 -- ---- what admits answers
 module _ (ws : List ℕ) (n : ℕ) (ranks : List ℕ) (root : Bounds) (t : ℕ) (known : Bool) (m : List ℕ) where
-  pub admits-marked : IsMarked m t → Admits ws n ranks root t known m m false
-  admits-marked k = record {
-    marks = marks-same ws n ranks root m;
-    told = λ f. f .told t k;
-    refuses = λ e b r w. w .right t k;
-    accepts = λ e. absurd (clash e);
-    lawful = λ e. absurd (clash e);
-  }
-
   -- No view has the set.
   pub admits-none : (m′ : List ℕ) → NoView ws n ranks root t t → MarksRight ws n ranks root m m′ → Admits ws n ranks root t known m m′ false
   admits-none m′ f k = record {
@@ -178,12 +169,17 @@ module _ (ws : List ℕ) (n : ℕ) (ranks : List ℕ) (root : Bounds) (t : ℕ) 
     lawful = λ e. absurd (clash e);
   }
 
-  -- The set is not within the sets of root.
-  pub admits-beyond : (without t (root .hi .taken) ≡ 0 → ⊥) → Admits ws n ranks root t known m m false
-  admits-beyond x = admits-none m (record { none = λ v k i. x (zero-minus t (root .hi .taken) (λ j. le-trans (set-above root t t v i j) (in-root root t t v i .hi .taken j))) }) (marks-same ws n ranks root m)
-
-  pub admits-short : (without (root .lo .taken) t ≡ 0 → ⊥) → Admits ws n ranks root t known m m false
-  admits-short x = admits-none m (record { none = λ v k i. x (zero-minus (root .lo .taken) t (λ j. le-trans (in-root root t t v i .lo .taken j) (set-below root t t v i j))) }) (marks-same ws n ranks root m)
+  -- A look is enough.
+  pub admits-barred : Barred root m t → Admits ws n ranks root t known m m false
+  admits-barred (marked k) = record {
+    marks = marks-same ws n ranks root m;
+    told = λ f. f .told t k;
+    refuses = λ e b r w. w .right t k;
+    accepts = λ e. absurd (clash e);
+    lawful = λ e. absurd (clash e);
+  }
+  admits-barred (beyond x) = admits-none m (record { none = λ v k i. x (zero-minus t (root .hi .taken) (λ j. le-trans (set-above root t t v i j) (in-root root t t v i .hi .taken j))) }) (marks-same ws n ranks root m)
+  admits-barred (short x) = admits-none m (record { none = λ v k i. x (zero-minus (root .lo .taken) t (λ j. le-trans (in-root root t t v i .lo .taken j) (set-below root t t v i j))) }) (marks-same ws n ranks root m)
 
   -- A view within root has the set.
   module _ (h : HasView ws n ranks root t) (m′ : List ℕ) (p : Surpassed ranks t m m′) where

@@ -3,19 +3,21 @@ use mathlib.Core.Path.{_≡_, refl, sym, _∙_}
 use mathlib.Core.Bool.{Bool, true, false, not}
 use mathlib.Core.List.{List, [], _++_}
 use mathlib.Core.Logic.{_⊎_, inr, ⊎-elim, _↔_}
-use Prim.Native.Nat.{ℕ, suc, _+_, _^_, _<_, _≤_}
-use native.Mathlib.Nat.{le-refl}
+use Prim.Native.Nat.{ℕ, zero, suc, _+_, _-_, _^_, _<_, _≤_}
+use native.Mathlib.Nat.{le-refl, lt-of-lt-of-le}
 use native.Mathlib.Numerals.{add-one}
 use native.Mathlib.Omega.{arith}
 use borrow.Author.Tests.{not-true, not-false}
+use lib.Pow.{pow-mono}
 use lib.ListN.{length, replicate, getD-replicate, List·getD-eq-default, length-replicate}
 use Rattle.logic.specs.Tests.{Decides}
 use Rattle.logic.proofs.Decide.{clash, reworded, holds-or-not, decides-eq}
 use Rattle.logic.proofs.Members.{every-at}
 use Rattle.sets.specs.declared.Pair.{Pair}
 use Rattle.sets.proofs.Digits.{lt-or-le}
+use Rattle.book.specs.Limits.{exceptions}
 use Rattle.book.specs.Kinds.{setCount}
-use Rattle.order.specs.Order.{setAt}
+use Rattle.order.specs.Formula.{setAt}
 use Rattle.order.proofs.Rule.{order-rule}
 use Rattle.masks.specs.declared.Bounds.{Bounds}
 use Rattle.masks.specs.Views.{MaskView}
@@ -37,11 +39,12 @@ use Rattle.meaning.proofs.Ordered.{before-irreflexive, before-transitive}
 use Rattle.meaning.proofs.Parts.{Part, part-none, part-same}
 use Rattle.bridge.proofs.Views.{view-same}
 use Rattle.admissible.specs.Admissible.{Minimal}
+use Rattle.walk.specs.declared.Placed.{Placed}
 use Rattle.walk.specs.Marks.{IsMarked, RightMarks}
-use Rattle.walk.specs.Plans.{Told, MarksRight, Rests, Admits, Bounded}
+use Rattle.walk.specs.Plans.{Told, MarksRight, Rests, Admits, Bounded, Barred}
 use Rattle.resolution.proofs.Resolutions.{resolution-same}
-use Rattle.walk.specs.Walks.{Passed, Serves, SetListed, Beyond, Ready, Walked, FirstPage, PageAfter}
-use Rattle.walk.proofs.Plans.{marks-same, marks-more, told-kept, in-bounds, bounds-in}
+use Rattle.walk.specs.Walks.{Passed, Serves, SetListed, Skipped, Beyond, Ready, Walked, FirstPage, PageAfter}
+use Rattle.walk.proofs.Plans.{marks-same, marks-more, told-kept, admits-barred, in-bounds, bounds-in}
 use Rattle.walk.proofs.Places.{at-or-past, subset-place, none-yet, one-more, all-places, cut-short}
 
 -- Nothing is marked at first.
@@ -109,116 +112,135 @@ module _ (ws ranks : List ℕ) (root : Bounds) (q : Task) (t : ℕ) (after known
           )
 
 -- ---- what the marks tell
-module _ (ws : List ℕ) (n : ℕ) (ranks : List ℕ) (root : Bounds) where
+module _ (ws : List ℕ) (n : ℕ) (ranks : List ℕ) (root : Bounds) (wide : ℕ) (small : wide ≤ exceptions) where
   -- Nothing is told at first.
-  pub ready-none : (k : ℕ) → setCount ≤ k → Ready ws n ranks root 0 (replicate k 0)
+  pub ready-none : (k : ℕ) → setCount ≤ k → Ready ws n ranks root wide 0 (replicate k 0)
   ready-none k h = record {
     full = record { long = rw (length-replicate {A = ℕ} k 0) h; told = λ u x. absurd (unmarked k u x) };
     told = λ i l. absurd (omega arith);
   }
 
   -- One place more.
-  ready-next : (j : ℕ) (m m′ : List ℕ) → Ready ws n ranks root j m → MarksRight ws n ranks root m m′ → Told ws n ranks root m′ (setAt j) → Ready ws n ranks root (j + 1) m′
+  ready-next : (j : ℕ) (m m′ : List ℕ) → Ready ws n ranks root wide j m → MarksRight ws n ranks root m m′ → Told ws n ranks root m′ (setAt wide j) → Ready ws n ranks root wide (j + 1) m′
   ready-next j m m′ r k f = record {
     full = k .full (r .full);
-    told = λ i l. ⊎-elim (λ a. told-kept ws n ranks root m m′ (k .kept) (setAt i) (r .told i a)) (λ a. let e : i ≡ j = omega arith in rw e f) (lt-or-le i j);
+    told = λ i l. ⊎-elim (λ a. told-kept ws n ranks root m m′ (k .kept) (setAt wide i) (r .told i a)) (λ a. let e : i ≡ j = omega arith in rw e f) (lt-or-le i j);
   }
 
   -- Where every place before j has been walked, the set at place j is minimal if it is not marked: a view with a proper subset, which stands
   -- before, would have it marked.
-  ready-minimal : (j : ℕ) (m : List ℕ) → j < setCount → Ready ws n ranks root j m → (IsMarked m (setAt j) → ⊥) → Minimal ws n ranks root (setAt j)
+  ready-minimal : (j : ℕ) (m : List ℕ) → j < 2 ^ wide → Ready ws n ranks root wide j m → (IsMarked m (setAt wide j) → ⊥) → Minimal ws n ranks root (setAt wide j)
   ready-minimal j m h r f = record {
     has = λ v x i w.
-        ⊎-elim (λ (e : v .taken ≡ setAt j). λ (c : ℕ). rw e (le-refl _))
-        (λ d. let k = subset-place j h (v .taken) w d in absurd (f (r .told (k .0) (k .1) .above v x i (sym (k .2)) (setAt j) (order-rule .below j h) (rw (k .2) w) (λ e. d (sym (e ∙ k .2))))))
-        (holds-or-not (decides-eq (v .taken) (setAt j)));
+        ⊎-elim (λ (e : v .taken ≡ setAt wide j). λ (c : ℕ). rw e (le-refl _))
+        (λ d. let k = subset-place wide small j h (v .taken) w d in absurd (f (r .told (k .0) (k .1) .above v x i (sym (k .2)) (setAt wide j) (lt-of-lt-of-le (order-rule wide (omega arith) .below j h) (pow-mono small)) (rw (k .2) w) (λ e. d (sym (e ∙ k .2))))))
+        (holds-or-not (decides-eq (v .taken) (setAt wide j)));
   }
 
 -- ---- all sets
 -- The loop of the walk at place j: marks are right and tell of the places before j, and the page has all that stands at those places.
-pub record Going (ws ranks : List ℕ) (root : Bounds) (q : Task) (first : ℕ) (known : Bool) (at : ℕ) (m o : List ℕ) (j k : ℕ) (n p : List ℕ) : Type 0 where
+pub record Going (ws ranks : List ℕ) (root : Bounds) (q : Task) (wide first : ℕ) (known : Bool) (at : ℕ) (m o : List ℕ) (j k : ℕ) (n p : List ℕ) : Type 0 where
   pub from : first ≤ j
-  pub to : j ≤ setCount
+  pub to : j ≤ 2 ^ wide
   pub fits : Fits ws ranks p q k
   pub marks : MarksRight ws (q .rules) ranks root m n
-  pub ready : Ready ws (q .rules) ranks root first m → Ready ws (q .rules) ranks root j n
-  pub page : (b : Book) (from : Point) → Serves b ws ranks root q → RightMarks b m → (known ≡ true → Ready ws (q .rules) ranks root first m) → LawfulPoint b from → Beyond from first
-      → (start : List ℕ) (xs : List Pair) → Part b from (Passed first) xs → Page (q .room) 0 start o xs at
-      → (ys : List Pair) × Part b from (Passed j) ys × Page (q .room) 0 start p ys k
+  pub ready : Ready ws (q .rules) ranks root wide first m → Ready ws (q .rules) ranks root wide j n
+  pub page : (b : Book) (from : Point) → Serves b ws ranks root q → length (b .exceptions) ≤ wide → RightMarks b m → (known ≡ true → Ready ws (q .rules) ranks root wide first m) → LawfulPoint b from → Beyond wide from first
+      → (start : List ℕ) (xs : List Pair) → Part b from (Passed wide first) xs → Page (q .room) 0 start o xs at
+      → (ys : List Pair) × Part b from (Passed wide j) ys × Page (q .room) 0 start p ys k
 
 pub fits-again : (ws ranks o o′ : List ℕ) (q : Task) (at r : ℕ) → Fits ws ranks o q at → length o′ ≡ length o → r ≤ q .room → Fits ws ranks o′ q r
 fits-again ws ranks o o′ q at r f e h = record { suits = f .suits; place = h; long = rw e (f .long) }
 
-module _ (ws ranks : List ℕ) (root : Bounds) (q : Task) (first : ℕ) (known : Bool) (at : ℕ) (m o : List ℕ) where
-  pub going-first : Fits ws ranks o q at → first ≤ setCount → Going ws ranks root q first known at m o first at m o
+module _ (ws ranks : List ℕ) (root : Bounds) (q : Task) (wide : ℕ) (small : wide ≤ exceptions) (first : ℕ) (known : Bool) (at : ℕ) (m o : List ℕ) where
+  pub going-first : Fits ws ranks o q at → first ≤ 2 ^ wide → Going ws ranks root q wide first known at m o first at m o
   going-first f h = record {
     from = le-refl first;
     to = h;
     fits = f;
     marks = marks-same ws (q .rules) ranks root m;
     ready = λ r. r;
-    page = λ b from s w e l y start xs p g. (xs, p, g);
+    page = λ b from s few w e l y start xs p g. (xs, p, g);
   }
 
-  module _ (j k : ℕ) (n p : List ℕ) (g : Going ws ranks root q first known at m o j k n p) where
-    pub going-next : j < setCount → (t : ℕ) → t ≡ setAt j → (n′ p′ : List ℕ) (r : ℕ) → SetListed ws ranks root q t false known k n n′ p p′ r → length p′ ≡ length p
-        → Going ws ranks root q first known at m o (j + 1) r n′ p′
+  module _ (j k : ℕ) (n p : List ℕ) (g : Going ws ranks root q wide first known at m o j k n p) where
+    pub going-next : j < 2 ^ wide → (t : ℕ) → t ≡ setAt wide j → (n′ p′ : List ℕ) (r : ℕ) → SetListed ws ranks root q t false known k n n′ p p′ r → length p′ ≡ length p
+        → Going ws ranks root q wide first known at m o (j + 1) r n′ p′
     going-next h t et n′ p′ r s e = record {
       from = omega (arith, g .from);
       to = omega arith;
       fits = fits-again ws ranks p p′ q k r (g .fits) e (s .most);
       marks = marks-more ws (q .rules) ranks root m n n′ (g .marks) (s .marks);
-      ready = λ x. let y = g .ready x in ready-next ws (q .rules) ranks root j n n′ y (s .marks) (rw et at (s .told (y .full)));
-      page = λ b from x w f l y start xs u v.
-          let c = g .page b from x w f l y start xs u v in
-          let d = s .part b from x (g .marks .stay b (x .rooted) w) (λ a i. rw et (ready-minimal ws (q .rules) ranks root j n h (g .ready (f a)) (rw et at i))) (record { within = λ f. absurd (clash f); before = λ f i z. y .later j (g .from) h i (sym et ∙ sym z) }) in (
+      ready = λ x. let y = g .ready x in ready-next ws (q .rules) ranks root wide small j n n′ y (s .marks) (rw et at (s .told (y .full)));
+      page = λ b from x few w f l y start xs u v.
+          let c = g .page b from x few w f l y start xs u v in
+          let d = s .part b from x (g .marks .stay b (x .rooted) w) (λ a i. rw et (ready-minimal ws (q .rules) ranks root wide small j n h (g .ready (f a)) (rw et at i))) (record { within = λ f. absurd (clash f); before = λ f i z. y .later j (g .from) h i (sym et ∙ sym z) }) in (
             c .0 ++ d .0,
-            rw (add-one j) (one-more b from j (c .0) (d .0) h (c .1) (part-same b from (λ i. i .taken ≡ t) (λ i. setAt j ≡ i .taken) (d .0) (λ i a z. sym et ∙ sym z) (λ i a z. sym z ∙ sym et) (d .2))),
+            rw (add-one j) (one-more wide small b from j (c .0) (d .0) h (c .1) (part-same b from (λ i. i .taken ≡ t) (λ i. setAt wide j ≡ i .taken) (d .0) (λ i a z. sym et ∙ sym z) (λ i a z. sym z ∙ sym et) (d .2))),
             page-append (q .room) 0 k r start p p′ (c .0) (d .0) (c .2) (d .1),
           );
     }
 
+    -- A set of which a look tells that no resolution has it.
+    going-past : j < 2 ^ wide → Barred root n (setAt wide j) → Going ws ranks root q wide first known at m o (j + 1) k n p
+    going-past h f =
+        going-next h (setAt wide j) refl n p k (set-refused ws ranks root q (setAt wide j) false known k n n false (admits-barred ws (q .rules) ranks root (setAt wide j) known n f) p refl (g .fits .place)) refl
+
     -- All places have been passed.
-    pub walked-all : setCount ≤ j → Walked ws ranks root q first known at m o p k
+    pub walked-all : 2 ^ wide ≤ j → Walked ws ranks root q wide first known at m o p k
     walked-all h = record {
-      whole = λ b from x w f l y start xs u v.
-          let c = g .page b from x w f l y start xs u v in
-          let e : j ≡ setCount = omega (arith, g .to) in
-          (c .0, all-places b from (x .few) (c .0) (rw e at (c .1)), c .2);
+      whole = λ b from x few w f l y start xs u v.
+          let c = g .page b from x few w f l y start xs u v in
+          let e : j ≡ 2 ^ wide = omega (arith, g .to) in
+          (c .0, all-places wide small b from few (c .0) (rw e at (c .1)), c .2);
     }
 
     -- The page is full.
-    pub walked-full : q .room ≤ k → Walked ws ranks root q first known at m o p k
+    pub walked-full : q .room ≤ k → Walked ws ranks root q wide first known at m o p k
     walked-full h = record {
-      whole = λ b from x w f l y start xs u v.
-          let c = g .page b from x w f l y start xs u v in
-          let d = cut-short b from (x .few) l j (c .0) (c .1) in
+      whole = λ b from x few w f l y start xs u v.
+          let c = g .page b from x few w f l y start xs u v in
+          let d = cut-short wide small b from few l j (c .0) (c .1) in
           (c .0 ++ d .0, d .1, page-append (q .room) 0 k k start p p (c .0) (d .0) (c .2) (page-full (q .room) k p (d .0) h));
     }
+
+  -- Places at which a look is enough.
+  going-over : (d j k : ℕ) (n p : List ℕ) → j + d ≤ 2 ^ wide → Going ws ranks root q wide first known at m o j k n p → ((i : ℕ) → j ≤ i → i < j + d → Barred root n (setAt wide i))
+      → Going ws ranks root q wide first known at m o (j + d) k n p
+  going-over zero j k n p h g f = let e : j + 0 ≡ j = omega arith in rw e g
+  going-over (suc d) j k n p h g f =
+      let e : j + suc d ≡ j + 1 + d = omega arith in
+      rw e (going-over d (j + 1) k n p (omega arith) (going-past j k n p g (omega arith) (f j (omega arith) (omega arith))) (λ i a b. f i (omega arith) (omega arith)))
+
+  pub going-on : (j k : ℕ) (n p : List ℕ) → Going ws ranks root q wide first known at m o j k n p → (s r : Placed) → s .place ≡ j → Skipped wide root n s r
+      → Going ws ranks root q wide first known at m o (r .place) k n p
+  going-on j k n p g s r e x =
+      let f : j + (r .place - j) ≡ r .place = omega (arith, x .from) in
+      rw f at (going-over (r .place - j) j k n p (omega (arith, x .stands .to, f)) g (λ i a b. x .barred i (omega arith) (omega (arith, f))))
 
 -- ---- whole pages
 pub none-marked : (b : Book) (k : ℕ) → RightMarks b (replicate k 0)
 none-marked b k = record { right = λ t x. absurd (unmarked k t x) }
 
-module _ (ws ranks : List ℕ) (root : Bounds) (q : Task) (k : ℕ) (o : List ℕ) where
-  pub first-walked : setCount ≤ k → (o′ : List ℕ) (r : ℕ) → Walked ws ranks root q 0 true 0 (replicate k 0) o o′ r → FirstPage ws ranks root q o o′ r
+module _ (ws ranks : List ℕ) (root : Bounds) (q : Task) (wide : ℕ) (small : wide ≤ exceptions) (k : ℕ) (o : List ℕ) where
+  pub first-walked : setCount ≤ k → (o′ : List ℕ) (r : ℕ) → Walked ws ranks root q wide 0 true 0 (replicate k 0) o o′ r → FirstPage ws ranks root q wide o o′ r
   first-walked h o′ r w = record {
-    page = λ b s. w .whole b meaning.start s (none-marked b k) (λ e. ready-none ws (q .rules) ranks root k h) tt (record { later = λ i d l p e. tt }) o [] (none-yet b meaning.start) (page-none (q .room) 0 o);
+    page = λ b s few. w .whole b meaning.start s few (none-marked b k) (λ e. ready-none ws (q .rules) ranks root wide small k h) tt (record { later = λ i d l p e. tt }) o [] (none-yet wide small b meaning.start) (page-none (q .room) 0 o);
   }
 
-  module _ (j : ℕ) (h : j < setCount) (e : setAt j ≡ q .point .taken) where
+  module _ (j : ℕ) (h : j < 2 ^ wide) (e : setAt wide j ≡ q .point .taken) where
     -- Nothing that stands before the point's place is later than the point.
-    not-later : (b : Book) → Part b (meaning.at (q .point)) (Passed j) []
-    not-later b = part-none b (meaning.at (q .point)) (Passed j) (λ p r l s. before-irreflexive p (before-transitive p (q .point) p (at-or-past j j (le-refl j) h p (q .point) s e) l))
+    not-later : (b : Book) → Part b (meaning.at (q .point)) (Passed wide j) []
+    not-later b = part-none b (meaning.at (q .point)) (Passed wide j) (λ p r l s. before-irreflexive p (before-transitive p (q .point) p (at-or-past wide small j j (le-refl j) h p (q .point) s e) l))
 
     pub after-walked : (m : List ℕ) (o′ o″ : List ℕ) (r r′ : ℕ) → SetListed ws ranks root q (q .point .taken) true false 0 (replicate k 0) m o o′ r
-        → Walked ws ranks root q (j + 1) false r m o′ o″ r′ → PageAfter ws ranks root q o o″ r′
+        → Walked ws ranks root q wide (j + 1) false r m o′ o″ r′ → PageAfter ws ranks root q wide o o″ r′
     after-walked m o′ o″ r r′ s w = record { page = page }
       where
-        page : (b : Book) → Serves b ws ranks root q → Lawful b (q .point) → (zs : List Pair) × AllLater b (meaning.at (q .point)) zs × Page (q .room) 0 o o″ zs r′
-        page b x l =
+        page : (b : Book) → Serves b ws ranks root q → length (b .exceptions) ≤ wide → Lawful b (q .point) → (zs : List Pair) × AllLater b (meaning.at (q .point)) zs × Page (q .room) 0 o o″ zs r′
+        page b x few l =
             let from : Point = meaning.at (q .point) in
             let d = s .part b from x (none-marked b k) (λ f. absurd (clash f)) (record { within = λ f. (refl, l, refl); before = λ f. absurd (clash (sym f)) }) in
-            let y = one-more b from j [] (d .0) h (not-later b) (part-same b from (λ i. i .taken ≡ q .point .taken) (λ i. setAt j ≡ i .taken) (d .0) (λ i a z. e ∙ sym z) (λ i a z. sym z ∙ e) (d .2)) in
-            w .whole b from x (s .marks .stay b (x .rooted) (none-marked b k)) (λ f. absurd (clash f)) l
-            (record { later = λ i n z p f. at-or-past (suc j) i (omega arith) z (q .point) p (inr e) f }) o (d .0) (rw (add-one j) y) (d .1)
+            let y = one-more wide small b from j [] (d .0) h (not-later b) (part-same b from (λ i. i .taken ≡ q .point .taken) (λ i. setAt wide j ≡ i .taken) (d .0) (λ i a z. e ∙ sym z) (λ i a z. sym z ∙ e) (d .2)) in
+            w .whole b from x few (s .marks .stay b (x .rooted) (none-marked b k)) (λ f. absurd (clash f)) l
+            (record { later = λ i n z p f. at-or-past wide small (suc j) i (omega arith) z (q .point) p (inr e) f }) o (d .0) (rw (add-one j) y) (d .1)

@@ -5,7 +5,7 @@ use mathlib.Core.Bool.{Bool, true, false}
 use mathlib.Core.List.{List}
 use lib.ListN.{length}
 use Rattle.sets.specs.declared.Pair.{Pair}
-use Rattle.sets.specs.Sets.{Within}
+use Rattle.sets.specs.Sets.{Within, without}
 use Rattle.book.specs.Kinds.{setCount}
 use Rattle.masks.specs.declared.Bounds.{Bounds}
 use Rattle.masks.specs.Views.{MaskView}
@@ -58,3 +58,9 @@ pub record Admits (ws : List ℕ) (n : ℕ) (ranks : List ℕ) (root : Bounds) (
 -- If a resolution can have the set t, every view within root that has it is within the bounds o.
 pub record Bounded (ws : List ℕ) (n : ℕ) (ranks : List ℕ) (root : Bounds) (t : ℕ) (r : Bool) (o : Bounds) : Type 0 where
   pub propagated : r ≡ true → Propagated ws n ranks (withSets root t t) o
+
+-- A look is enough to see that no resolution has the set t: it is marked, or it is not between the sets of root.
+pub data Barred (root : Bounds) (marks : List ℕ) (t : ℕ) : Type 0 where
+  marked : IsMarked marks t → Barred root marks t
+  beyond : (without t (root .hi .taken) ≡ 0 → ⊥) → Barred root marks t
+  short : (without (root .lo .taken) t ≡ 0 → ⊥) → Barred root marks t

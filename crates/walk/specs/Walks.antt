@@ -1,14 +1,12 @@
 -- The walk over the sets of exceptions: what has been passed, and the page that it leaves.
-use Prim.Native.Nat.{ℕ, zero, suc, _<_, _≤_}
+use Prim.Native.Nat.{ℕ, zero, suc, _^_, _<_, _≤_}
 use mathlib.Core.Path.{_≡_}
 use mathlib.Core.Bool.{Bool, true}
 use mathlib.Core.List.{List}
 use mathlib.Core.Logic.{_⊎_}
 use lib.ListN.{length}
 use Rattle.sets.specs.declared.Pair.{Pair}
-use Rattle.book.specs.Limits.{exceptions}
-use Rattle.book.specs.Kinds.{setCount}
-use Rattle.order.specs.Order.{setAt}
+use Rattle.order.specs.Formula.{setAt}
 use Rattle.masks.specs.declared.Bounds.{Bounds}
 use Rattle.page.specs.declared.Task.{Task}
 use Rattle.page.specs.Orders.{Begins}
@@ -16,20 +14,20 @@ use Rattle.page.specs.Pages.{Page}
 use Rattle.meaning.specs.Books.{Book, Lawful}
 use Rattle.meaning.specs.Order.{Point, start, at, LawfulPoint, Later, AllLater}
 use Rattle.meaning.proofs.Parts.{Part}
+use Rattle.walk.specs.declared.Placed.{Placed}
 use Rattle.walk.specs.Marks.{RightMarks}
 use Rattle.resolution.specs.Rooted.{Rooted}
-use Rattle.walk.specs.Plans.{Told, Full, MarksRight, Rests}
+use Rattle.walk.specs.Plans.{Told, Full, MarksRight, Rests, Barred}
 
--- The pair's set of exceptions stands at one of the first j places of the order.
-abbrev pub Passed : ℕ → Pair → Type 0
-Passed zero p = ⊥
-Passed (suc j) p = Passed j p ⊎ (setAt j ≡ p .taken)
+-- The pair's set of exceptions stands at one of the first j places of the order of the sets of x exceptions.
+abbrev pub Passed : ℕ → ℕ → Pair → Type 0
+Passed x zero p = ⊥
+Passed x (suc j) p = Passed x j p ⊎ (setAt x j ≡ p .taken)
 
 -- The task is one of the book: its words, its views within root, its statements.
 pub record Serves (b : Book) (ws ranks : List ℕ) (root : Bounds) (q : Task) : Type 0 where
   pub rooted : Rooted b ws (q .rules) ranks root
   pub statements : q .statements ≡ b .statements
-  pub few : length (b .exceptions) ≤ exceptions
 
 -- One set of exceptions: the page of the resolutions that have it and are later than the point.
 pub record SetListed (ws ranks : List ℕ) (root : Bounds) (q : Task) (t : ℕ) (after known : Bool) (k : ℕ) (m m′ o o′ : List ℕ) (r : ℕ) : Type 0 where
@@ -39,24 +37,36 @@ pub record SetListed (ws ranks : List ℕ) (root : Bounds) (q : Task) (t : ℕ) 
   pub part : (b : Book) (from : Point) → Serves b ws ranks root q → RightMarks b m → Rests ws (q .rules) ranks root t known m → Begins b from t after (q .point)
       → (ys : List Pair) × Page (q .room) k o o′ ys r × Part b from (λ p. p .taken ≡ t) ys
 
+-- The set stands at the place of the order of the sets of x exceptions, unless that is its end.
+pub record Standing (x : ℕ) (p : Placed) : Type 0 where
+  pub to : p .place ≤ 2 ^ x
+  pub is : p .place < 2 ^ x → p .set ≡ setAt x (p .place)
+
+-- From place p to place r a look is enough to see that no resolution has the sets.
+pub record Skipped (x : ℕ) (root : Bounds) (marks : List ℕ) (p r : Placed) : Type 0 where
+  pub from : p .place ≤ r .place
+  pub stands : Standing x r
+  pub barred : (i : ℕ) → p .place ≤ i → i < r .place → Barred root marks (setAt x i)
+
 -- From place j on every pair is later than the point.
-pub record Beyond (from : Point) (j : ℕ) : Type 0 where
-  pub later : (i : ℕ) → j ≤ i → i < setCount → (p : Pair) → setAt i ≡ p .taken → Later from p
+pub record Beyond (x : ℕ) (from : Point) (j : ℕ) : Type 0 where
+  pub later : (i : ℕ) → j ≤ i → i < 2 ^ x → (p : Pair) → setAt x i ≡ p .taken → Later from p
 
 -- The sets at the places before j have been walked with these marks: the marks tell of each of them, and of each marked set.
-pub record Ready (ws : List ℕ) (n : ℕ) (ranks : List ℕ) (root : Bounds) (j : ℕ) (marks : List ℕ) : Type 0 where
+pub record Ready (ws : List ℕ) (n : ℕ) (ranks : List ℕ) (root : Bounds) (x j : ℕ) (marks : List ℕ) : Type 0 where
   pub full : Full ws n ranks root marks
-  pub told : (i : ℕ) → i < j → Told ws n ranks root marks (setAt i)
+  pub told : (i : ℕ) → i < j → Told ws n ranks root marks (setAt x i)
 
--- The walk from place j: with the page of all that stands at the places before it, it makes the page of all later resolutions.
-pub record Walked (ws ranks : List ℕ) (root : Bounds) (q : Task) (j : ℕ) (known : Bool) (k : ℕ) (m o o′ : List ℕ) (r : ℕ) : Type 0 where
-  pub whole : (b : Book) (from : Point) → Serves b ws ranks root q → RightMarks b m → (known ≡ true → Ready ws (q .rules) ranks root j m) → LawfulPoint b from → Beyond from j
-      → (blank : List ℕ) (xs : List Pair) → Part b from (Passed j) xs → Page (q .room) 0 blank o xs k
+-- The walk from place j of the sets of x exceptions, in a book that has no more: with the page of all that stands at the places before it, it makes
+-- the page of all later resolutions.
+pub record Walked (ws ranks : List ℕ) (root : Bounds) (q : Task) (x j : ℕ) (known : Bool) (k : ℕ) (m o o′ : List ℕ) (r : ℕ) : Type 0 where
+  pub whole : (b : Book) (from : Point) → Serves b ws ranks root q → length (b .exceptions) ≤ x → RightMarks b m → (known ≡ true → Ready ws (q .rules) ranks root x j m) → LawfulPoint b from → Beyond x from j
+      → (blank : List ℕ) (xs : List Pair) → Part b from (Passed x j) xs → Page (q .room) 0 blank o xs k
       → (zs : List Pair) × AllLater b from zs × Page (q .room) 0 blank o′ zs r
 
--- The page of the first resolutions, and of the first after the task's point.
-pub record FirstPage (ws ranks : List ℕ) (root : Bounds) (q : Task) (o o′ : List ℕ) (r : ℕ) : Type 0 where
-  pub page : (b : Book) → Serves b ws ranks root q → (zs : List Pair) × AllLater b start zs × Page (q .room) 0 o o′ zs r
+-- The page of the first resolutions, and of the first after the task's point, in a book of at most x exceptions.
+pub record FirstPage (ws ranks : List ℕ) (root : Bounds) (q : Task) (x : ℕ) (o o′ : List ℕ) (r : ℕ) : Type 0 where
+  pub page : (b : Book) → Serves b ws ranks root q → length (b .exceptions) ≤ x → (zs : List Pair) × AllLater b start zs × Page (q .room) 0 o o′ zs r
 
-pub record PageAfter (ws ranks : List ℕ) (root : Bounds) (q : Task) (o o′ : List ℕ) (r : ℕ) : Type 0 where
-  pub page : (b : Book) → Serves b ws ranks root q → Lawful b (q .point) → (zs : List Pair) × AllLater b (at (q .point)) zs × Page (q .room) 0 o o′ zs r
+pub record PageAfter (ws ranks : List ℕ) (root : Bounds) (q : Task) (x : ℕ) (o o′ : List ℕ) (r : ℕ) : Type 0 where
+  pub page : (b : Book) → Serves b ws ranks root q → length (b .exceptions) ≤ x → Lawful b (q .point) → (zs : List Pair) × AllLater b (at (q .point)) zs × Page (q .room) 0 o o′ zs r

@@ -1,20 +1,19 @@
 // The walk over all sets of exceptions in their order: which of them a resolution can have.
 ghost use mathlib.Core.Path.{_≡_};
 ghost use mathlib.Core.Bool.{true, false};
-ghost use Prim.Native.Nat.{_*_, _<_, _≤_};
+ghost use Prim.Native.Nat.{_*_, _^_, _<_, _≤_};
 ghost use lib.ListN.{length};
+ghost use Rattle.book.specs.Limits.{exceptions};
 ghost use Rattle.book.specs.Kinds.{setCount};
-ghost use Rattle.order.specs.Order.{order, setAt};
 ghost use Rattle.queue.specs.Chains.{Chains};
 ghost use Rattle.page.specs.Pages.{Fits};
 ghost use Rattle.few.specs.Few.{most, Collected};
-ghost use Rattle.walk.specs.Walks.{SetListed, Walked, FirstPage, PageAfter};
-ghost use Rattle.walk.specs.Plans.{NoView, HasView, MarksRight, Admits, Bounded};
+ghost use Rattle.walk.specs.Walks.{SetListed, Standing, Skipped, Walked, FirstPage, PageAfter};
+ghost use Rattle.walk.specs.Plans.{NoView, HasView, MarksRight, Admits, Bounded, Barred};
 use book::Book;
 use marking::Marks;
 use marking::Strike;
 use masks::Bounds;
-use order::Table;
 use page::Task;
 use queue::Rest;
 use queue::index::Index;
@@ -175,7 +174,7 @@ pub fn tested(
     admissible::admissible(words, n, ranks, index, root, t)
 }
 
-// Whether a resolution can have the set t: not where it is marked, nor where it has no view. Its views are gathered in the store, up to `cap` of
+// Whether a resolution can have the set t: not where it has no view, nor where it is marked. Its views are gathered in the store, up to `cap` of
 // them. Where `known` is true, every set before t has been walked with these marks.
 pub fn admits(
     words: &[u64],
@@ -194,16 +193,6 @@ pub fn admits(
     requires { ⌜ (n * 8 ≤ length (now words)) × (length (now ranks) ≤ 64) × (t < setCount) × Chains (now words) n (now index) × (cap * 3 ≤ length (now store)) × (0 < cap) ⌝ }
     ensures { λ r. ⌜ Admits (now (words .entry)) n (now (ranks .entry)) root t known (now (marks .entry)) (now (marks .exit)) (r .ok) × Bounded (now (words .entry)) n (now (ranks .entry)) root t (r .ok) (r .rest .bounds) × (r .ok ≡ true → Collected (now (words .entry)) n (now (ranks .entry)) (r .rest .bounds) cap (now (store .exit)) (r .count)) ⌝ }
 {
-    let place = t as usize;
-    if marks[place] != 0 {
-        return refused(root, credit, doubt);
-    }
-    if t ^ (t & root.hi.taken) != 0 {
-        return refused(root, credit, doubt);
-    }
-    if root.lo.taken ^ (root.lo.taken & t) != 0 {
-        return refused(root, credit, doubt);
-    }
     let rest = ranges::narrowed(words, n, ranks, index, root, t, t);
     let b = rest.bounds;
     if !sets::within(b.lo, b.hi) {
@@ -294,15 +283,54 @@ pub fn list_set(
     }
 }
 
-// Puts the resolutions with the sets from place `from` on on the page, until it is full. The table is the order of the sets. Where `known` is
-// true, the sets before that place have been walked with these marks.
+// A look is enough to see that no resolution has the set t: it is marked, or it is not between the root's sets.
+pub fn barred(root: Bounds, marks: &Marks, t: u64) -> bool
+    requires { ⌜ t < setCount ⌝ }
+    ensures { λ r. ⌜ (r ≡ true → Barred root (now (marks .entry)) t) ⌝ }
+{
+    let place = t as usize;
+    if marks[place] != 0 {
+        return true;
+    }
+    if t ^ (t & root.hi.taken) != 0 {
+        return true;
+    }
+    root.lo.taken ^ (root.lo.taken & t) != 0
+}
+
+// A place of the order of the sets, and the set there.
+pub struct Placed {
+    pub place: usize,
+    pub set: u64,
+}
+
+// The first place from p on at which a look is not enough, or the end of the order of the sets of x exceptions.
+pub fn past_barred(x: usize, root: Bounds, marks: &Marks, p: Placed) -> Placed
+    requires { ⌜ (x ≤ exceptions) × Standing x p ⌝ }
+    ensures { λ r. ⌜ Skipped x root (now (marks .entry)) p r ⌝ }
+{
+    let places = order::place_count(x);
+    let mut place = p.place;
+    let mut set = p.set;
+    while place < places {
+        if !barred(root, marks, set) {
+            return Placed { place, set };
+        }
+        set = order::next(x, set);
+        place += 1;
+    }
+    Placed { place, set }
+}
+
+// Puts the resolutions with the sets of x exceptions from place `from` on on the page, until it is full. Where `known` is true, the sets before that
+// place have been walked with these marks.
 pub fn walk(
     words: &[u64],
     ranks: &[u64],
     index: &Index,
     root: Bounds,
     task: Task,
-    table: &Table,
+    x: usize,
     from: usize,
     known: bool,
     filled: Filled,
@@ -310,12 +338,17 @@ pub fn walk(
     store: &mut [u64],
     out: &mut [u64],
 ) -> usize
-    requires { ⌜ Fits (now words) (now ranks) (now out) task (filled .at) × (from ≤ setCount) × (now table ≡ order) × Chains (now words) (task .rules) (now index) × (most * 3 ≤ length (now store)) ⌝ }
-    ensures { λ r. ⌜ Walked (now (words .entry)) (now (ranks .entry)) root task from known (filled .at) (now (marks .entry)) (now (out .entry)) (now (out .exit)) r ⌝ }
+    requires { ⌜ Fits (now words) (now ranks) (now out) task (filled .at) × (x ≤ exceptions) × (from ≤ 2 ^ x) × Chains (now words) (task .rules) (now index) × (most * 3 ≤ length (now store)) ⌝ }
+    ensures { λ r. ⌜ Walked (now (words .entry)) (now (ranks .entry)) root task x from known (filled .at) (now (marks .entry)) (now (out .entry)) (now (out .exit)) r ⌝ }
 {
+    let places = order::place_count(x);
+    if places <= from {
+        return filled.at;
+    }
+    let set = order::set_at(x, from);
+    let mut p = past_barred(x, root, marks, Placed { place: from, set });
     let mut f = filled;
-    let mut j = from;
-    while j < Book::SETS {
+    while p.place < places {
         if task.room <= f.at {
             return f.at;
         }
@@ -325,7 +358,7 @@ pub fn walk(
             index,
             root,
             task,
-            order::set_in(table, j),
+            p.set,
             false,
             known,
             f,
@@ -333,40 +366,25 @@ pub fn walk(
             store,
             out,
         );
-        j += 1;
+        let place = p.place + 1;
+        let set = order::next(x, p.set);
+        p = past_barred(x, root, marks, Placed { place, set });
     }
     f.at
 }
 
-// The place of a set in the order, which is the table: each look at the middle leaves half of the places.
-pub fn place_of(table: &Table, t: u64) -> usize
-    requires { ⌜ (t < setCount) × (now table ≡ order) ⌝ }
-    ensures { λ r. ⌜ (r < setCount) × (setAt r ≡ t) ⌝ }
-{
-    let mut lo: usize = 0;
-    let mut hi = Book::SETS - 1;
-    while lo < hi {
-        let mid = lo + (hi - lo) / 2;
-        if order::earlier(order::set_in(table, mid), t) {
-            lo = mid + 1;
-        } else {
-            hi = mid;
-        }
-    }
-    lo
-}
-
-// The page of the first resolutions of a book, whose views are within root.
+// The page of the first resolutions of a book of at most x exceptions, whose views are within root.
 pub fn first_page(
     words: &[u64],
     ranks: &[u64],
     index: &Index,
     root: Bounds,
+    x: usize,
     task: Task,
     out: &mut [u64],
 ) -> usize
-    requires { ⌜ Fits (now words) (now ranks) (now out) task 0 × Chains (now words) (task .rules) (now index) ⌝ }
-    ensures { λ r. ⌜ FirstPage (now (words .entry)) (now (ranks .entry)) root task (now (out .entry)) (now (out .exit)) r ⌝ }
+    requires { ⌜ Fits (now words) (now ranks) (now out) task 0 × (x ≤ exceptions) × Chains (now words) (task .rules) (now index) ⌝ }
+    ensures { λ r. ⌜ FirstPage (now (words .entry)) (now (ranks .entry)) root task x (now (out .entry)) (now (out .exit)) r ⌝ }
 {
     let mut marks = [0u8; Book::SETS];
     let mut store = [0u64; few::MOST * 3];
@@ -375,14 +393,13 @@ pub fn first_page(
         credit: CREDIT,
         doubt: 0,
     };
-    let table = order::table();
     walk(
         words,
         ranks,
         index,
         root,
         task,
-        &table,
+        x,
         0,
         true,
         filled,
@@ -392,17 +409,18 @@ pub fn first_page(
     )
 }
 
-// The page of the first resolutions later than the task's point.
+// The page of the first resolutions later than the task's point, in a book of at most x exceptions.
 pub fn page_after(
     words: &[u64],
     ranks: &[u64],
     index: &Index,
     root: Bounds,
+    x: usize,
     task: Task,
     out: &mut [u64],
 ) -> usize
-    requires { ⌜ Fits (now words) (now ranks) (now out) task 0 × (task .point .taken < setCount) × Chains (now words) (task .rules) (now index) ⌝ }
-    ensures { λ r. ⌜ PageAfter (now (words .entry)) (now (ranks .entry)) root task (now (out .entry)) (now (out .exit)) r ⌝ }
+    requires { ⌜ Fits (now words) (now ranks) (now out) task 0 × (x ≤ exceptions) × (task .point .taken < 2 ^ x) × Chains (now words) (task .rules) (now index) ⌝ }
+    ensures { λ r. ⌜ PageAfter (now (words .entry)) (now (ranks .entry)) root task x (now (out .entry)) (now (out .exit)) r ⌝ }
 {
     let mut marks = [0u8; Book::SETS];
     let mut store = [0u64; few::MOST * 3];
@@ -412,8 +430,7 @@ pub fn page_after(
         credit: CREDIT,
         doubt: 0,
     };
-    let table = order::table();
-    let place = place_of(&table, t);
+    let place = order::place_of(x, t);
     let f = list_set(
         words,
         ranks,
@@ -434,7 +451,7 @@ pub fn page_after(
         index,
         root,
         task,
-        &table,
+        x,
         place + 1,
         false,
         f,

@@ -126,7 +126,7 @@ pub fn first_conflict(
     while e < end {
         let x = contrary(r.bounds, t);
         if x != 0 {
-            let place = waiting::low(x);
+            let place = sets::low(x);
             return Conflict { place, before: e };
         }
         let place = e as u64;
@@ -136,7 +136,7 @@ pub fn first_conflict(
         }
         e += 1;
     }
-    let place = waiting::low(contrary(r.bounds, t));
+    let place = sets::low(contrary(r.bounds, t));
     Conflict { place, before: e }
 }
 

@@ -1,12 +1,13 @@
 -- What is written next, and where the program stands after a part.
-use Prim.Native.Nat.{ℕ, zero, suc, _+_, _-_, _*_, _<_, _≤_, _^_}
+use Prim.Native.Nat.{ℕ, _+_, _-_, _*_, _<_, _≤_, _^_}
 use mathlib.Core.Bool.{Bool, true, false}
-use mathlib.Core.List.{List, [], _∷_}
+use mathlib.Core.List.{List}
 use mathlib.Core.Path.{_≡_, refl, sym, ap, _∙_}
 use native.Mathlib.Omega.{arith}
 use lib.ListN.{length, take, drop, length-drop}
 use lib.Seq.{take-all, drop-drop, length-take-le}
 use Rattle.logic.proofs.Decide.{clash}
+use Rattle.logic.proofs.Stores.{drop-take}
 use Rattle.book.specs.declared.Shape.{Shape}
 use Rattle.answers.specs.Ways.{waysOf, mostLines}
 use Rattle.listing.specs.declared.Part.{Part}
@@ -18,20 +19,13 @@ use Rattle.ways.specs.declared.streams.Sent.{Sent}
 use Rattle.ways.specs.Stands.{Stood}
 
 -- ---- the bytes that are left of those to be written
-drop-take : (d n : ℕ) (l : List ℕ) → d ≤ n → drop d (take n l) ≡ take (n - d) (drop d l)
-drop-take zero n l h = let e : n - 0 ≡ n = omega arith in rw e refl
-drop-take (suc d) zero l h = absurd (omega arith)
-drop-take (suc d) (suc n) [] h = nothing (suc n - suc d)
-  where
-    nothing : (k : ℕ) → [] ≡ take {A = ℕ} k []
-    nothing zero = refl
-    nothing (suc k) = refl
-drop-take (suc d) (suc n) (x ∷ l) h = let e : suc n - suc d ≡ n - d = omega arith in rw e (drop-take d n l (omega arith))
-
 next-rest : (bs xs : List ℕ) (i d : ℕ) → Next bs i xs → d ≤ length xs → Next bs (i + d) (take (length xs - d) (drop d xs))
 next-rest bs xs i d e h = rw (take-all (length xs - d) (drop d xs) (omega (arith, length-drop d xs))) (ap (drop d) e
-    ∙ drop-take d (length xs) (drop i (waysOf bs)) h ∙ ap (take (length xs - d)) (drop-drop d i (waysOf bs))
+    ∙ parted ∙ ap (take (length xs - d)) (drop-drop d i (waysOf bs))
     ∙ ap (λ k. take k (drop (i + d) (waysOf bs))) (sym (length-drop d xs)))
+  where
+    parted : drop d (take (length xs) (drop i (waysOf bs))) ≡ take (length xs - d) (drop d (drop i (waysOf bs)))
+    parted = let f : d + (length xs - d) ≡ length xs = omega arith in rw f at (drop-take d (length xs - d) (drop i (waysOf bs)))
 
 -- The bytes that are left after d of them, which the output has taken.
 module _ (bs xs : List ℕ) (t i d : ℕ) (e : t ≡ i + d) (h : d ≤ length xs) where

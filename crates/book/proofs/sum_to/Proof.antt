@@ -23,14 +23,14 @@ measured-requires : tie.Need-measured-requires Inv-loop μ-loop
 measured-requires c κs = omega arith
 
 mul-n : tie.Need-mul-n Inv-loop μ-loop
-mul-n c = 
+mul-n c =
     let loop = c .before .before .before .loop in
     let args = c .before .before .before .before .args in
     let l = c .before .before .before .before .pre .1 in
     omega (arith, measured-most (args .m), sum-small (measured (args .m)) (args .s) (loop .i) (loop .n) _ _ l (omega arith) (loop .inv .1) (c .before .count-of .ensures) (c .measured .ensures))
 
 add-n : tie.Need-add-n Inv-loop μ-loop
-add-n c = 
+add-n c =
     let loop = c .before .before .before .loop in
     let args = c .before .before .before .before .args in
     let l = c .before .before .before .before .pre .1 in
@@ -43,7 +43,7 @@ loop-less : tie.Need-loop-less Inv-loop μ-loop
 loop-less c = omega arith
 
 loop-again : tie.Need-loop-again Inv-loop μ-loop
-loop-again c = 
+loop-again c =
     let loop = c .before .before .before .loop in
     let args = c .before .before .before .before .args in
     (omega arith, sum-next (measured (args .m)) (args .s) (loop .i) (loop .n) _ _ (loop .inv .1) (c .before .count-of .ensures) (c .measured .ensures))

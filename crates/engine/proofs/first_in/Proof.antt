@@ -15,7 +15,7 @@ root-of-requires : tie.Need-root-of-requires
 root-of-requires c κs = let p = plain-in _ (c .before .before .before .before .before .before .pre) in let x = exceptions-in _ (c .before .before .before .before .before .before .pre) in let s = c .before .before .before .before .before .before .pre .statements in search needs
 
 first-page-requires : tie.Need-first-page-requires
-first-page-requires c κs = let p = plain-in _ (c .before .before .before .before .before .before .before .before .before .before .before .pre) in let x = exceptions-in _ (c .before .before .before .before .before .before .before .before .before .before .before .pre) in let s = c .before .before .before .before .before .before .before .before .before .before .before .pre .statements in (search needs, c .before .before .before .before .before .before .fill .ensures)
+first-page-requires c κs = let i = c .before .before .before .before .before .before .before .before .before .before .before .pre in let p = plain-in _ i in let x = exceptions-in _ i in let s = i .statements in (search needs, search needs, c .before .before .before .before .before .before .fill .ensures)
 
 same-length : tie.Need-same-length
 same-length c = search needs

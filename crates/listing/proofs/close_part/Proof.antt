@@ -7,7 +7,7 @@ use Rattle.listing.proofs.close_part.Statement.{statement}
 use Rattle.listing.proofs.close_part.Tie as tie
 
 put-lines-requires : tie.Need-put-lines-requires
-put-lines-requires c κs = 
+put-lines-requires c κs =
     let args = c .before .before .before .args in
     let m = at-most (args .k) partLines (args .w) (args .n) (search needs) (search needs) (search needs) in
     (search needs, search needs, search needs, omega arith)
@@ -16,13 +16,13 @@ add-put-closing : tie.Need-add-put-closing
 add-put-closing c = search needs
 
 put-closing-requires : tie.Need-put-closing-requires
-put-closing-requires c κs = 
+put-closing-requires c κs =
     let put-lines = c .before .before .before .put-lines in
     let args = c .before .before .before .before .before .before .before .args in
     (omega (arith, at-most (args .k) partLines (args .w) (args .n) (search needs) (search needs) (search needs), put-lines .ensures .1, put-lines .kept .0), omega arith)
 
 add-t14 : tie.Need-add-t14
-add-t14 c = 
+add-t14 c =
     let put-lines = c .before .before .before .before .before .before .put-lines in
     let args = c .before .before .before .before .before .before .before .before .before .before .args in
     omega (arith, at-most (args .k) partLines (args .w) (args .n) (search needs) (search needs) (search needs), put-lines .ensures .1)
@@ -31,7 +31,7 @@ same-length : tie.Need-same-length
 same-length c = search needs
 
 returns : tie.Need-returns
-returns c = 
+returns c =
     let put-lines = c .before .before .before .before .before .before .put-lines in
     let put-closing = c .before .before .put-closing in
     closes _ _ _ _ _ _ _ (put-lines .ensures .0) (put-lines .ensures .1) (search needs) (search needs) (search needs) (search needs) _ _ _ _ (put-closing .ensures) (omega (arith, put-lines .kept .0, put-closing .kept .0))

@@ -1,6 +1,6 @@
 use mathlib.Core.Path.{sym, _∙_}
 use native.Mathlib.Omega.{arith}
-use Rattle.prepare.proofs.Numbers.{shifted}
+use Rattle.sets.proofs.Digits.{shifted}
 use Rattle.prepare.proofs.Packing.{own-plain, own-late}
 use borrow.Author.Needs.{needs}
 use Rattle.prepare.proofs.own_set.Statement.{statement}

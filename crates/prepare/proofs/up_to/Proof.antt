@@ -2,7 +2,7 @@ use mathlib.Core.Path.{ap}
 use Prim.Native.Nat.{ℕ, _-_}
 use native.Mathlib.Omega.{arith}
 use lib.Pow.{pow-pos}
-use Rattle.prepare.proofs.Numbers.{shifted}
+use Rattle.sets.proofs.Digits.{shifted}
 use borrow.Author.Needs.{needs}
 use Rattle.prepare.proofs.up_to.Statement.{statement}
 use Rattle.prepare.proofs.up_to.Tie as tie

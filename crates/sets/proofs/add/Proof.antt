@@ -1,11 +1,9 @@
 use mathlib.Core.Path.{ap, _∙_}
 use Prim.Native.Nat.{ℕ, _-_}
-use native.Mathlib.Nat.{one-mul}
 use native.Mathlib.Omega.{arith}
 use lib.Bits.{bitOr}
-use lib.Dec.{lit<}
-use lib.Pow.{shl-exact}
 use Rattle.sets.specs.Sets.{member}
+use Rattle.sets.proofs.Digits.{shifted}
 use Rattle.sets.proofs.Words.{added}
 use borrow.Author.Needs.{needs}
 use Rattle.sets.proofs.add.Statement.{statement}
@@ -19,7 +17,7 @@ shl-result c = search needs
 
 returns : tie.Need-returns
 returns c j h =
-    ap (λ (x : ℕ). member j (bitOr (c .args .a) x)) (shl-exact 1 (c .args .i - 1) 64 (lit< tt) (omega arith) ∙ one-mul _)
+    ap (λ (x : ℕ). member j (bitOr (c .args .a) x)) (shifted (c .args .i - 1) (omega arith))
     ∙ added (c .args .i) (c .args .a) j (omega arith) h
 
 pub add-spec : {M : Type 1} → statement M

@@ -1,29 +1,8 @@
 use mathlib.Core.Path.{refl}
-use Rattle.walk.proofs.Plans.{refuted-none, collected-none, collected-some, admits-marked, admits-none, admits-beyond, admits-short, admits-refused}
+use Rattle.walk.proofs.Plans.{refuted-none, collected-none, collected-some, admits-none, admits-refused}
 use borrow.Author.Needs.{needs}
 use Rattle.walk.proofs.admits.Statement.{statement}
 use Rattle.walk.proofs.admits.Tie as tie
-
-element-copy-out-if1 : tie.Need-element-copy-out-if1
-element-copy-out-if1 c = search needs
-
-refused-requires : tie.Need-refused-requires
-refused-requires c κs = search needs
-
-returns : tie.Need-returns
-returns c = admits-refused _ _ _ _ _ _ _ _ _ _ _ (c .refused .ensures) (admits-marked _ _ _ _ _ _ _ (search needs))
-
-refused-requires-2 : tie.Need-refused-requires-2
-refused-requires-2 c κs = search needs
-
-returns-2 : tie.Need-returns-2
-returns-2 c = admits-refused _ _ _ _ _ _ _ _ _ _ _ (c .refused2 .ensures) (admits-beyond _ _ _ _ _ _ _ (search needs))
-
-refused-requires-3 : tie.Need-refused-requires-3
-refused-requires-3 c κs = search needs
-
-returns-3 : tie.Need-returns-3
-returns-3 c = admits-refused _ _ _ _ _ _ _ _ _ _ _ (c .refused3 .ensures) (admits-short _ _ _ _ _ _ _ (search needs))
 
 narrowed-requires : tie.Need-narrowed-requires
 narrowed-requires c κs = search needs
@@ -32,67 +11,60 @@ within-requires : tie.Need-within-requires
 within-requires c κs = search needs
 
 mark-around-requires : tie.Need-mark-around-requires
-mark-around-requires c κs = (c .before .before .before .before .before .before .before .before .before .before .before .before .before .before .before .pre .0, c .before .before .before .before .before .before .before .before .before .before .before .before .before .before .before .pre .1, c .before .before .before .before .before .before .before .before .before .before .before .before .before .before .before .pre .3)
+mark-around-requires c κs = (c .before .before .before .before .before .before .before .before .pre .0, c .before .before .before .before .before .before .before .before .pre .1, c .before .before .before .before .before .before .before .before .pre .3)
 
-refused-requires-4 : tie.Need-refused-requires-4
-refused-requires-4 c κs = search needs
+refused-requires : tie.Need-refused-requires
+refused-requires c κs = search needs
 
-returns-4 : tie.Need-returns-4
-returns-4 c = let f = refuted-none _ _ _ _ _ _ _ _ _ refl (c .before .before .before .before .before .before .narrowed .ensures) (c .before .before .before .before .within .ensures) (search needs) in admits-refused _ _ _ _ _ _ _ _ _ _ _ (c .refused4 .ensures) (admits-none _ _ _ _ _ _ _ _ f (c .before .mark-around .ensures f))
+returns : tie.Need-returns
+returns c = let f = refuted-none _ _ _ _ _ _ _ _ _ refl (c .before .before .before .before .before .before .narrowed .ensures) (c .before .before .before .before .within .ensures) (search needs) in admits-refused _ _ _ _ _ _ _ _ _ _ _ (c .refused .ensures) (admits-none _ _ _ _ _ _ _ _ f (c .before .mark-around .ensures f))
 
 fuel-for-requires : tie.Need-fuel-for-requires
 fuel-for-requires c κs = search needs
 
 collect-requires : tie.Need-collect-requires
-collect-requires c κs = (c .before .before .before .before .before .before .before .before .before .before .before .before .before .before .before .before .pre .0, c .before .before .before .before .before .before .before .before .before .before .before .before .before .before .before .before .pre .1, c .before .before .before .before .before .before .before .before .before .before .before .before .before .before .before .before .pre .3, c .before .before .before .before .before .before .before .before .before .before .before .before .before .before .before .before .pre .4)
+collect-requires c κs = (c .before .before .before .before .before .before .before .before .before .pre .0, c .before .before .before .before .before .before .before .before .before .pre .1, c .before .before .before .before .before .before .before .before .before .pre .3, c .before .before .before .before .before .before .before .before .before .pre .4)
 
 wrapping-add-u64-requires : tie.Need-wrapping-add-u64-requires
 wrapping-add-u64-requires c κs = search needs
 
 mark-shaven-requires : tie.Need-mark-shaven-requires
-mark-shaven-requires c κs = (c .before .before .before .before .before .before .before .before .before .before .before .before .before .before .before .before .before .before .before .before .before .before .before .pre .0, c .before .before .before .before .before .before .before .before .before .before .before .before .before .before .before .before .before .before .before .before .before .before .before .pre .1, c .before .before .before .before .before .before .before .before .before .before .before .before .before .before .before .before .before .before .before .before .before .before .before .pre .3)
+mark-shaven-requires c κs = (c .before .before .before .before .before .before .before .before .before .before .before .before .before .before .before .before .pre .0, c .before .before .before .before .before .before .before .before .before .before .before .before .before .before .before .before .pre .1, c .before .before .before .before .before .before .before .before .before .before .before .before .before .before .before .before .pre .3)
 
-refused-requires-5 : tie.Need-refused-requires-5
-refused-requires-5 c κs = search needs
+refused-requires-2 : tie.Need-refused-requires-2
+refused-requires-2 c κs = search needs
 
 same-length : tie.Need-same-length
 same-length c = search needs
 
-returns-5 : tie.Need-returns-5
-returns-5 c = let f = collected-none _ _ _ _ _ _ (c .before .before .before .before .before .before .before .before .before .before .before .before .before .before .narrowed .ensures) _ _ _ (c .before .before .before .before .before .before .before .before .collect .ensures) (c .before .before .before .before .before .before .before .before .before .before .before .before .before .before .before .before .before .before .before .before .before .before .before .before .before .pre .5) (search needs) in admits-refused _ _ _ _ _ _ _ _ _ _ _ (c .refused5 .ensures) (admits-none _ _ _ _ _ _ _ _ f (c .before .mark-shaven .ensures f))
+returns-2 : tie.Need-returns-2
+returns-2 c = let f = collected-none _ _ _ _ _ _ (c .before .before .before .before .before .before .before .before .before .before .before .before .before .before .narrowed .ensures) _ _ _ (c .before .before .before .before .before .before .before .before .collect .ensures) (c .before .before .before .before .before .before .before .before .before .before .before .before .before .before .before .before .before .before .pre .5) (search needs) in admits-refused _ _ _ _ _ _ _ _ _ _ _ (c .refused2 .ensures) (admits-none _ _ _ _ _ _ _ _ f (c .before .mark-shaven .ensures f))
 
 tested-requires : tie.Need-tested-requires
-tested-requires c κs = (c .before .before .before .before .before .before .before .before .before .before .before .before .before .before .before .before .before .before .before .before .before .before .pre .0, c .before .before .before .before .before .before .before .before .before .before .before .before .before .before .before .before .before .before .before .before .before .before .pre .1, c .before .before .before .before .before .before .before .before .before .before .before .before .before .before .before .before .before .before .before .before .before .before .pre .2, c .before .before .before .before .before .before .before .before .before .before .before .before .before .before .before .before .before .before .before .before .before .before .pre .3)
+tested-requires c κs = (c .before .before .before .before .before .before .before .before .before .before .before .before .before .before .before .pre .0, c .before .before .before .before .before .before .before .before .before .before .before .before .before .before .before .pre .1, c .before .before .before .before .before .before .before .before .before .before .before .before .before .before .before .pre .2, c .before .before .before .before .before .before .before .before .before .before .before .before .before .before .before .pre .3)
 
 same-length-2 : tie.Need-same-length-2
 same-length-2 c = search needs
 
-returns-6 : tie.Need-returns-6
-returns-6 c = (c .tested .ensures (collected-some _ _ _ _ _ _ (c .before .before .before .before .before .before .before .before .before .before .before .before .narrowed .ensures) _ _ _ (c .before .before .before .before .before .before .collect .ensures) (search needs)), record { propagated = λ e. c .before .before .before .before .before .before .before .before .before .before .before .before .narrowed .ensures }, λ e. c .before .before .before .before .before .before .collect .ensures)
+returns-3 : tie.Need-returns-3
+returns-3 c = (c .tested .ensures (collected-some _ _ _ _ _ _ (c .before .before .before .before .before .before .before .before .before .before .before .before .narrowed .ensures) _ _ _ (c .before .before .before .before .before .before .collect .ensures) (search needs)), record { propagated = λ e. c .before .before .before .before .before .before .before .before .before .before .before .before .narrowed .ensures }, λ e. c .before .before .before .before .before .before .collect .ensures)
 
 pub admits-spec : {M : Type 1} → statement M
 admits-spec =
     tie.close
     (tie.spec
-    element-copy-out-if1
-    refused-requires
-    returns
-    refused-requires-2
-    returns-2
-    refused-requires-3
-    returns-3
     narrowed-requires
     within-requires
     mark-around-requires
-    refused-requires-4
-    returns-4
+    refused-requires
+    returns
     fuel-for-requires
     collect-requires
     wrapping-add-u64-requires
     mark-shaven-requires
-    refused-requires-5
+    refused-requires-2
     same-length
-    returns-5
+    returns-2
     tested-requires
     same-length-2
-    returns-6)
+    returns-3)

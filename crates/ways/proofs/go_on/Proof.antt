@@ -16,7 +16,7 @@ slice-aggregate-send : tie.Need-slice-aggregate-send
 slice-aggregate-send c = sym (length-take-le _ _ (c .before .go-on .ensures .fits))
 
 send-requires : tie.Need-send-requires
-send-requires c κs = 
+send-requires c κs =
     let l = c .before .go-on .ensures in
     let f = c .before .before .before .before .before .before .pre in
     let s = step _ _ _ _ _ _ _ f _ _ l in
@@ -26,7 +26,7 @@ after-requires : tie.Need-after-requires
 after-requires c κs = search needs
 
 returns : tie.Need-returns
-returns c = 
+returns c =
     let l = c .before .before .before .go-on .ensures in
     let f = c .before .before .before .before .before .before .before .before .pre in
     let a = c .after .ensures in

@@ -28,7 +28,7 @@ part-write-next-end : tie.Need-part-write-next-end Inv-loop μ-loop
 part-write-next-end c = search needs
 
 write-next-requires : tie.Need-write-next-requires Inv-loop μ-loop
-write-next-requires c κs = 
+write-next-requires c κs =
     let loop = c .before .before .loop in
     let args = c .before .before .before .before .before .args in
     next-write _ (args .bytes .now) _ (args .to .taken) (loop .done) (loop .inv .1) (loop .inv .0) (c .before .before .before .before .before .pre .0) (c .before .before .before .before .before .pre .1)

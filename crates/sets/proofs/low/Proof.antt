@@ -1,8 +1,8 @@
 use native.Mathlib.Omega.{arith}
 use lib.Count.{trailing-le}
-use Rattle.bounds.proofs.Singles.{lowest-is}
-use Rattle.queue.proofs.waiting.low.Statement.{statement}
-use Rattle.queue.proofs.waiting.low.Tie as tie
+use Rattle.sets.proofs.Lowest.{lowest-is}
+use Rattle.sets.proofs.low.Statement.{statement}
+use Rattle.sets.proofs.low.Tie as tie
 
 cast-result : tie.Need-cast-result
 cast-result c = record { fits = omega (arith, trailing-le 64 (c .args .x)) }
