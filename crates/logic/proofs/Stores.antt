@@ -1,4 +1,4 @@
--- Pieces stored into a list one after the other: before each, what is left to put, from here, gives the final list.
+-- Pieces stored into a list one after the other: before each, what is left to put, from here, gives the final list. And a part of the first so many.
 use mathlib.Core.Path.{_≡_, refl, sym, ap, _∙_}
 use mathlib.Core.List.{List, [], _∷_, _++_}
 use Prim.Native.Nat.{ℕ, zero, suc, _+_, _-_, _*_, _<_, _≤_}

@@ -20,10 +20,6 @@ unfolding both
 both-right true b e = e
 both-right false b e = absurd (clash e)
 
-pub both-yes : (a b : Bool) → a ≡ true → b ≡ true → both a b ≡ true
-unfolding both
-both-yes a b e f = rw (e, f)
-
 -- The same answer, as a test.
 abbrev pub agree : Bool → Bool → Bool
 agree true b = b

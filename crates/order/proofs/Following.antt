@@ -3,22 +3,20 @@
 use mathlib.Core.Path.{_≡_, sym, _∙_}
 use mathlib.Core.Logic.{_⊎_, inl, inr, ⊎-elim}
 use Prim.Native.Nat.{ℕ, suc, _+_, _-_, _*_, _/_, _%_, _^_, _<_, _≤_}
-use native.Mathlib.Nat.{add-comm, mod-eq-of-lt, mod-lt, mul-le-mul-right}
+use native.Mathlib.Nat.{add-comm, suc-mul, mod-eq-of-lt, mod-lt, mul-le-mul-right}
 use native.Mathlib.Numerals.{add-one}
 use native.Mathlib.Omega.{arith}
 use lib.Pow.{high, low, pow-add, pow-pos, pow-mono, pow-lt, high-ones, mod-pow-add, split, shr-lt}
 use Rattle.logic.proofs.Decide.{decides-eq, holds-or-not}
-use Rattle.sets.specs.Sets.{bitOf, sizeTo, size, Lowest}
+use Rattle.sets.specs.Sets.{bitOf, sizeTo, Lowest}
 use Rattle.sets.proofs.Digits.{bit-mod, bit-zero, lt-or-le, shifted}
 use Rattle.sets.proofs.Lowest.{lowest-mod, lowest-some}
 use Rattle.sets.proofs.Sizes.{size-narrow, size-zero, size-empty, size-least, size-most, size-first, size-split, size-even}
 use Rattle.order.specs.Order.{Earlier, fewer, smaller}
-use Rattle.order.specs.Formula.{setAt, Follows, Run, widest}
+use Rattle.order.specs.Formula.{setAt, NextSet, widest}
+use Rattle.order.specs.Runs.{Run}
 use Rattle.order.proofs.Places.{place-earlier}
 use Rattle.order.proofs.Rule.{order-rule}
-
-suc-times : (h m : ℕ) → suc h * m ≡ h * m + m
-suc-times h m = omega arith
 
 -- ---- the run of ones
 -- The numbers a + 1 to a + l, with a set of the first a.
@@ -49,7 +47,7 @@ run-itself l a =
     omega arith
 
 -- ---- what follows
-follows : (w t r : ℕ) → w ≤ 64 → ((u : ℕ) → t < 2 ^ w → u < 2 ^ w → Earlier t u → (r < 2 ^ w) × Earlier t r × ((u ≡ r) ⊎ Earlier r u)) → Follows w t r
+follows : (w t r : ℕ) → w ≤ 64 → ((u : ℕ) → t < 2 ^ w → u < 2 ^ w → Earlier t u → (r < 2 ^ w) × Earlier t r × ((u ≡ r) ⊎ Earlier r u)) → NextSet w t r
 follows w t r h f = record {
   next = λ k l e.
       let rule = order-rule w h in
@@ -73,7 +71,7 @@ sizes-earlier w a b h ha hb (inl l) = let x = size-narrow w a h ha in let y = si
 sizes-earlier w a b h ha hb (inr l) = let x = size-narrow w a h ha in let y = size-narrow w b h hb in smaller (omega (arith, l .0)) (l .1)
 
 -- The last set of a size: the next size begins.
-next-more : (l a t : ℕ) → l + a ≤ 64 → t % 2 ^ (l + a) + 2 ^ a ≡ 2 ^ (l + a) → Follows (l + a) t (2 ^ suc l - 1)
+next-more : (l a t : ℕ) → l + a ≤ 64 → t % 2 ^ (l + a) + 2 ^ a ≡ 2 ^ (l + a) → NextSet (l + a) t (2 ^ suc l - 1)
 next-more l a t h e = follows (l + a) t (2 ^ suc l - 1) h (λ u ht hu m.
     let et : t ≡ 2 ^ (l + a) - 2 ^ a = let k = mod-eq-of-lt ht in omega arith in
     let st : sizeTo (l + a) t ≡ l = rw et (run-itself l a) in
@@ -139,7 +137,7 @@ module _ (l a d t : ℕ) (h : suc l + a + suc d ≤ 64) (e : t % 2 ^ (suc l + a)
       let p = mul-le-mul-right (2 ^ b) n in
       let q = rw c at (pow-add 2 (suc d) b) in
       let f = low-fits in
-      let s1 = suc-times (top + 1) (2 ^ b) in
+      let s1 = suc-mul (top + 1) (2 ^ b) in
       let g : suc (top + 1) ≡ top + 2 = omega arith in
       let s2 = rw g at s1 in
       omega arith
@@ -148,7 +146,7 @@ module _ (l a d t : ℕ) (h : suc l + a + suc d ≤ 64) (e : t % 2 ^ (suc l + a)
   t-before =
       let s = parts t in
       let g : suc top ≡ top + 1 = omega arith in
-      let k = rw g at (suc-times top (2 ^ b)) in
+      let k = rw g at (suc-mul top (2 ^ b)) in
       omega (arith, s .0, s .1)
 
   at-least : (u : ℕ) → sizeTo (b + suc d) t ≡ sizeTo (b + suc d) u → t < u → r ≤ u
@@ -156,10 +154,10 @@ module _ (l a d t : ℕ) (h : suc l + a + suc d ≤ 64) (e : t % 2 ^ (suc l + a)
       let st = parts t in
       let su = parts u in
       let g : suc top ≡ top + 1 = omega arith in
-      let k = rw g at (suc-times top (2 ^ b)) in
+      let k = rw g at (suc-mul top (2 ^ b)) in
       let v = size-t in
       ⊎-elim
-      (λ (c : u / 2 ^ b < top). let p = mul-le-mul-right (2 ^ b) c in let q = suc-times (u / 2 ^ b) (2 ^ b) in absurd (omega (arith, st .0, su .0, su .1)))
+      (λ (c : u / 2 ^ b < top). let p = mul-le-mul-right (2 ^ b) c in let q = suc-mul (u / 2 ^ b) (2 ^ b) in absurd (omega (arith, st .0, su .0, su .1)))
       (λ (c : top ≤ u / 2 ^ b). ⊎-elim
       (λ (f : u / 2 ^ b ≡ top).
       let y : sizeTo b (u % 2 ^ b) ≡ suc l = let x = rw f at (su .2) in omega arith in
@@ -174,7 +172,7 @@ module _ (l a d t : ℕ) (h : suc l + a + suc d ≤ 64) (e : t % 2 ^ (suc l + a)
       (λ m. let n2 : top + 2 ≤ u / 2 ^ b = omega arith in
       let p = mul-le-mul-right (2 ^ b) n2 in
       let g2 : suc (top + 1) ≡ top + 2 = omega arith in
-      let k2 = rw g2 at (suc-times (top + 1) (2 ^ b)) in
+      let k2 = rw g2 at (suc-mul (top + 1) (2 ^ b)) in
       let f = low-fits in
       omega (arith, su .0))
       (holds-or-not (decides-eq (u / 2 ^ b) (top + 1))))
@@ -194,19 +192,19 @@ module _ (l a d t : ℕ) (h : suc l + a + suc d ≤ 64) (e : t % 2 ^ (suc l + a)
       )
 
 next-same : (l a d t : ℕ) → suc l + a + suc d ≤ 64 → t % 2 ^ (suc l + a) + 2 ^ a ≡ 2 ^ (suc l + a) → bitOf t (suc l + a) ≡ 0
-    → Follows (suc l + a + suc d) t ((t / 2 ^ (suc l + a) + 1) * 2 ^ (suc l + a) + (2 ^ l - 1))
+    → NextSet (suc l + a + suc d) t ((t / 2 ^ (suc l + a) + 1) * 2 ^ (suc l + a) + (2 ^ l - 1))
 next-same l a d t h e z = follows (suc l + a + suc d) t _ h (λ u ht hu m. after-t l a d t h e z ht u hu m)
 
 -- ---- the same with the places by name
-next-last : (l a x t : ℕ) → l + a ≡ x → x ≤ 64 → t % 2 ^ x + 2 ^ a ≡ 2 ^ x → Follows x t (2 ^ suc l - 1)
+next-last : (l a x t : ℕ) → l + a ≡ x → x ≤ 64 → t % 2 ^ x + 2 ^ a ≡ 2 ^ x → NextSet x t (2 ^ suc l - 1)
 next-last l a x t e h r = rw (← e) (next-more l a t (omega arith) (rw (← e) at r))
 
-next-within : (l a d b x t : ℕ) → suc l + a ≡ b → b + suc d ≡ x → x ≤ 64 → t % 2 ^ b + 2 ^ a ≡ 2 ^ b → bitOf t b ≡ 0 → Follows x t ((t / 2 ^ b + 1) * 2 ^ b + (2 ^ l - 1))
+next-within : (l a d b x t : ℕ) → suc l + a ≡ b → b + suc d ≡ x → x ≤ 64 → t % 2 ^ b + 2 ^ a ≡ 2 ^ b → bitOf t b ≡ 0 → NextSet x t ((t / 2 ^ b + 1) * 2 ^ b + (2 ^ l - 1))
 next-within l a d b x t e f h r z = rw (← f, ← e) (next-same l a d t (omega arith) (rw (← e) at r) (rw (← e) at z))
 
 -- ---- as words have it
 -- After the empty set the sets of one number begin.
-pub next-none : (x : ℕ) → x ≤ widest → Follows x 0 1
+pub next-none : (x : ℕ) → x ≤ widest → NextSet x 0 1
 next-none x h = next-last 0 x x 0 (omega arith) (omega arith) (let z = mod-eq-of-lt (pow-pos x) in omega arith)
 
 -- A word with zeros below place k has none but zeros there.
@@ -247,7 +245,7 @@ module _ (x t a : ℕ) (small : x ≤ widest) (ht : t < 2 ^ x) (some : 0 < t) (a
       let q = rw e at (pow-add 2 (x - a) a) in
       let s = split t a in
       let z = lowest-mod t a la in
-      let k = suc-times (t / 2 ^ a) (2 ^ a) in
+      let k = suc-mul (t / 2 ^ a) (2 ^ a) in
       omega arith
 
   pub carried-is : t + 1 * 2 ^ a % 2 ^ 64 ≡ t + 2 ^ a
@@ -265,7 +263,7 @@ module _ (x t a : ℕ) (small : x ≤ widest) (ht : t < 2 ^ x) (some : 0 < t) (a
     up-even =
         let s = split t (suc a) in
         let o = odd-part in
-        let k = suc-times (t / 2 ^ suc a) (2 ^ suc a) in
+        let k = suc-mul (t / 2 ^ suc a) (2 ^ suc a) in
         let p = pow-pos (suc a) in
         let e : suc (t / 2 ^ suc a) * 2 ^ suc a + 0 ≡ up = omega arith in
         rw e at (low (suc (t / 2 ^ suc a)) (suc a) p)
@@ -282,7 +280,7 @@ module _ (x t a : ℕ) (small : x ≤ widest) (ht : t < 2 ^ x) (some : 0 < t) (a
         let s = split up b in
         let z = lowest-mod up b lb in
         let eq : suc (q - 1) ≡ q = omega arith in
-        let k = rw eq at (suc-times (q - 1) (2 ^ b)) in
+        let k = rw eq at (suc-mul (q - 1) (2 ^ b)) in
         let d : 2 ^ b - 2 ^ a < 2 ^ b = omega arith in
         let e : (q - 1) * 2 ^ b + (2 ^ b - 2 ^ a) ≡ t = omega arith in
         let hi = rw e at (high (q - 1) b d) in
@@ -299,7 +297,7 @@ module _ (x t a : ℕ) (small : x ≤ widest) (ht : t < 2 ^ x) (some : 0 < t) (a
     run = let p = run-parts in record { some = run-some; within = b-most; ones = p .0; ends = p .1; is = sym (p .2); most = let m = up-most in omega arith }
 
 module _ (x t a b up : ℕ) (small : x ≤ widest) (r : Run x t a b up) where
-  pub length-most : b - a ≤ widest
+  length-most : b - a ≤ widest
   length-most = omega (arith, r .within)
 
   -- The run ends with the last number.
@@ -310,7 +308,7 @@ module _ (x t a b up : ℕ) (small : x ≤ widest) (r : Run x t a b up) where
     pub more-positive : 1 ≤ 1 * 2 ^ (b - a + 1) % 2 ^ 64
     more-positive = let p = pow-pos (b - a + 1) in rw more-one p
 
-    pub more-follows : Follows x t (1 * 2 ^ (b - a + 1) % 2 ^ 64 - 1)
+    pub more-follows : NextSet x t (1 * 2 ^ (b - a + 1) % 2 ^ 64 - 1)
     more-follows =
         let eb : b ≡ x = omega (arith, r .within) in
         let e : b - a + a ≡ x = omega (arith, r .some) in
@@ -332,7 +330,7 @@ module _ (x t a b up : ℕ) (small : x ≤ widest) (r : Run x t a b up) where
         let o = same-one in
         omega (arith, r .most)
 
-    pub same-follows : Follows x t (up + (1 * 2 ^ (b - a - 1) % 2 ^ 64 - 1))
+    pub same-follows : NextSet x t (up + (1 * 2 ^ (b - a - 1) % 2 ^ 64 - 1))
     same-follows =
         let e : suc (b - a - 1) + a ≡ b = omega (arith, r .some) in
         let f : b + suc (x - b - 1) ≡ x = omega arith in

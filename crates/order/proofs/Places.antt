@@ -5,14 +5,14 @@ use native.Mathlib.Omega.{arith}
 use Rattle.order.specs.Order.{Earlier, fewer, smaller, Ordered}
 
 -- No two sets are each before the other.
-pub earlier-asym : {a b : ℕ} → Earlier a b → Earlier b a → ⊥
+earlier-asym : {a b : ℕ} → Earlier a b → Earlier b a → ⊥
 earlier-asym (fewer l) (fewer m) = omega arith
 earlier-asym (fewer l) (smaller e m) = omega arith
 earlier-asym (smaller d l) (fewer m) = omega arith
 earlier-asym (smaller d l) (smaller e m) = omega arith
 
 -- No set is before itself.
-pub earlier-irrefl : {a b : ℕ} → a ≡ b → Earlier a b → ⊥
+earlier-irrefl : {a b : ℕ} → a ≡ b → Earlier a b → ⊥
 earlier-irrefl e l = let m = rw e at l in earlier-asym m m
 
 module _ {w : ℕ} {f : ℕ → ℕ} (rule : Ordered w f) where

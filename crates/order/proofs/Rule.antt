@@ -1,4 +1,4 @@
--- The sets of w exceptions stand in the order of document 01: `order-rule`, for every width. It is proved from the counts, by induction on the
+-- The sets of w exceptions stand in the order of document 01: `order-rule`, for every width up to 64. It is proved from the counts, by induction on the
 -- width: the sets of one size rise by number and are all there (`lists`), and together the sizes have as many places as there are sets.
 use mathlib.Core.Path.{_≡_, refl, sym, ap, subst, _∙_}
 use mathlib.Core.Logic.{⊎-elim}
@@ -9,8 +9,9 @@ use Rattle.logic.proofs.Decide.{holds, fails, decides-lt, decides-eq, holds-or-
 use Rattle.sets.specs.Sets.{sizeTo, size}
 use Rattle.sets.proofs.Digits.{bit-over, bit-mod, lt-or-le}
 use Rattle.sets.proofs.Sizes.{size-above, size-narrow, size-zero, size-mod, size-with, size-most}
-use Rattle.order.specs.Formula.{count, countBelow, ofSize, fromSize, setAt, rank, placeOf, Lists}
+use Rattle.order.specs.Formula.{count, countBelow, ofSize, fromSize, setAt, placeInSize, placeOf, AllOfSize}
 use Rattle.order.specs.Order.{Earlier, fewer, smaller, Ordered}
+use Rattle.order.proofs.Places.{once}
 
 -- ---- counts
 -- No set of w numbers has more than w of them.
@@ -92,7 +93,7 @@ from-standing w (suc d) n k top e h =
     rw (fails (decides-lt k (count w n)) (λ m. omega arith), fromSize) (rw f at (from-standing w d (suc n) (k - count w n) top (omega arith) (rw f h))))
     (lt-or-le k (count w n))
 
-pub standing : (w k : ℕ) → k < 2 ^ w → Standing w k (setAt w k)
+standing : (w k : ℕ) → k < 2 ^ w → Standing w k (setAt w k)
 unfolding setAt countBelow
 standing w k h =
     let e : 0 + k ≡ k = omega arith in
@@ -122,21 +123,21 @@ module _ (w : ℕ) (small : w ≤ 64) where
 
 -- ---- the place of a set
 -- It hangs on the first w numbers alone.
-rank-mod : (w v m : ℕ) → w ≤ m → rank w (v % 2 ^ m) ≡ rank w v
-unfolding rank
-rank-mod zero v m h = refl
-rank-mod (suc w) v m h = rw (rank-mod w v m (omega arith), bit-mod v m w (omega arith), size-mod m v (suc w) h)
+in-size-mod : (w v m : ℕ) → w ≤ m → placeInSize w (v % 2 ^ m) ≡ placeInSize w v
+unfolding placeInSize
+in-size-mod zero v m h = refl
+in-size-mod (suc w) v m h = rw (in-size-mod w v m (omega arith), bit-mod v m w (omega arith), size-mod m v (suc w) h)
 
-rank-low : (w v : ℕ) → v < 2 ^ w → rank (suc w) v ≡ rank w v
-unfolding rank
-rank-low w v h = rw (bit-over v w w h (omega arith)) (omega arith)
+in-size-low : (w v : ℕ) → v < 2 ^ w → placeInSize (suc w) v ≡ placeInSize w v
+unfolding placeInSize
+in-size-low w v h = rw (bit-over v w w h (omega arith)) (omega arith)
 
-rank-high : (w v : ℕ) → v < 2 ^ w → rank (suc w) (2 ^ w + v) ≡ count w (suc (sizeTo w v)) + rank w v
-unfolding rank
-rank-high w v h =
+in-size-high : (w v : ℕ) → v < 2 ^ w → placeInSize (suc w) (2 ^ w + v) ≡ count w (suc (sizeTo w v)) + placeInSize w v
+unfolding placeInSize
+in-size-high w v h =
     let e : 1 * 2 ^ w + v ≡ 2 ^ w + v = omega arith in
     let x = rw e at (high 1 w h) in
-    let y = rw (rw e at (low 1 w h)) at (rank-mod w (2 ^ w + v) w (omega arith)) in
+    let y = rw (rw e at (low 1 w h)) at (in-size-mod w (2 ^ w + v) w (omega arith)) in
     rw (x, ← y, size-with w v h) (omega arith)
 
 of-same : (w n k : ℕ) → k < count w n → (k < count (suc w) n) × (ofSize (suc w) n k ≡ ofSize w n k)
@@ -149,25 +150,25 @@ unfolding count
 of-more w n k h = let e : count w (suc n) + k - count w (suc n) ≡ k = omega arith in (omega arith, rw e at (of-high w n (count w (suc n) + k) (omega arith)))
 
 -- The set v is at place k of those of n of the first w numbers.
-abbrev Ranked : ℕ → ℕ → ℕ → ℕ → Type 0
-Ranked w v n k = (k < count w n) × (ofSize w n k ≡ v)
+abbrev InSize : ℕ → ℕ → ℕ → ℕ → Type 0
+InSize w v n k = (k < count w n) × (ofSize w n k ≡ v)
 
-rank-none : (v : ℕ) → v < 2 ^ 0 → Ranked 0 v (sizeTo 0 v) (rank 0 v)
-unfolding rank count sizeTo ofSize
-rank-none v h = (omega arith, omega arith)
+in-size-none : (v : ℕ) → v < 2 ^ 0 → InSize 0 v (sizeTo 0 v) (placeInSize 0 v)
+unfolding placeInSize count sizeTo ofSize
+in-size-none v h = (omega arith, omega arith)
 
 -- The size of a set and its place among the sets of that size give the set back.
-pub rank-there : (w v : ℕ) → v < 2 ^ w → Ranked w v (sizeTo w v) (rank w v)
-rank-there zero v h = rank-none v h
-rank-there (suc w) v h =
+in-size-there : (w v : ℕ) → v < 2 ^ w → InSize w v (sizeTo w v) (placeInSize w v)
+in-size-there zero v h = in-size-none v h
+in-size-there (suc w) v h =
     ⊎-elim
-    (λ (l : v < 2 ^ w). let x = rank-there w v l in let y = of-same w (sizeTo w v) (rank w v) (x .0) in
-    rw (size-above (suc w) w v (omega arith) l, rank-low w v l) (y .0, y .1 ∙ x .1))
+    (λ (l : v < 2 ^ w). let x = in-size-there w v l in let y = of-same w (sizeTo w v) (placeInSize w v) (x .0) in
+    rw (size-above (suc w) w v (omega arith) l, in-size-low w v l) (y .0, y .1 ∙ x .1))
     (λ (l : 2 ^ w ≤ v). let e : v ≡ 2 ^ w + (v - 2 ^ w) = omega arith in
     let b : v - 2 ^ w < 2 ^ w = omega arith in
-    let x = rank-there w (v - 2 ^ w) b in let y = of-more w (sizeTo w (v - 2 ^ w)) (rank w (v - 2 ^ w)) (x .0) in
-    subst (λ (u : ℕ). Ranked (suc w) u (sizeTo (suc w) u) (rank (suc w) u)) (sym e)
-    (rw (size-with w (v - 2 ^ w) b, rank-high w (v - 2 ^ w) b) (y .0, y .1 ∙ ap (λ (u : ℕ). 2 ^ w + u) (x .1))))
+    let x = in-size-there w (v - 2 ^ w) b in let y = of-more w (sizeTo w (v - 2 ^ w)) (placeInSize w (v - 2 ^ w)) (x .0) in
+    subst (λ (u : ℕ). InSize (suc w) u (sizeTo (suc w) u) (placeInSize (suc w) u)) (sym e)
+    (rw (size-with w (v - 2 ^ w) b, in-size-high w (v - 2 ^ w) b) (y .0, y .1 ∙ ap (λ (u : ℕ). 2 ^ w + u) (x .1))))
     (lt-or-le v (2 ^ w))
 
 -- A place has one standing.
@@ -188,19 +189,19 @@ standing-there w n r k h l e =
 pub place-there : (w v : ℕ) → v < 2 ^ w → (placeOf w v < 2 ^ w) × (setAt w (placeOf w v) ≡ v)
 unfolding placeOf
 place-there w v h =
-    let x = rank-there w v h in
-    let y = standing-there w (sizeTo w v) (rank w v) (placeOf w v) (size-most w v) (x .0) refl in
+    let x = in-size-there w v h in
+    let y = standing-there w (sizeTo w v) (placeInSize w v) (placeOf w v) (size-most w v) (x .0) refl in
     (y .0, y .1 ∙ x .1)
 
 -- The counts are those of sets: of n of w numbers there are `count w n` sets, and `ofSize w n` lists them.
-pub lists : (w n : ℕ) → w ≤ 64 → Lists w n (count w n) (ofSize w n)
+pub lists : (w n : ℕ) → w ≤ 64 → AllOfSize w n (count w n) (ofSize w n)
 lists w n h = record {
   sets = λ k l. let x = of-size w n k l in (x .0, sym (size-narrow w (ofSize w n k) h (x .0)) ∙ x .1);
-  present = λ v l e. let f : sizeTo w v ≡ n = size-narrow w v h l ∙ e in let x = rank-there w v l in (rank w v, rw f at (x .0), rw f at (x .1));
+  present = λ v l e. let f : sizeTo w v ≡ n = size-narrow w v h l ∙ e in let x = in-size-there w v l in (placeInSize w v, rw f at (x .0), rw f at (x .1));
   rises = of-rises w n;
 }
 
--- The order of the sets of exceptions meets the rule of document 01, for any number of exceptions.
+-- The order of the sets of exceptions meets the rule of document 01, for any number of exceptions up to 64.
 pub order-rule : (w : ℕ) → w ≤ 64 → Ordered w (setAt w)
 order-rule w h = record {
   below = λ k l. stands-below w h k (setAt w k) (standing w k l);
@@ -208,7 +209,15 @@ order-rule w h = record {
   rises = λ j k l m. rises w h j k (setAt w j) (setAt w k) l (standing w j (omega arith)) (standing w k m);
 }
 
--- The entries that document 01 names, for twelve exceptions and for sixteen.
+-- The set at a place and the place of a set are inverse.
+pub inverse : (w : ℕ) → w ≤ 64 → ((v : ℕ) → v < 2 ^ w → (placeOf w v < 2 ^ w) × (setAt w (placeOf w v) ≡ v)) × ((k : ℕ) → k < 2 ^ w → placeOf w (setAt w k) ≡ k)
+inverse w h =
+    let rule = order-rule w h in (
+      place-there w,
+      λ k l. let x = place-there w (setAt w k) (rule .below k l) in once {w = w} {f = setAt w} rule (placeOf w (setAt w k)) k (x .0) l (x .1),
+    )
+
+-- The entries that document 01 names, for twelve exceptions, and document 02, (c), for sixteen.
 pub named : (setAt 12 0 ≡ 0) × (setAt 12 1 ≡ 1) × (setAt 12 2 ≡ 2) × (setAt 12 3 ≡ 4) × (setAt 12 13 ≡ 3) × (setAt 12 14 ≡ 5) × (setAt 12 4095 ≡ 4095)
 unfolding setAt fromSize ofSize count
 named = (refl, refl, refl, refl, refl, refl, refl)

@@ -8,12 +8,12 @@ use lib.Pow.{pow-mono}
 use Rattle.sets.specs.Sets.{bitOf, sizeTo}
 use Rattle.sets.proofs.Digits.{bit-lt, shifted}
 use Rattle.sets.proofs.Sizes.{size-most}
-use Rattle.order.specs.Formula.{count, countBelow, ofSize, setAt, rank, placeOf, widest}
+use Rattle.order.specs.Formula.{count, countBelow, ofSize, setAt, placeInSize, placeOf, widest}
 use Rattle.order.proofs.Rule.{below-mono, below-all, count-none, of-low, of-high, of-size, standing-there, place-there}
 use Rattle.order.proofs.Shares.{count-most}
 
 -- The sets of n of w numbers are those without the last and those with it.
-pub count-with : (w n c d : ℕ) → 0 < n → 0 < w → c ≡ count w n → d ≡ count (w - 1) n → (d ≤ c) × (c - d ≡ count (w - 1) (n - 1))
+count-with : (w n c d : ℕ) → 0 < n → 0 < w → c ≡ count w n → d ≡ count (w - 1) n → (d ≤ c) × (c - d ≡ count (w - 1) (n - 1))
 unfolding count
 count-with w zero c d p q ec ed = absurd (omega arith)
 count-with zero (suc n) c d p q ec ed = absurd (omega arith)
@@ -25,7 +25,7 @@ count-with (suc w) (suc n) c d p q ec ed =
 
 -- ---- the set of a size, from the largest number down
 -- Where there is a set of n of w numbers, n is at most w.
-pub some-fit : (w n k : ℕ) → k < count w n → n ≤ w
+some-fit : (w n k : ℕ) → k < count w n → n ≤ w
 some-fit w n k h = let over : w < n → ⊥ = λ l. let z = count-none w n l in omega arith in omega arith
 
 -- The number w is a member,
@@ -136,43 +136,43 @@ module _ {x place n c rest : ℕ} (b : Sizing x place n c rest) where
 
 -- ---- the place of a set among those of its size, from the largest number down
 -- The place so far, and that among the sets of `left` of the first w numbers.
-pub record Ranking (x t place w left c : ℕ) : Type 0 where
+pub record Finding (x t place w left c : ℕ) : Type 0 where
   pub small : x ≤ widest
   pub numbers : w ≤ x
   pub size-is : left ≡ sizeTo w t
   pub counted : c ≡ count w left
-  pub whole : place + rank w t ≡ rank x t
+  pub whole : place + placeInSize w t ≡ placeInSize x t
 
-rank-empty : (w t : ℕ) → sizeTo w t ≡ 0 → rank w t ≡ 0
-unfolding rank sizeTo
-rank-empty zero t e = refl
-rank-empty (suc w) t e =
+in-size-empty : (w t : ℕ) → sizeTo w t ≡ 0 → placeInSize w t ≡ 0
+unfolding placeInSize sizeTo
+in-size-empty zero t e = refl
+in-size-empty (suc w) t e =
     let z : bitOf t w ≡ 0 = omega arith in
-    let y = rank-empty w t (omega arith) in
+    let y = in-size-empty w t (omega arith) in
     rw z (omega arith)
 
-rank-most : (w t : ℕ) → rank w t ≤ 2 ^ w
-unfolding rank
-rank-most zero t = omega arith
-rank-most (suc w) t =
-    let x = rank-most w t in
+in-size-most : (w t : ℕ) → placeInSize w t ≤ 2 ^ w
+unfolding placeInSize
+in-size-most zero t = omega arith
+in-size-most (suc w) t =
+    let x = in-size-most w t in
     let y = count-most w (sizeTo (suc w) t) in
     let z : bitOf t w * count w (sizeTo (suc w) t) ≤ 1 * count w (sizeTo (suc w) t) = mul-le-mul-right (count w (sizeTo (suc w) t)) (let b = bit-lt t w in omega arith) in
     omega arith
 
 module _ (t : ℕ) where
-  ranked-last : (w left d : ℕ) → 0 < w → left ≡ sizeTo w t → d ≡ count (w - 1) left
-      → (left ≡ sizeTo (w - 1) t + bitOf t (w - 1)) × (rank w t ≡ rank (w - 1) t + bitOf t (w - 1) * d)
-  unfolding sizeTo rank
-  ranked-last zero left d p e f = absurd (omega arith)
-  ranked-last (suc w) left d p e f =
+  found-last : (w left d : ℕ) → 0 < w → left ≡ sizeTo w t → d ≡ count (w - 1) left
+      → (left ≡ sizeTo (w - 1) t + bitOf t (w - 1)) × (placeInSize w t ≡ placeInSize (w - 1) t + bitOf t (w - 1) * d)
+  unfolding sizeTo placeInSize
+  found-last zero left d p e f = absurd (omega arith)
+  found-last (suc w) left d p e f =
       let ew : suc w - 1 ≡ w = omega arith in
       let g = rw ew at f in
       rw (ew, g, e) (refl, refl)
 
-module _ {x t place w left c : ℕ} (b : Ranking x t place w left c) where
-  pub ranked : (0 < left → ⊥) → place ≡ rank x t
-  ranked z = let e : sizeTo w t ≡ 0 = omega (arith, b .size-is) in omega (arith, rank-empty w t e, b .whole)
+module _ {x t place w left c : ℕ} (b : Finding x t place w left c) where
+  pub found : (0 < left → ⊥) → place ≡ placeInSize x t
+  found z = let e : sizeTo w t ≡ 0 = omega (arith, b .size-is) in omega (arith, in-size-empty w t e, b .whole)
 
   pub size-fits : left ≤ w
   size-fits = let s = size-most w t in omega (arith, b .size-is)
@@ -182,11 +182,11 @@ module _ {x t place w left c : ℕ} (b : Ranking x t place w left c) where
     some-there = let l = size-fits in omega arith
 
     module _ {d : ℕ} (e : d ≡ count (w - 1) left) where
-      last : (left ≡ sizeTo (w - 1) t + bitOf t (w - 1)) × (rank w t ≡ rank (w - 1) t + bitOf t (w - 1) * d)
-      last = ranked-last t w left d some-there (b .size-is) e
+      last : (left ≡ sizeTo (w - 1) t + bitOf t (w - 1)) × (placeInSize w t ≡ placeInSize (w - 1) t + bitOf t (w - 1) * d)
+      last = found-last t w left d some-there (b .size-is) e
 
-      pub ranked-without : bitOf t (w - 1) ≡ 0 → Ranking x t place (w - 1) left d
-      ranked-without z = record {
+      pub found-without : bitOf t (w - 1) ≡ 0 → Finding x t place (w - 1) left d
+      found-without z = record {
         small = b .small;
         numbers = omega (arith, b .numbers);
         size-is = omega (arith, last .0);
@@ -204,22 +204,22 @@ module _ {x t place w left c : ℕ} (b : Ranking x t place w left c) where
         pub part-fits : d ≤ c
         part-fits = both-counted .0
 
-        rank-last : rank w t ≡ rank (w - 1) t + d
-        rank-last = let y = rw set-there at (last .1) in omega arith
+        in-size-last : placeInSize w t ≡ placeInSize (w - 1) t + d
+        in-size-last = let y = rw set-there at (last .1) in omega arith
 
         pub place-stays : place + d < 2 ^ 64
         place-stays =
-            let y = rank-most x t in
+            let y = in-size-most x t in
             let z : 2 ^ x ≤ 2 ^ widest = pow-mono (b .small) in
-            omega (arith, rank-last, b .whole)
+            omega (arith, in-size-last, b .whole)
 
-        pub ranked-with : Ranking x t (place + d) (w - 1) (left - 1) (c - d)
-        ranked-with = record {
+        pub found-with : Finding x t (place + d) (w - 1) (left - 1) (c - d)
+        found-with = record {
           small = b .small;
           numbers = omega (arith, b .numbers);
           size-is = omega (arith, last .0, set-there);
           counted = both-counted .1;
-          whole = omega (arith, rank-last, b .whole);
+          whole = omega (arith, in-size-last, b .whole);
         }
 
 -- ---- the place of a set
@@ -231,7 +231,7 @@ pub record Summing (x t n c before : ℕ) : Type 0 where
   pub counted : c ≡ count x n
   pub whole : before ≡ countBelow x n
 
-place-is : (x t : ℕ) → placeOf x t ≡ countBelow x (sizeTo x t) + rank x t
+place-is : (x t : ℕ) → placeOf x t ≡ countBelow x (sizeTo x t) + placeInSize x t
 unfolding placeOf
 place-is x t = refl
 
@@ -257,12 +257,9 @@ module _ {x t n c before : ℕ} (b : Summing x t n c before) where
     pub size-reached : n ≡ sizeTo x t
     size-reached = omega (arith, b .fits)
 
-    module _ {r : ℕ} (e : r ≡ rank x t) where
-      place-reached : before + r ≡ placeOf x t
+    module _ {r : ℕ} (e : r ≡ placeInSize x t) where
+      pub place-reached : before + r ≡ placeOf x t
       place-reached = let g = rw size-reached at (b .whole) in omega (arith, place-is x t)
 
-      pub placed : (before + r < 2 ^ x) × (setAt x (before + r) ≡ t)
-      placed = rw place-reached (place-there x t (b .inside))
-
       pub placed-fits : before + r < 2 ^ 64
-      placed-fits = let p = placed .0 in let w = all-places in omega arith
+      placed-fits = let p = place-there x t (b .inside) .0 in let e = place-reached in let w = all-places in omega arith

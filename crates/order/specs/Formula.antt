@@ -1,6 +1,6 @@
--- How the set at a place is worked out, from how many sets there are of each size (document 02, (b)), for any number w of exceptions.
--- Nothing is to be believed of it: `order-rule` in proofs/Rule.antt says that it meets the rule of Order.antt.
-use Prim.Native.Nat.{ℕ, zero, suc, _+_, _-_, _*_, _/_, _%_, _^_, _<_, _≤_}
+-- How the set at a place is worked out, from how many sets there are of each size (document 02, (b)). Nothing is to be believed of it:
+-- `order-rule` in proofs/Rule.antt says that it meets the rule of Order.antt, for any number w of exceptions up to 64.
+use Prim.Native.Nat.{ℕ, zero, suc, _+_, _-_, _*_, _^_, _<_}
 use mathlib.Core.Path.{_≡_}
 use mathlib.Core.Bool.{true, false}
 use lib.Dec.{ltb}
@@ -33,29 +33,20 @@ unfoldable pub setAt : ℕ → ℕ → ℕ
 setAt w place = fromSize w (suc w) 0 place
 
 -- The place of v among the sets of its size: each of its numbers stands after the sets of as many numbers that are all smaller.
-unfoldable pub rank : ℕ → ℕ → ℕ
-rank zero v = 0
-rank (suc w) v = rank w v + bitOf v w * count w (sizeTo (suc w) v)
+unfoldable pub placeInSize : ℕ → ℕ → ℕ
+placeInSize zero v = 0
+placeInSize (suc w) v = placeInSize w v + bitOf v w * count w (sizeTo (suc w) v)
 
 -- The place of v in the order: after the sets of fewer numbers.
 unfoldable pub placeOf : ℕ → ℕ → ℕ
-placeOf w v = countBelow w (sizeTo w v) + rank w v
+placeOf w v = countBelow w (sizeTo w v) + placeInSize w v
 
--- The set r follows the set t in the order of the sets of w exceptions.
-pub record Follows (w t r : ℕ) : Type 0 where
+-- The set r is the next one after t in the order of the sets of w exceptions. After the last set there is none, and r may be anything.
+pub record NextSet (w t r : ℕ) : Type 0 where
   pub next : (k : ℕ) → k + 1 < 2 ^ w → setAt w k ≡ t → setAt w (k + 1) ≡ r
 
--- The lowest run of ones of the set t stands at the places from a, before b, of x; `carried` is t with the run carried into a one at b.
-pub record Run (x t a b carried : ℕ) : Type 0 where
-  pub some : a < b
-  pub within : b ≤ x
-  pub ones : t % 2 ^ b + 2 ^ a ≡ 2 ^ b
-  pub ends : bitOf t b ≡ 0
-  pub is : carried ≡ (t / 2 ^ b + 1) * 2 ^ b
-  pub most : carried ≤ 2 ^ x
-
 -- The c places of f have each set of n of the numbers 1 to w once, the smaller number first: there are c such sets.
-pub record Lists (w n c : ℕ) (f : ℕ → ℕ) : Type 0 where
+pub record AllOfSize (w n c : ℕ) (f : ℕ → ℕ) : Type 0 where
   pub sets : (k : ℕ) → k < c → (f k < 2 ^ w) × (size (f k) ≡ n)
   pub present : (v : ℕ) → v < 2 ^ w → size v ≡ n → (k : ℕ) × (k < c) × (f k ≡ v)
   pub rises : (j k : ℕ) → j < k → k < c → f j < f k

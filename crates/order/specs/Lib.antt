@@ -1,2 +1,3 @@
 pub mod Formula
 pub mod Order
+pub mod Runs

@@ -1,4 +1,4 @@
--- The order of the sets of taken exceptions (document 01, 'The order of pairs'), for any number w of exceptions.
+-- The order of the sets of taken exceptions (document 01, 'The order of pairs'), for any number w of exceptions up to 64.
 use Prim.Native.Nat.{ℕ, _^_, _<_}
 use mathlib.Core.Path.{_≡_}
 use Rattle.sets.specs.Sets.{size}

@@ -2,7 +2,11 @@
 ghost use mathlib.Core.Path.{_≡_};
 ghost use Prim.Native.Nat.{_+_, _-_, _^_, _<_, _≤_};
 ghost use Rattle.sets.specs.Sets.{sizeTo};
-ghost use Rattle.order.specs.Formula.{count as countOf, ofSize, rank, setAt, Follows, Run, widest};
+ghost use Rattle.order.specs.Formula.{count as countOf, ofSize, placeInSize, placeOf, setAt, NextSet, widest};
+ghost use Rattle.order.specs.Runs.{Run};
+
+// How many sets there are of no numbers.
+const EMPTY_SETS: usize = 1;
 
 // How many sets of x exceptions there are: the places of their order.
 pub fn place_count(x: usize) -> usize
@@ -59,7 +63,7 @@ pub fn set_at(x: usize, place: usize) -> u64
     ensures { λ r. ⌜ r ≡ setAt x place ⌝ }
 {
     let mut n = 0;
-    let mut count = 1;
+    let mut count = EMPTY_SETS;
     let mut rest = place;
     while count <= rest {
         rest -= count;
@@ -70,9 +74,9 @@ pub fn set_at(x: usize, place: usize) -> u64
 }
 
 // The place of the set t among the `count` sets of its size n: from the largest number down, a member stands after the sets without it.
-pub fn rank_of(x: usize, n: usize, count: usize, t: u64) -> usize
+pub fn place_in_size(x: usize, n: usize, count: usize, t: u64) -> usize
     requires { ⌜ (x ≤ widest) × (n ≡ sizeTo x t) × (count ≡ countOf x n) ⌝ }
-    ensures { λ r. ⌜ r ≡ rank x t ⌝ }
+    ensures { λ r. ⌜ r ≡ placeInSize x t ⌝ }
 {
     let mut place = 0;
     let mut w = x;
@@ -95,18 +99,18 @@ pub fn rank_of(x: usize, n: usize, count: usize, t: u64) -> usize
 // The place in the order of a set of x exceptions: after the sets of every smaller size.
 pub fn place_of(x: usize, t: u64) -> usize
     requires { ⌜ (x ≤ widest) × (t < 2 ^ x) ⌝ }
-    ensures { λ r. ⌜ (r < 2 ^ x) × (setAt x r ≡ t) ⌝ }
+    ensures { λ r. ⌜ r ≡ placeOf x t ⌝ }
 {
     let size = sets::size(t) as usize;
     let mut n = 0;
-    let mut count = 1;
+    let mut count = EMPTY_SETS;
     let mut before = 0;
     while n < size {
         before += count;
         count = of_next_size(x, n, count);
         n += 1;
     }
-    before + rank_of(x, n, count, t)
+    before + place_in_size(x, n, count, t)
 }
 
 // The lowest run of ones of a set: the place where it begins, the place after it, and the set with the run carried into a one there.
@@ -134,7 +138,7 @@ pub fn lowest_run(x: usize, t: u64) -> LowestRun
 // end; where the run ends with the last exception, the next size begins.
 pub fn next(x: usize, t: u64) -> u64
     requires { ⌜ (x ≤ widest) × (t < 2 ^ x) ⌝ }
-    ensures { λ r. ⌜ Follows x t r ⌝ }
+    ensures { λ r. ⌜ NextSet x t r ⌝ }
 {
     if t == 0 {
         return 1;

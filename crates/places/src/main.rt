@@ -14,26 +14,42 @@ fn end() {
     io::write_all(1, b"\n");
 }
 
+// How many ones a word has, one digit after the other.
+fn ones(t: u64) -> u64 {
+    let mut count = 0;
+    let mut place: u64 = 0;
+    while place < 64 {
+        count = std::num::wrapping_add_u64(count, (t >> place) % 2);
+        place += 1;
+    }
+    count
+}
+
 // The set a comes before the set b: fewer members, then the smaller number.
 fn before(a: u64, b: u64) -> bool {
-    let m = sets::size(a);
-    let n = sets::size(b);
+    let m = ones(a);
+    let n = ones(b);
     if m == n {
         return a < b;
     }
     m < n
 }
 
-// 1 where the place of the set at this place is this place, and the next set is that at the next place and comes later; else 0.
+// 1 where the set at this place is one of x exceptions, its place is this place, and the next set is that at the next place and comes later; else 0.
+// Where all places are sound their sets rise, so they are all sets in their order.
 fn sound(x: usize, place: usize) -> u64
     requires { ⌜ (x ≤ widest) × (place < 2 ^ x) ⌝ }
 {
+    let places = order::place_count(x);
     let t = order::set_at(x, place);
+    if places as u64 <= t {
+        return 0;
+    }
     if order::place_of(x, t) != place {
         return 0;
     }
     let next = place + 1;
-    if order::place_count(x) <= next {
+    if places <= next {
         return 1;
     }
     let u = order::next(x, t);

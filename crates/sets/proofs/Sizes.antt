@@ -32,7 +32,7 @@ size-zero zero = refl
 size-zero (suc k) = let x = size-zero k in let y = bit-zero k in omega arith
 
 -- Of no numbers there is none.
-pub size-none : (a : ℕ) → sizeTo 0 a ≡ 0
+size-none : (a : ℕ) → sizeTo 0 a ≡ 0
 unfolding sizeTo
 size-none a = refl
 

@@ -185,9 +185,6 @@ apart-separate a b f i e d =
     let q = eqb-true (bitOf b (i - 1)) 1 d in
     omega (arith, f (i - 1))
 
-pub contained-le : (a b : ℕ) → Contained a b → a ≤ b
-contained-le a b f = sub-le a b (contained-within a b f)
-
 pub contained-same : (a b : ℕ) → Contained a b → Contained b a → a ≡ b
 contained-same a b f g = both-ways a b (contained-within a b f) (contained-within b a g)
 

@@ -17,16 +17,16 @@ use Rattle.book.specs.Limits.{exceptions}
 use Rattle.book.specs.Kinds.{setCount}
 use Rattle.masks.specs.declared.Bounds.{Bounds}
 use Rattle.order.specs.Order.{Earlier, fewer, smaller, Ordered}
-use Rattle.order.specs.Formula.{setAt, Follows}
+use Rattle.order.specs.Formula.{setAt, placeOf, NextSet}
 use Rattle.order.proofs.Places.{place-earlier}
-use Rattle.order.proofs.Rule.{order-rule}
+use Rattle.order.proofs.Rule.{order-rule, inverse}
 use Rattle.meaning.specs.Books.{Book}
 use Rattle.meaning.specs.Order as order
 use Rattle.meaning.specs.Order.{Before, Point, LawfulPoint, AllLater}
 use Rattle.meaning.proofs.Parts.{Part, part-none, part-join, part-all, part-there}
-use Rattle.walk.specs.declared.Placed.{Placed}
-use Rattle.walk.specs.Plans.{Barred}
-use Rattle.walk.specs.Walks.{Passed, Standing, Skipped}
+use Rattle.walk.specs.declared.Position.{Position}
+use Rattle.walk.specs.Plans.{RuledOut}
+use Rattle.walk.specs.Walks.{Passed, AtPlace, Skipped}
 use Rattle.walk.proofs.Steps.{subset-earlier}
 
 -- A pair with an earlier set comes before.
@@ -34,32 +34,45 @@ earlier-before : (p q : Pair) → Earlier (p .taken) (q .taken) → Before p q
 earlier-before p q (fewer l) = order.fewer l
 earlier-before p q (smaller e l) = order.smaller e l
 
+-- From place p to place r a look is enough.
+pub record Skipping (x : ℕ) (root : Bounds) (marks : List ℕ) (p r : Position) : Type 0 where
+  pub from : p .place ≤ r .place
+  pub stands : AtPlace x r
+  pub ruled-out : (i : ℕ) → p .place ≤ i → i < r .place → RuledOut root marks (setAt x i)
+
 module _ (x : ℕ) (small : x ≤ exceptions) where
   rule : Ordered x (setAt x)
   rule = order-rule x (omega arith)
 
   -- ---- the set at a place
-  module _ (p : Placed) (s : Standing x p) (h : p .place < 2 ^ x) where
+  module _ (p : Position) (s : AtPlace x p) (h : p .place < 2 ^ x) where
     pub set-inside : p .set < 2 ^ x
     set-inside = rw (s .is h) (rule .below (p .place) h)
 
     pub set-marked : p .set < setCount
     set-marked = lt-of-lt-of-le set-inside (pow-mono small)
 
-    pub standing-next : (u : ℕ) → Follows x (p .set) u → Standing x (record { place = p .place + 1; set = u })
-    standing-next u f = record { to = omega arith; is = λ l. sym (f .next (p .place) l (sym (s .is h))) }
+    pub position-next : (u : ℕ) → NextSet x (p .set) u → AtPlace x (record { place = p .place + 1; set = u })
+    position-next u f = record { to = omega arith; is = λ l. sym (f .next (p .place) l (sym (s .is h))) }
 
-  module _ (root : Bounds) (marks : List ℕ) (p : Placed) where
-    pub skipped-none : Standing x p → Skipped x root marks p p
-    skipped-none s = record { from = le-refl _; stands = s; barred = λ i a b. absurd (omega arith) }
+  -- The place of a set, by its formula.
+  pub place-there : (t place : ℕ) → t < 2 ^ x → place ≡ placeOf x t → (place < 2 ^ x) × (setAt x place ≡ t)
+  place-there t place h e = rw e (inverse x (omega arith) .0 t h)
 
-    pub skipped-more : (r : Placed) → Skipped x root marks p r → r .place < 2 ^ x → Barred root marks (r .set) → (u : ℕ) → Follows x (r .set) u
-        → Skipped x root marks p (record { place = r .place + 1; set = u })
-    skipped-more r s h f u n = record {
-      from = omega (arith, s .from);
-      stands = standing-next r (s .stands) h u n;
-      barred = λ i a b. ⊎-elim (λ l. s .barred i a l) (λ l. let e : i ≡ r .place = omega arith in rw (e, ← s .stands .is h) f) (lt-or-le i (r .place));
-    }
+  module _ (root : Bounds) (marks : List ℕ) (p : Position) where
+    pub skipping-none : AtPlace x p → Skipping x root marks p p
+    skipping-none s = record { from = le-refl _; stands = s; ruled-out = λ i a b. absurd (omega arith) }
+
+    module _ (r : Position) (s : Skipping x root marks p r) where
+      pub skipping-more : r .place < 2 ^ x → RuledOut root marks (r .set) → (u : ℕ) → NextSet x (r .set) u → Skipping x root marks p (record { place = r .place + 1; set = u })
+      skipping-more h f u n = record {
+        from = omega (arith, s .from);
+        stands = position-next r (s .stands) h u n;
+        ruled-out = λ i a b. ⊎-elim (λ l. s .ruled-out i a l) (λ l. let e : i ≡ r .place = omega arith in rw (e, ← s .stands .is h) f) (lt-or-le i (r .place));
+      }
+
+      pub skipped : (r .place < 2 ^ x → RuledOut root marks (r .set) → ⊥) → Skipped x root marks p r
+      skipped o = record { from = s .from; stands = s .stands; ruled-out = s .ruled-out; undecided = o }
 
   -- ---- the places passed
   -- A set at an earlier place.

@@ -8,7 +8,8 @@ use Prim.Native.Nat.{ℕ, _+_, _^_, _<_, _≤_}
 use native.Mathlib.Nat.{le-refl, le-trans}
 use native.Mathlib.Omega.{arith}
 use lib.ListN.{length, getD}
-use borrow.Author.Tests.{not-true}
+use lib.Dec.{eqb}
+use borrow.Author.Tests.{eqb-true, eqb-false, not-true, not-false}
 use Rattle.logic.specs.Tests.{Decides}
 use Rattle.logic.proofs.Decide.{clash, holds-or-not, decides-eq}
 use Rattle.sets.specs.declared.Pair.{Pair}
@@ -33,7 +34,7 @@ use Rattle.walk.specs.Marks.{Struck, shares, between, IsMarked, Marked, 
 use Rattle.walk.specs.declared.ranges.Range.{Range}
 use Rattle.resolution.specs.Rooted.{Rooted}
 use Rattle.resolution.proofs.Resolutions.{resolution-same}
-use Rattle.walk.specs.Plans.{NoView, HasView, Wider, Told, Full, MarksRight, Admits, Bounded, Barred, marked, beyond, short}
+use Rattle.walk.specs.Plans.{NoView, HasView, Wider, Told, Full, MarksRight, Admits, Bounded, RuledOut, marked, beyond, short}
 use Rattle.walk.proofs.Steps.{all-within}
 use Rattle.walk.proofs.Marks.{right-more}
 
@@ -157,6 +158,22 @@ module _ (ws : List ℕ) (n : ℕ) (ranks : List ℕ) (root : Bounds) (t : ℕ) 
       let i = propagated-in ws n ranks (withSets root t t) o p (f .0) (f .2) in
       record { some = (f .0, f .1, in-root root t t (f .0) i, one-set root t (f .0) i) }
 
+-- ---- what a look tells
+module _ (root : Bounds) (t : ℕ) (m : List ℕ) where
+  pub out-marked : IsMarked m t → Decides true (RuledOut root m t)
+  out-marked k = record { yes = λ e. marked k; no = λ e. absurd (clash (sym e)) }
+
+  pub out-beyond : (without t (root .hi .taken) ≡ 0 → ⊥) → Decides true (RuledOut root m t)
+  out-beyond k = record { yes = λ e. beyond k; no = λ e. absurd (clash (sym e)) }
+
+  pub out-short : getD m t 0 ≡ 0 → without t (root .hi .taken) ≡ 0 → Decides (not (eqb (without (root .lo .taken) t) 0)) (RuledOut root m t)
+  out-short a b = record { yes = λ e. short (eqb-false _ _ (not-true _ e)); no = λ e o. none (eqb-true _ _ (not-false _ e)) o }
+    where
+      none : without (root .lo .taken) t ≡ 0 → RuledOut root m t → ⊥
+      none c (marked k) = k a
+      none c (beyond k) = k b
+      none c (short k) = k c
+
 -- ---- what admits answers
 module _ (ws : List ℕ) (n : ℕ) (ranks : List ℕ) (root : Bounds) (t : ℕ) (known : Bool) (m : List ℕ) where
   -- No view has the set.
@@ -170,16 +187,16 @@ module _ (ws : List ℕ) (n : ℕ) (ranks : List ℕ) (root : Bounds) (t : ℕ) 
   }
 
   -- A look is enough.
-  pub admits-barred : Barred root m t → Admits ws n ranks root t known m m false
-  admits-barred (marked k) = record {
+  pub admits-ruled-out : RuledOut root m t → Admits ws n ranks root t known m m false
+  admits-ruled-out (marked k) = record {
     marks = marks-same ws n ranks root m;
     told = λ f. f .told t k;
     refuses = λ e b r w. w .right t k;
     accepts = λ e. absurd (clash e);
     lawful = λ e. absurd (clash e);
   }
-  admits-barred (beyond x) = admits-none m (record { none = λ v k i. x (zero-minus t (root .hi .taken) (λ j. le-trans (set-above root t t v i j) (in-root root t t v i .hi .taken j))) }) (marks-same ws n ranks root m)
-  admits-barred (short x) = admits-none m (record { none = λ v k i. x (zero-minus (root .lo .taken) t (λ j. le-trans (in-root root t t v i .lo .taken j) (set-below root t t v i j))) }) (marks-same ws n ranks root m)
+  admits-ruled-out (beyond x) = admits-none m (record { none = λ v k i. x (zero-minus t (root .hi .taken) (λ j. le-trans (set-above root t t v i j) (in-root root t t v i .hi .taken j))) }) (marks-same ws n ranks root m)
+  admits-ruled-out (short x) = admits-none m (record { none = λ v k i. x (zero-minus (root .lo .taken) t (λ j. le-trans (in-root root t t v i .lo .taken j) (set-below root t t v i j))) }) (marks-same ws n ranks root m)
 
   -- A view within root has the set.
   module _ (h : HasView ws n ranks root t) (m′ : List ℕ) (p : Surpassed ranks t m m′) where

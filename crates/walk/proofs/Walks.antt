@@ -39,12 +39,12 @@ use Rattle.meaning.proofs.Ordered.{before-irreflexive, before-transitive}
 use Rattle.meaning.proofs.Parts.{Part, part-none, part-same}
 use Rattle.bridge.proofs.Views.{view-same}
 use Rattle.admissible.specs.Admissible.{Minimal}
-use Rattle.walk.specs.declared.Placed.{Placed}
+use Rattle.walk.specs.declared.Position.{Position}
 use Rattle.walk.specs.Marks.{IsMarked, RightMarks}
-use Rattle.walk.specs.Plans.{Told, MarksRight, Rests, Admits, Bounded, Barred}
+use Rattle.walk.specs.Plans.{Told, MarksRight, Rests, Admits, Bounded, RuledOut}
 use Rattle.resolution.proofs.Resolutions.{resolution-same}
 use Rattle.walk.specs.Walks.{Passed, Serves, SetListed, Skipped, Beyond, Ready, Walked, FirstPage, PageAfter}
-use Rattle.walk.proofs.Plans.{marks-same, marks-more, told-kept, admits-barred, in-bounds, bounds-in}
+use Rattle.walk.proofs.Plans.{marks-same, marks-more, told-kept, admits-ruled-out, in-bounds, bounds-in}
 use Rattle.walk.proofs.Places.{at-or-past, subset-place, none-yet, one-more, all-places, cut-short}
 
 -- Nothing is marked at first.
@@ -182,9 +182,9 @@ module _ (ws ranks : List ℕ) (root : Bounds) (q : Task) (wide : ℕ) (small : 
     }
 
     -- A set of which a look tells that no resolution has it.
-    going-past : j < 2 ^ wide → Barred root n (setAt wide j) → Going ws ranks root q wide first known at m o (j + 1) k n p
+    going-past : j < 2 ^ wide → RuledOut root n (setAt wide j) → Going ws ranks root q wide first known at m o (j + 1) k n p
     going-past h f =
-        going-next h (setAt wide j) refl n p k (set-refused ws ranks root q (setAt wide j) false known k n n false (admits-barred ws (q .rules) ranks root (setAt wide j) known n f) p refl (g .fits .place)) refl
+        going-next h (setAt wide j) refl n p k (set-refused ws ranks root q (setAt wide j) false known k n n false (admits-ruled-out ws (q .rules) ranks root (setAt wide j) known n f) p refl (g .fits .place)) refl
 
     -- All places have been passed.
     pub walked-all : 2 ^ wide ≤ j → Walked ws ranks root q wide first known at m o p k
@@ -205,18 +205,18 @@ module _ (ws ranks : List ℕ) (root : Bounds) (q : Task) (wide : ℕ) (small : 
     }
 
   -- Places at which a look is enough.
-  going-over : (d j k : ℕ) (n p : List ℕ) → j + d ≤ 2 ^ wide → Going ws ranks root q wide first known at m o j k n p → ((i : ℕ) → j ≤ i → i < j + d → Barred root n (setAt wide i))
+  going-over : (d j k : ℕ) (n p : List ℕ) → j + d ≤ 2 ^ wide → Going ws ranks root q wide first known at m o j k n p → ((i : ℕ) → j ≤ i → i < j + d → RuledOut root n (setAt wide i))
       → Going ws ranks root q wide first known at m o (j + d) k n p
   going-over zero j k n p h g f = let e : j + 0 ≡ j = omega arith in rw e g
   going-over (suc d) j k n p h g f =
       let e : j + suc d ≡ j + 1 + d = omega arith in
       rw e (going-over d (j + 1) k n p (omega arith) (going-past j k n p g (omega arith) (f j (omega arith) (omega arith))) (λ i a b. f i (omega arith) (omega arith)))
 
-  pub going-on : (j k : ℕ) (n p : List ℕ) → Going ws ranks root q wide first known at m o j k n p → (s r : Placed) → s .place ≡ j → Skipped wide root n s r
+  pub going-on : (j k : ℕ) (n p : List ℕ) → Going ws ranks root q wide first known at m o j k n p → (s r : Position) → s .place ≡ j → Skipped wide root n s r
       → Going ws ranks root q wide first known at m o (r .place) k n p
   going-on j k n p g s r e x =
       let f : j + (r .place - j) ≡ r .place = omega (arith, x .from) in
-      rw f at (going-over (r .place - j) j k n p (omega (arith, x .stands .to, f)) g (λ i a b. x .barred i (omega arith) (omega (arith, f))))
+      rw f at (going-over (r .place - j) j k n p (omega (arith, x .stands .to, f)) g (λ i a b. x .ruled-out i (omega arith) (omega (arith, f))))
 
 -- ---- whole pages
 pub none-marked : (b : Book) (k : ℕ) → RightMarks b (replicate k 0)

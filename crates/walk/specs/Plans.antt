@@ -60,7 +60,7 @@ pub record Bounded (ws : List ℕ) (n : ℕ) (ranks : List ℕ) (root : Bounds) 
   pub propagated : r ≡ true → Propagated ws n ranks (withSets root t t) o
 
 -- A look is enough to see that no resolution has the set t: it is marked, or it is not between the sets of root.
-pub data Barred (root : Bounds) (marks : List ℕ) (t : ℕ) : Type 0 where
-  marked : IsMarked marks t → Barred root marks t
-  beyond : (without t (root .hi .taken) ≡ 0 → ⊥) → Barred root marks t
-  short : (without (root .lo .taken) t ≡ 0 → ⊥) → Barred root marks t
+pub data RuledOut (root : Bounds) (marks : List ℕ) (t : ℕ) : Type 0 where
+  marked : IsMarked marks t → RuledOut root marks t
+  beyond : (without t (root .hi .taken) ≡ 0 → ⊥) → RuledOut root marks t
+  short : (without (root .lo .taken) t ≡ 0 → ⊥) → RuledOut root marks t

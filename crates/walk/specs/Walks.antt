@@ -14,10 +14,10 @@ use Rattle.page.specs.Pages.{Page}
 use Rattle.meaning.specs.Books.{Book, Lawful}
 use Rattle.meaning.specs.Order.{Point, start, at, LawfulPoint, Later, AllLater}
 use Rattle.meaning.proofs.Parts.{Part}
-use Rattle.walk.specs.declared.Placed.{Placed}
+use Rattle.walk.specs.declared.Position.{Position}
 use Rattle.walk.specs.Marks.{RightMarks}
 use Rattle.resolution.specs.Rooted.{Rooted}
-use Rattle.walk.specs.Plans.{Told, Full, MarksRight, Rests, Barred}
+use Rattle.walk.specs.Plans.{Told, Full, MarksRight, Rests, RuledOut}
 
 -- The pair's set of exceptions stands at one of the first j places of the order of the sets of x exceptions.
 abbrev pub Passed : ℕ → ℕ → Pair → Type 0
@@ -38,15 +38,16 @@ pub record SetListed (ws ranks : List ℕ) (root : Bounds) (q : Task) (t : ℕ) 
       → (ys : List Pair) × Page (q .room) k o o′ ys r × Part b from (λ p. p .taken ≡ t) ys
 
 -- The set stands at the place of the order of the sets of x exceptions, unless that is its end.
-pub record Standing (x : ℕ) (p : Placed) : Type 0 where
+pub record AtPlace (x : ℕ) (p : Position) : Type 0 where
   pub to : p .place ≤ 2 ^ x
   pub is : p .place < 2 ^ x → p .set ≡ setAt x (p .place)
 
--- From place p to place r a look is enough to see that no resolution has the sets.
-pub record Skipped (x : ℕ) (root : Bounds) (marks : List ℕ) (p r : Placed) : Type 0 where
+-- The place r is the first from p on at which a look is not enough, or the end.
+pub record Skipped (x : ℕ) (root : Bounds) (marks : List ℕ) (p r : Position) : Type 0 where
   pub from : p .place ≤ r .place
-  pub stands : Standing x r
-  pub barred : (i : ℕ) → p .place ≤ i → i < r .place → Barred root marks (setAt x i)
+  pub stands : AtPlace x r
+  pub ruled-out : (i : ℕ) → p .place ≤ i → i < r .place → RuledOut root marks (setAt x i)
+  pub undecided : r .place < 2 ^ x → RuledOut root marks (r .set) → ⊥
 
 -- From place j on every pair is later than the point.
 pub record Beyond (x : ℕ) (from : Point) (j : ℕ) : Type 0 where

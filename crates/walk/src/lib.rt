@@ -3,13 +3,14 @@ ghost use mathlib.Core.Path.{_≡_};
 ghost use mathlib.Core.Bool.{true, false};
 ghost use Prim.Native.Nat.{_*_, _^_, _<_, _≤_};
 ghost use lib.ListN.{length};
+ghost use Rattle.logic.specs.Tests.{Decides};
 ghost use Rattle.book.specs.Limits.{exceptions};
 ghost use Rattle.book.specs.Kinds.{setCount};
 ghost use Rattle.queue.specs.Chains.{Chains};
 ghost use Rattle.page.specs.Pages.{Fits};
 ghost use Rattle.few.specs.Few.{most, Collected};
-ghost use Rattle.walk.specs.Walks.{SetListed, Standing, Skipped, Walked, FirstPage, PageAfter};
-ghost use Rattle.walk.specs.Plans.{NoView, HasView, MarksRight, Admits, Bounded, Barred};
+ghost use Rattle.walk.specs.Walks.{SetListed, AtPlace, Skipped, Walked, FirstPage, PageAfter};
+ghost use Rattle.walk.specs.Plans.{NoView, HasView, MarksRight, Admits, Bounded, RuledOut};
 use book::Book;
 use marking::Marks;
 use marking::Strike;
@@ -284,9 +285,9 @@ pub fn list_set(
 }
 
 // A look is enough to see that no resolution has the set t: it is marked, or it is not between the root's sets.
-pub fn barred(root: Bounds, marks: &Marks, t: u64) -> bool
+pub fn ruled_out(root: Bounds, marks: &Marks, t: u64) -> bool
     requires { ⌜ t < setCount ⌝ }
-    ensures { λ r. ⌜ (r ≡ true → Barred root (now (marks .entry)) t) ⌝ }
+    ensures { λ r. ⌜ Decides r (RuledOut root (now (marks .entry)) t) ⌝ }
 {
     let place = t as usize;
     if marks[place] != 0 {
@@ -299,27 +300,27 @@ pub fn barred(root: Bounds, marks: &Marks, t: u64) -> bool
 }
 
 // A place of the order of the sets, and the set there.
-pub struct Placed {
+pub struct Position {
     pub place: usize,
     pub set: u64,
 }
 
 // The first place from p on at which a look is not enough, or the end of the order of the sets of x exceptions.
-pub fn past_barred(x: usize, root: Bounds, marks: &Marks, p: Placed) -> Placed
-    requires { ⌜ (x ≤ exceptions) × Standing x p ⌝ }
+pub fn past_ruled_out(x: usize, root: Bounds, marks: &Marks, p: Position) -> Position
+    requires { ⌜ (x ≤ exceptions) × AtPlace x p ⌝ }
     ensures { λ r. ⌜ Skipped x root (now (marks .entry)) p r ⌝ }
 {
     let places = order::place_count(x);
     let mut place = p.place;
     let mut set = p.set;
     while place < places {
-        if !barred(root, marks, set) {
-            return Placed { place, set };
+        if !ruled_out(root, marks, set) {
+            return Position { place, set };
         }
         set = order::next(x, set);
         place += 1;
     }
-    Placed { place, set }
+    Position { place, set }
 }
 
 // Puts the resolutions with the sets of x exceptions from place `from` on on the page, until it is full. Where `known` is true, the sets before that
@@ -342,16 +343,16 @@ pub fn walk(
     ensures { λ r. ⌜ Walked (now (words .entry)) (now (ranks .entry)) root task x from known (filled .at) (now (marks .entry)) (now (out .entry)) (now (out .exit)) r ⌝ }
 {
     let places = order::place_count(x);
+    if task.room <= filled.at {
+        return filled.at;
+    }
     if places <= from {
         return filled.at;
     }
     let set = order::set_at(x, from);
-    let mut p = past_barred(x, root, marks, Placed { place: from, set });
+    let mut p = past_ruled_out(x, root, marks, Position { place: from, set });
     let mut f = filled;
     while p.place < places {
-        if task.room <= f.at {
-            return f.at;
-        }
         f = list_set(
             words,
             ranks,
@@ -366,9 +367,12 @@ pub fn walk(
             store,
             out,
         );
+        if task.room <= f.at {
+            return f.at;
+        }
         let place = p.place + 1;
         let set = order::next(x, p.set);
-        p = past_barred(x, root, marks, Placed { place, set });
+        p = past_ruled_out(x, root, marks, Position { place, set });
     }
     f.at
 }

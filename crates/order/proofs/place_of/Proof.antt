@@ -4,7 +4,7 @@ use native.Mathlib.Omega.{arith}
 use borrow.Author.Needs.{needs}
 use Rattle.sets.specs.Sets.{sizeTo}
 use Rattle.sets.proofs.Sizes.{size-narrow}
-use Rattle.order.proofs.Turns.{Summing, none-below, size-inside, more-fits, size-added, size-reached, placed, placed-fits}
+use Rattle.order.proofs.Turns.{Summing, none-below, size-inside, more-fits, size-added, size-reached, place-reached, placed-fits}
 use Rattle.order.proofs.place_of.Statement.{statement}
 use Rattle.order.proofs.place_of.Tie as tie
 
@@ -38,14 +38,14 @@ loop-less c = omega arith
 loop-again : tie.Need-loop-again Inv-loop μ-loop
 loop-again c = (size-added (c .before .before .loop .inv .0) (omega (arith, c .before .before .loop .inv .1)) (c .of-next-size .ensures), c .before .before .loop .inv .1)
 
-rank-of-requires : tie.Need-rank-of-requires Inv-loop μ-loop
-rank-of-requires c κs = let b = c .before .loop .inv .0 in (b .small, size-reached b (omega (arith, c .before .loop .inv .1)), b .counted)
+place-in-size-requires : tie.Need-place-in-size-requires Inv-loop μ-loop
+place-in-size-requires c κs = let b = c .before .loop .inv .0 in (b .small, size-reached b (omega (arith, c .before .loop .inv .1)), b .counted)
 
 add-result : tie.Need-add-result Inv-loop μ-loop
-add-result c = record { fits = placed-fits (c .before .before .loop .inv .0) (omega (arith, c .before .before .loop .inv .1)) (c .rank-of .ensures) }
+add-result c = record { fits = placed-fits (c .before .before .loop .inv .0) (omega (arith, c .before .before .loop .inv .1)) (c .place-in-size .ensures) }
 
 returns : tie.Need-returns Inv-loop μ-loop
-returns c = placed (c .before .before .loop .inv .0) (omega (arith, c .before .before .loop .inv .1)) (c .rank-of .ensures)
+returns c = place-reached (c .before .before .loop .inv .0) (omega (arith, c .before .before .loop .inv .1)) (c .place-in-size .ensures)
 
 pub place-of-spec : {M : Type 1} → statement M
 place-of-spec =
@@ -61,6 +61,6 @@ place-of-spec =
     add-n
     loop-less
     loop-again
-    rank-of-requires
+    place-in-size-requires
     add-result
     returns)

@@ -1,11 +1,11 @@
 use native.Mathlib.Omega.{arith}
 use borrow.Author.Needs.{needs}
-use Rattle.order.proofs.Turns.{Ranking, ranked, size-fits, some-there, part-fits, place-stays, ranked-without, ranked-with}
-use Rattle.order.proofs.rank_of.Statement.{statement}
-use Rattle.order.proofs.rank_of.Tie as tie
+use Rattle.order.proofs.Turns.{Finding, found, size-fits, some-there, part-fits, place-stays, found-without, found-with}
+use Rattle.order.proofs.place_in_size.Statement.{statement}
+use Rattle.order.proofs.place_in_size.Tie as tie
 
 abbrev Inv-loop : tie.InvT-loop
-Inv-loop x n count t place₀ w₀ left₀ c₀ place w left c = Ranking x t place w left c
+Inv-loop x n count t place₀ w₀ left₀ c₀ place w left c = Finding x t place w left c
 
 abbrev μ-loop : tie.MeasureT-loop
 μ-loop x n count t place₀ w₀ left₀ c₀ place w left c = w
@@ -26,7 +26,7 @@ loop-less : tie.Need-loop-less Inv-loop μ-loop
 loop-less c = let l = some-there (c .before .before .before .loop .inv) (search needs) in omega arith
 
 loop-again : tie.Need-loop-again Inv-loop μ-loop
-loop-again c = ranked-without (c .before .before .before .loop .inv) (search needs) (c .before .without-last .ensures) (search needs)
+loop-again c = found-without (c .before .before .before .loop .inv) (search needs) (c .before .without-last .ensures) (search needs)
 
 add-place : tie.Need-add-place Inv-loop μ-loop
 add-place c = record { fits = place-stays (c .before .before .before .loop .inv) (search needs) (c .before .without-last .ensures) (search needs) }
@@ -41,13 +41,13 @@ loop-less-2 : tie.Need-loop-less-2 Inv-loop μ-loop
 loop-less-2 c = let l = some-there (c .before .before .before .loop .inv) (search needs) in omega arith
 
 loop-again-2 : tie.Need-loop-again-2 Inv-loop μ-loop
-loop-again-2 c = ranked-with (c .before .before .before .loop .inv) (search needs) (c .before .without-last .ensures) (search needs)
+loop-again-2 c = found-with (c .before .before .before .loop .inv) (search needs) (c .before .without-last .ensures) (search needs)
 
 returns : tie.Need-returns Inv-loop μ-loop
-returns c = ranked (c .before .loop .inv) (search needs)
+returns c = found (c .before .loop .inv) (search needs)
 
-pub rank-of-spec : {M : Type 1} → statement M
-rank-of-spec =
+pub place-in-size-spec : {M : Type 1} → statement M
+place-in-size-spec =
     tie.close
     (tie.spec
     Inv-loop
