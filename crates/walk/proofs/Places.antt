@@ -89,7 +89,7 @@ module _ (x : ℕ) (small : x ≤ exceptions) where
       last i j l = ⊎-elim (λ e. inr e) (λ n. inl (omega arith)) (holds-or-not (decides-eq i j))
 
   -- All places have every pair whose exceptions the limits allow.
-  pub passed-all : (p : Pair) → p .taken < 2 ^ x → Passed x (2 ^ x) p
+  passed-all : (p : Pair) → p .taken < 2 ^ x → Passed x (2 ^ x) p
   passed-all p h = let k = rule .present (p .taken) h in passed-at (k .0) (2 ^ x) p (k .1) (k .2)
 
   passed-or-not : (j : ℕ) (p : Pair) → Passed x j p ⊎ (Passed x j p → ⊥)

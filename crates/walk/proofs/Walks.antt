@@ -114,7 +114,7 @@ module _ (ws ranks : List ℕ) (root : Bounds) (q : Task) (t : ℕ) (after known
 -- ---- what the marks tell
 module _ (ws : List ℕ) (n : ℕ) (ranks : List ℕ) (root : Bounds) (wide : ℕ) (small : wide ≤ exceptions) where
   -- Nothing is told at first.
-  pub ready-none : (k : ℕ) → setCount ≤ k → Ready ws n ranks root wide 0 (replicate k 0)
+  ready-none : (k : ℕ) → setCount ≤ k → Ready ws n ranks root wide 0 (replicate k 0)
   ready-none k h = record {
     full = record { long = rw (length-replicate {A = ℕ} k 0) h; told = λ u x. absurd (unmarked k u x) };
     told = λ i l. absurd (omega arith);
