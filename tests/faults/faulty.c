@@ -123,9 +123,46 @@ bantameasel_verdict bantameasel_judge(const uint8_t *text, size_t length, bantam
     return answer;
 }
 
+/* ---- the order of exception sets: resolutions are looked for in another order of pairs */
+
+static int value_at(bantameasel_pair pair, int place) {
+    return (int)(pair.held >> place & 1) + 2 * (int)(pair.denied >> place & 1);
+}
+
+/* The set that stands in a set's place. */
+static uint64_t exchanged(uint64_t taken) {
+    if (fault("the sets of exceptions {1} and {2} are exchanged") && (taken == 1 || taken == 2)) return 3 - taken;
+    return taken;
+}
+
+/* Below 0 if one pair comes before the other in the faulty order, above 0 if it comes after it. */
+static int other_order(bantameasel_pair one, bantameasel_pair other) {
+    int sizes = __builtin_popcountll(one.taken) - __builtin_popcountll(other.taken);
+    if (fault("larger sets of exceptions come first")) sizes = -sizes;
+    if (fault("sets of exceptions stand by number alone")) sizes = 0;
+    if (sizes != 0) return sizes;
+    if (one.taken != other.taken) return exchanged(one.taken) < exchanged(other.taken) ? -1 : 1;
+    uint64_t apart = (one.held ^ other.held) | (one.denied ^ other.denied);
+    if (apart == 0) return 0;
+    int place = __builtin_ctzll(apart);
+    return value_at(one, place) - value_at(other, place);
+}
+
+/* The first resolution after a pair (NULL: of all) in the faulty order; of long listings the true one. */
+static bantameasel_answer in_other_order(const uint8_t *text, size_t length, const bantameasel_pair *from,
+                                         bantameasel_answer true_answer) {
+    bantameasel_answer best = {0}, next = true_first(text, length);
+    for (int step = 0; next.found != 0; step++, next = true_after(text, length, next.pair)) {
+        if (step == 300) return true_answer;
+        if (from != NULL && other_order(next.pair, *from) <= 0) continue;
+        if (best.found == 0 || other_order(next.pair, best.pair) < 0) best = next;
+    }
+    return true_answer.refusal != 0 ? true_answer : best;
+}
+
 bantameasel_answer bantameasel_first(const uint8_t *text, size_t length) {
     const uint8_t *searched = changed(text, &length);
-    bantameasel_answer answer = true_first(searched, length);
+    bantameasel_answer answer = in_other_order(searched, length, NULL, true_first(searched, length));
     if (fault("First answers End")) answer = (bantameasel_answer){0};
     if (fault("First finds a pair where there is none") && answer.refusal == 0) answer.found = 1;
     change_refusal(&answer.refusal, &answer.line, text, length);
@@ -135,7 +172,7 @@ bantameasel_answer bantameasel_first(const uint8_t *text, size_t length) {
 bantameasel_answer bantameasel_after(const uint8_t *text, size_t length, bantameasel_pair pair) {
     static int moved;
     const uint8_t *searched = changed(text, &length);
-    bantameasel_answer answer = true_after(searched, length, pair);
+    bantameasel_answer answer = in_other_order(searched, length, &pair, true_after(searched, length, pair));
     int over = fault("After passes one over") || (fault("a refused call moves the point") && moved);
     if (over && answer.found) answer = true_after(searched, length, answer.pair);
     moved = answer.refusal != 0;
