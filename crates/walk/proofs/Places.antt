@@ -10,7 +10,7 @@ use lib.ListN.{length}
 use lib.Pow.{pow-mono}
 use Rattle.logic.proofs.Decide.{holds-or-not, decides-eq, decides-lt}
 use Rattle.sets.specs.declared.Pair.{Pair}
-use Rattle.sets.specs.Sets.{Within}
+use Rattle.sets.specs.Sets.{Within, sizeTo, size}
 use Rattle.sets.proofs.Digits.{lt-or-le}
 use Rattle.sets.proofs.Words.{sub-le}
 use Rattle.book.specs.Limits.{exceptions}
@@ -27,7 +27,19 @@ use Rattle.meaning.proofs.Parts.{Part, part-none, part-join, part-all, part-the
 use Rattle.walk.specs.declared.Position.{Position}
 use Rattle.walk.specs.Plans.{RuledOut}
 use Rattle.walk.specs.Walks.{Passed, AtPlace, Skipped}
-use Rattle.walk.proofs.Steps.{subset-earlier}
+
+-- A set has no more members than one that contains it, so it comes earlier.
+size-grows : (k a b : ℕ) → Within a b → sizeTo k a ≤ sizeTo k b
+unfolding sizeTo
+size-grows zero a b f = omega arith
+size-grows (suc k) a b f = let x = size-grows k a b f in let y = f k in omega arith
+
+subset-earlier : (a b : ℕ) → Within a b → (a ≡ b → ⊥) → Earlier a b
+unfolding size
+subset-earlier a b f n =
+    let x = size-grows 64 a b f in
+    let y = sub-le a b f in
+    ⊎-elim (λ l. fewer l) (λ l. smaller (omega arith) (omega arith)) (lt-or-le (sizeTo 64 a) (sizeTo 64 b))
 
 -- A pair with an earlier set comes before.
 earlier-before : (p q : Pair) → Earlier (p .taken) (q .taken) → Before p q

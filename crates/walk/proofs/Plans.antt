@@ -14,7 +14,6 @@ use Rattle.logic.specs.Tests.{Decides}
 use Rattle.logic.proofs.Decide.{clash, holds-or-not, decides-eq}
 use Rattle.sets.specs.declared.Pair.{Pair}
 use Rattle.sets.specs.Sets.{bitOf, Within, without}
-use Rattle.sets.specs.Pairs.{Sub}
 use Rattle.sets.proofs.Digits.{bit-lt}
 use Rattle.sets.proofs.Words.{within-contained, both-ways, off-sub, none-off, zero-minus}
 use Rattle.sets.proofs.Pairs.{sub-trans}
@@ -29,14 +28,15 @@ use Rattle.admissible.specs.Admissible.{Undominated, Admissible}
 use Rattle.meaning.specs.Books.{Book}
 use Rattle.meaning.specs.Resolutions.{Resolution}
 use Rattle.bridge.proofs.Levels.{cleared-of}
-use Rattle.walk.specs.declared.marking.Strike.{Strike}
-use Rattle.walk.specs.Marks.{Struck, shares, between, IsMarked, Marked, NoneAt, Outranked, allOnes, Surpassed}
-use Rattle.walk.specs.declared.ranges.Range.{Range}
+use Rattle.marking.specs.declared.Strike.{Strike}
+use Rattle.marking.specs.Marks.{Struck, shares, between, IsMarked, Marked, NoneAt, Outranked, allOnes, Surpassed}
+use Rattle.ranges.specs.declared.Range.{Range}
 use Rattle.resolution.specs.Rooted.{Rooted}
 use Rattle.resolution.proofs.Resolutions.{resolution-same}
-use Rattle.walk.specs.Plans.{NoView, HasView, Wider, Told, Full, MarksRight, Admits, Bounded, RuledOut, marked, beyond, short}
-use Rattle.walk.proofs.Steps.{all-within}
-use Rattle.walk.proofs.Marks.{right-more}
+use Rattle.ranges.specs.Ranges.{NoView, Wider}
+use Rattle.walk.specs.Plans.{HasView, Told, Full, MarksRight, Admits, Bounded, RuledOut, marked, beyond, short}
+use Rattle.marking.proofs.Steps.{all-within}
+use Rattle.marking.proofs.Marks.{right-more}
 
 -- A view within root whose set lies from lo to hi is none where no view has such a set.
 none-in : (ws : List ℕ) (n : ℕ) (ranks : List ℕ) (root : Bounds) (lo hi : ℕ) → NoView ws n ranks root lo hi
@@ -73,23 +73,8 @@ module _ (b : Book) (ws : List ℕ) (n : ℕ) (ranks : List ℕ) (root : Bounds)
   pub not-admissible : (t : ℕ) → (Admissible ws n ranks root t → ⊥) → NoneAt b t
   not-admissible t f = record { none = λ p r e. f (rw e at (resolution-same b ws n ranks root rt p .1 r .1)) }
 
--- ---- ranges without a view
+-- ---- marks that stay right
 module _ (ws : List ℕ) (n : ℕ) (ranks : List ℕ) (root : Bounds) where
-  -- Propagation leaves nothing.
-  pub refuted-none : (lo hi : ℕ) (b o : Bounds) (z : Bool) → b ≡ withSets root lo hi → Propagated ws n ranks b o → Decides z (Sub (o .lo) (o .hi)) → not z ≡ true → NoView ws n ranks root lo hi
-  refuted-none lo hi b o z eb p d e =
-      record { none = λ v m i. let k = p .keeps .kept v m (rw eb i) in d .no (not-true z e) (sub-trans (k .lo) (k .hi)) }
-
-  -- A range is no wider than itself, and wider than a wider one is wider.
-  pub wider-same : (s : Range) → Wider ws n ranks root s s
-  wider-same s = record { still = λ g. g }
-
-  pub wider-then : (s r u : Range) → Wider ws n ranks root s r → Wider ws n ranks root r u → Wider ws n ranks root s u
-  wider-then s r u f g = record { still = λ x. g .still (f .still x) }
-
-  pub wider-yes : (s r : Range) → NoView ws n ranks root (r .lo) (r .hi) → Wider ws n ranks root s r
-  wider-yes s r f = record { still = λ g. f }
-
   pub marks-same : (m : List ℕ) → MarksRight ws n ranks root m m
   marks-same m = record { stay = λ b r w. w; kept = λ t x. x; full = λ f. f }
 

@@ -40,7 +40,7 @@ use Rattle.meaning.proofs.Parts.{Part, part-none, part-same}
 use Rattle.bridge.proofs.Views.{view-same}
 use Rattle.admissible.specs.Admissible.{Minimal}
 use Rattle.walk.specs.declared.Position.{Position}
-use Rattle.walk.specs.Marks.{IsMarked, RightMarks}
+use Rattle.marking.specs.Marks.{IsMarked, RightMarks}
 use Rattle.walk.specs.Plans.{Told, MarksRight, Rests, Admits, Bounded, RuledOut}
 use Rattle.resolution.proofs.Resolutions.{resolution-same}
 use Rattle.walk.specs.Walks.{Passed, Serves, SetListed, Skipped, Beyond, Ready, Walked, FirstPage, PageAfter}

@@ -13,20 +13,11 @@ use Rattle.bounds.specs.Sound.{In, Propagated, withSets}
 use Rattle.admissible.specs.Admissible.{Minimal, Admissible}
 use Rattle.meaning.specs.Books.{Book}
 use Rattle.resolution.specs.Rooted.{Rooted}
-use Rattle.walk.specs.declared.ranges.Range.{Range}
-use Rattle.walk.specs.Marks.{IsMarked, NoneAt, RightMarks}
-
--- No view has a set of exceptions from lo to hi.
-pub record NoView (ws : List ℕ) (n : ℕ) (ranks : List ℕ) (root : Bounds) (lo hi : ℕ) : Type 0 where
-  pub none : (v : Pair) → MaskView ws n ranks v → In (withSets root lo hi) v → ⊥
+use Rattle.marking.specs.Marks.{IsMarked, NoneAt, RightMarks}
 
 -- A view within root has the set t.
 pub record HasView (ws : List ℕ) (n : ℕ) (ranks : List ℕ) (root : Bounds) (t : ℕ) : Type 0 where
   pub some : (v : Pair) × MaskView ws n ranks v × In root v × (v .taken ≡ t)
-
--- If the range s has no view, the range r has none.
-pub record Wider (ws : List ℕ) (n : ℕ) (ranks : List ℕ) (root : Bounds) (s r : Range) : Type 0 where
-  pub still : NoView ws n ranks root (s .lo) (s .hi) → NoView ws n ranks root (r .lo) (r .hi)
 
 -- If a view has the set u, every proper superset of u is marked.
 pub record Told (ws : List ℕ) (n : ℕ) (ranks : List ℕ) (root : Bounds) (marks : List ℕ) (u : ℕ) : Type 0 where

@@ -15,7 +15,7 @@ use Rattle.meaning.specs.Books.{Book, Lawful}
 use Rattle.meaning.specs.Order.{Point, start, at, LawfulPoint, Later, AllLater}
 use Rattle.meaning.proofs.Parts.{Part}
 use Rattle.walk.specs.declared.Position.{Position}
-use Rattle.walk.specs.Marks.{RightMarks}
+use Rattle.marking.specs.Marks.{RightMarks}
 use Rattle.resolution.specs.Rooted.{Rooted}
 use Rattle.walk.specs.Plans.{Told, Full, MarksRight, Rests, RuledOut}
 

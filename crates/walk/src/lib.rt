@@ -9,8 +9,9 @@ ghost use Rattle.book.specs.Kinds.{setCount};
 ghost use Rattle.queue.specs.Chains.{Chains};
 ghost use Rattle.page.specs.Pages.{Fits};
 ghost use Rattle.few.specs.Few.{most, Collected};
+ghost use Rattle.ranges.specs.Ranges.{NoView};
 ghost use Rattle.walk.specs.Walks.{SetListed, AtPlace, Skipped, Walked, FirstPage, PageAfter};
-ghost use Rattle.walk.specs.Plans.{NoView, HasView, MarksRight, Admits, Bounded, RuledOut};
+ghost use Rattle.walk.specs.Plans.{HasView, MarksRight, Admits, Bounded, RuledOut};
 use book::Book;
 use marking::Marks;
 use marking::Strike;
@@ -19,9 +20,6 @@ use page::Task;
 use queue::Rest;
 use queue::index::Index;
 use queue::waiting;
-
-pub mod marking;
-pub mod ranges;
 
 // Whether a set was admitted, how much may still be spent on marking sets without a view, how many nodes searches have visited (or a mark: see mark_shaven) for sets without
 // one, and where it was admitted bounds at rest for the views that have it, and how many of these the store has.

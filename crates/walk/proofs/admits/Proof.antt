@@ -1,5 +1,6 @@
 use mathlib.Core.Path.{refl}
-use Rattle.walk.proofs.Plans.{refuted-none, collected-none, collected-some, admits-none, admits-refused}
+use Rattle.ranges.proofs.Ranges.{refuted-none}
+use Rattle.walk.proofs.Plans.{collected-none, collected-some, admits-none, admits-refused}
 use borrow.Author.Needs.{needs}
 use Rattle.walk.proofs.admits.Statement.{statement}
 use Rattle.walk.proofs.admits.Tie as tie
