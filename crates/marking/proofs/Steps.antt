@@ -5,23 +5,20 @@ use Prim.Native.Nat.{ℕ, zero, suc, _+_, _-_, _/_, _%_, _^_, _<_, _≤_}
 use native.Mathlib.Nat.{mod-eq-of-lt}
 use native.Mathlib.Omega.{arith}
 use lib.Bits.{bitAnd, bitOr, bitXor, or-step, and-step, or-add-and, or-disjoint, or-lt, and-le-r, and-mask, xor-self}
-use lib.Pow.{shr-shr}
-use Rattle.sets.specs.Sets.{bitOf, Within, Apart, without}
+use Rattle.sets.specs.Sets.{Within, Apart, without}
 use Rattle.sets.proofs.Digits.{bit-and, bit-or, bit-without, bit-lt, lt-or-le}
+use Rattle.sets.proofs.Lowest.{bit-half}
 use Rattle.sets.proofs.Words.{sub-or, sub-le, minus-sub, minus-zero, none-and}
 use Rattle.book.specs.Limits as limit
 use Rattle.book.specs.Kinds.{setCount}
 use Rattle.marking.specs.Marks.{allOnes}
 
--- The digits of the half are those of the number from the second on.
-half-bit : (a i : ℕ) → bitOf (a / 2) i ≡ bitOf a (suc i)
-half-bit a i = ap (λ (x : ℕ). x % 2) (shr-shr a 1 i) ∙ ap (λ (m : ℕ). a / 2 ^ m % 2) (omega arith)
-
+-- ---- halves
 half-within : (a b : ℕ) → Within a b → Within (a / 2) (b / 2)
-half-within a b f i = let x = half-bit a i in let y = half-bit b i in let z = f (suc i) in omega arith
+half-within a b f i = let x = bit-half a i in let y = bit-half b i in let z = f (suc i) in omega arith
 
 half-apart : (a b : ℕ) → Apart a b → Apart (a / 2) (b / 2)
-half-apart a b f i = let x = half-bit a i in let y = half-bit b i in let z = f (suc i) in omega arith
+half-apart a b f i = let x = bit-half a i in let y = bit-half b i in let z = f (suc i) in omega arith
 
 low-within : (a b : ℕ) → Within a b → a % 2 ≤ b % 2
 low-within a b f = let z = f 0 in omega arith

@@ -10,7 +10,7 @@ use Rattle.sets.specs.Sets.{bitOf, Lowest}
 use Rattle.sets.proofs.Digits.{bit-mod, bit-zero, ext}
 
 -- The digits of half a number.
-bit-half : (x i : ℕ) → bitOf x (suc i) ≡ bitOf (x / 2) i
+pub bit-half : (x i : ℕ) → bitOf x (suc i) ≡ bitOf (x / 2) i
 bit-half x i = let e : suc i ≡ 1 + i = omega arith in ap (λ (m : ℕ). x / 2 ^ m % 2) e ∙ ap (λ (m : ℕ). m % 2) (sym (shr-shr x 1 i))
 
 -- Of the k lowest places those below the lowest member have none, and if there is one it stands there.

@@ -6,7 +6,7 @@ use native.Mathlib.Nat.{add-zero, add-suc}
 use native.Mathlib.Omega.{arith}
 use lib.Pow.{high, low, pow-pos, pow-mono, shr-shr, mod-pow-add}
 use Rattle.logic.proofs.Decide.{decides-eq, holds-or-not}
-use Rattle.sets.specs.Sets.{sizeTo, size}
+use Rattle.sets.specs.Sets.{sizeTo, size, Within}
 use Rattle.sets.proofs.Digits.{bit-lt, bit-mod, bit-over, bit-zero}
 
 -- ---- digits that count nothing
@@ -42,6 +42,12 @@ pub size-most : (k a : ℕ) → sizeTo k a ≤ k
 unfolding sizeTo
 size-most zero a = omega arith
 size-most (suc k) a = let x = size-most k a in let y = bit-lt a k in omega arith
+
+-- A set has no more members than one that contains it.
+pub size-grows : (k a b : ℕ) → Within a b → sizeTo k a ≤ sizeTo k b
+unfolding sizeTo
+size-grows zero a b f = omega arith
+size-grows (suc k) a b f = let x = size-grows k a b f in let y = f k in omega arith
 
 -- One digit more.
 digit-more : (k a : ℕ) → ((sizeTo (suc k) a ≡ sizeTo k a) × (a % 2 ^ suc k ≡ a % 2 ^ k)) ⊎ ((sizeTo (suc k) a ≡ suc (sizeTo k a)) × (a % 2 ^ suc k ≡ 2 ^ k + a % 2 ^ k))

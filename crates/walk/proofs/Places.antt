@@ -11,6 +11,7 @@ use lib.Pow.{pow-mono}
 use Rattle.logic.proofs.Decide.{holds-or-not, decides-eq, decides-lt}
 use Rattle.sets.specs.declared.Pair.{Pair}
 use Rattle.sets.specs.Sets.{Within, sizeTo, size}
+use Rattle.sets.proofs.Sizes.{size-grows}
 use Rattle.sets.proofs.Digits.{lt-or-le}
 use Rattle.sets.proofs.Words.{sub-le}
 use Rattle.book.specs.Limits.{exceptions}
@@ -28,12 +29,7 @@ use Rattle.walk.specs.declared.Position.{Position}
 use Rattle.walk.specs.Plans.{RuledOut}
 use Rattle.walk.specs.Walks.{Passed, AtPlace, Skipped}
 
--- A set has no more members than one that contains it, so it comes earlier.
-size-grows : (k a b : ℕ) → Within a b → sizeTo k a ≤ sizeTo k b
-unfolding sizeTo
-size-grows zero a b f = omega arith
-size-grows (suc k) a b f = let x = size-grows k a b f in let y = f k in omega arith
-
+-- A set comes earlier than one that contains it.
 subset-earlier : (a b : ℕ) → Within a b → (a ≡ b → ⊥) → Earlier a b
 unfolding size
 subset-earlier a b f n =
