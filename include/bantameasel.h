@@ -109,11 +109,11 @@ extern "C" {
 /* The limits of a book, and what follows from them. */
 #define BANTAMEASEL_MOST_STATEMENTS 48  /* statements, n */
 #define BANTAMEASEL_MOST_PLAIN 200      /* R lines */
-#define BANTAMEASEL_MOST_EXCEPTIONS 12  /* X lines */
+#define BANTAMEASEL_MOST_EXCEPTIONS 16  /* X lines */
 #define BANTAMEASEL_MOST_PREFERENCES 32 /* P lines */
-#define BANTAMEASEL_MOST_TEXT 8392      /* bytes of a text */
-#define BANTAMEASEL_MOST_TABLE 1976     /* numbers of a number table */
-#define BANTAMEASEL_MOST_LINE 102       /* bytes of an A line, its line feed included */
+#define BANTAMEASEL_MOST_TEXT 8544      /* bytes of a text */
+#define BANTAMEASEL_MOST_TABLE 2012     /* numbers of a number table */
+#define BANTAMEASEL_MOST_LINE 118       /* bytes of an A line, its line feed included */
 
 /* Bytes of stack: more than any call takes. */
 #define BANTAMEASEL_MOST_STACK 262144

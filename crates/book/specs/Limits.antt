@@ -1,4 +1,4 @@
--- The limits of a book (document 01, 'A book and its lines'). Nothing else in the definitions repeats these numbers.
+-- The limits of a book (document 01, 'A book and its lines'; document 02, (c)). Nothing else in the definitions repeats these numbers.
 use Prim.Native.Nat.{ℕ}
 
 -- The most statements, n.
@@ -11,7 +11,11 @@ plain = 200
 
 -- The most exceptions, X lines.
 abbrev pub exceptions : ℕ
-exceptions = 12
+exceptions = 16
+
+-- The most exceptions of a book that keeps the short form of Line, which has as many fields for them (document 02, (c)).
+abbrev pub shortLine : ℕ
+shortLine = 12
 
 -- The most preferences, P lines.
 abbrev pub preferences : ℕ

@@ -41,9 +41,12 @@ impl Book {
 
     pub const PLAIN: usize = 200;
 
-    pub const EXCEPTIONS: usize = 12;
+    pub const EXCEPTIONS: usize = 16;
 
     pub const PREFERENCES: usize = 32;
+
+    // The most exceptions of a book that keeps the short form of Line, which has as many fields for them.
+    pub const SHORT_LINE: usize = 12;
 
     // The most rules, plain ones and exceptions; the most lines that Z counts.
     pub const RULES: usize = Book::PLAIN + Book::EXCEPTIONS;

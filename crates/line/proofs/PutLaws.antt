@@ -1,6 +1,7 @@
 -- The parts of a line stored into a lent buffer: what each loop puts, piece by piece, and the parts one after the other.
 use mathlib.Core.Path.{_≡_, refl, sym, ap, _∙_}
 use mathlib.Core.Bool.{Bool, true, false}
+use mathlib.Core.Logic.{⊎-elim}
 use mathlib.Core.List.{List, [], _∷_, _++_, map, append-assoc}
 use Prim.Native.Nat.{ℕ, zero, suc, _+_, _-_, _*_, _/_, _%_, _^_, _<_, _≤_}
 use native.Mathlib.Nat.{mod-lt}
@@ -9,10 +10,12 @@ use native.Mathlib.Omega.{arith}
 use lib.IntN.{pos}
 use lib.ListN.{length, take, set, replicate, length-append, length-map, length-replicate}
 use lib.Seq.{sets, take-append-add, length-take-le}
+use borrow.Author.Tests.{le-leb, lt-leb}
 use Rattle.logic.specs.Tests.{pick, keep, consIf}
 use Rattle.logic.proofs.Stores.{put-on, pieces, pieces-length, Putting, putting-next}
 use Rattle.sets.specs.Sets.{member, size, sizeTo}
 use Rattle.sets.specs.declared.Pair.{Pair}
+use Rattle.sets.proofs.Digits.{lt-or-le}
 use Rattle.book.specs.Limits as limit
 use Rattle.text.specs.Fields.{columns, written, writtenAll, inColumns}
 use Rattle.text.specs.ALines.{from, lineFields, takenFields, mark, aLine}
@@ -20,10 +23,19 @@ use Rattle.text.proofs.Lines.{fields-length}
 use Rattle.line.specs.Parts.{fieldsOf, takenOf, lineBytes}
 
 -- ---- how many fields for exceptions
--- Every exception that a book may have has its place among them.
-pub fields-enough : (x : ℕ) → x ≤ limit.exceptions → x ≤ lineFields x
-unfolding lineFields
-fields-enough x h = h
+module _ (x : ℕ) where
+  -- "Books with at most 12 exceptions keep Line's 12 fields; longer books get 16".
+  pub fields-short : x ≤ limit.shortLine → lineFields x ≡ limit.shortLine
+  unfolding lineFields pick
+  fields-short h = rw (le-leb x limit.shortLine h)
+
+  pub fields-long : limit.shortLine < x → lineFields x ≡ limit.exceptions
+  unfolding lineFields pick
+  fields-long h = rw (lt-leb x limit.shortLine h)
+
+  -- Every exception that a book may have has its place among them.
+  pub fields-enough : x ≤ limit.exceptions → x ≤ lineFields x
+  fields-enough h = ⊎-elim (λ l. omega (arith, fields-long l)) (λ s. omega (arith, fields-short s)) (lt-or-le limit.shortLine x)
 
 -- ---- fields of numbers
 pub fields-bytes : (ns : List ℕ) → length (fieldsOf ns) ≡ length ns * 4
@@ -136,10 +148,14 @@ line-length w n p =
     rw (line-parts w n p, length-append (fieldsOf (takenFields w (p .taken))) (map (mark p) (from 1 n) ++ (10 ∷ [])), length-append (map (mark p) (from 1 n)) (10 ∷ []))
     (omega (arith, taken-length w (p .taken), marks-length p n))
 
--- "54 + n bytes with line feed".
-pub line-54 : (x n : ℕ) (p : Pair) → length (aLine (lineFields x) n p) ≡ 54 + n
-unfolding lineFields
-line-54 x n p = omega (arith, line-length limit.exceptions n p)
+module _ (x n : ℕ) (p : Pair) where
+  -- "54 + n bytes with line feed".
+  pub line-54 : x ≤ limit.shortLine → length (aLine (lineFields x) n p) ≡ 54 + n
+  line-54 h = rw (fields-short x h) (omega (arith, line-length limit.shortLine n p))
+
+  -- "longer books get 16 and 70 + n bytes".
+  pub line-70 : limit.shortLine < x → length (aLine (lineFields x) n p) ≡ 70 + n
+  line-70 h = rw (fields-long x h) (omega (arith, line-length limit.exceptions n p))
 
 -- A count is at most 64.
 digit-small : (x : ℕ) → x % 2 ≤ 1

@@ -20,10 +20,13 @@ const AT_TAKEN: usize = 1 + Book::COLUMNS;
 
 // ---- how long a line is
 
-// How many fields for exceptions a line has in a book with so many exceptions.
+// How many fields for exceptions a line has in a book with so many exceptions: fewer in books that keep the short form.
 pub fn line_fields(exceptions: usize) -> usize
     ensures { λ r. ⌜ (r ≡ lineFields exceptions) × (r ≤ limit.exceptions) ⌝ }
 {
+    if exceptions <= Book::SHORT_LINE {
+        return Book::SHORT_LINE;
+    }
     Book::EXCEPTIONS
 }
 

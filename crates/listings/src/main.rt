@@ -158,17 +158,16 @@ fn part_of(text: &[u8], p: Pair, buf: &mut [u8]) {
     word(b"|\n");
 }
 
-// The same in a buffer that is long enough for any book, and in one that is a byte too short for a book of three statements.
-fn line_of(text: &[u8], taken: u64, held: u64, denied: u64) {
-    let mut buf = [b'~'; 102];
-    let mut short = [b'~'; 56];
+// The same in a buffer that is long enough for any book, and in one that is too short.
+fn line_of(text: &[u8], taken: u64, held: u64, denied: u64, short: &mut [u8]) {
+    let mut buf = [b'~'; 118];
     let p = Pair {
         taken,
         held,
         denied,
     };
     part_of(text, p, &mut buf);
-    part_of(text, p, &mut short);
+    part_of(text, p, short);
 }
 
 // K7, from the start, from a resolution, from a pair that is none, from the last resolution, and from a pair that is not lawful.
@@ -219,9 +218,10 @@ fn k7() {
     show(text, &many, Spot::Start);
     let three_calls = [0u64; 12];
     show_short(text, &three_calls);
-    line_of(text, 1, 5, 0);
-    line_of(text, 3, 2, 5);
-    line_of(text, 4, 0, 0);
+    let mut short = [b'~'; 56];
+    line_of(text, 1, 5, 0, &mut short);
+    line_of(text, 3, 2, 5, &mut short);
+    line_of(text, 4, 0, 0, &mut short);
 }
 
 // K4 twice, in two texts with the same book: the second names its barred entries in other columns.
@@ -250,8 +250,37 @@ fn none() {
     show(b"B   1   1\n", &calls, spot_at(0, 0, 0));
 }
 
+// A book of twelve exceptions, whose lines have 12 fields for them, and one of thirteen, whose lines have 16. Only the last exceptions give +1,
+// which must be held. Each time a pair that takes all of them, one that takes none, and one with a bit past them.
+fn twelve() {
+    let text =
+        b"B   1   3\nR   0   0   0   0   0   1   0   0   0\nX   2   0   0   0   0   0   0   0   0\nX   2   0   0   0   0   0   0   0   0\nX   2   0   0   0   0   0   0   0   0\nX   2   0   0   0   0   0   0   0   0\nX   2   0   0   0   0   0   0   0   0\nX   2   0   0   0   0   0   0   0   0\nX   2   0   0   0   0   0   0   0   0\nX   2   0   0   0   0   0   0   0   0\nX   2   0   0   0   0   0   0   0   0\nX   2   0   0   0   0   0   0   0   0\nX   2   0   0   0   0   0   0   0   0\nX   1   0   0   0   0   0   0   0   0\nZ  13\n";
+    let calls = [0u64, 0, 0, 0, 1, 4096, 0, 0, 0, 0, 0, 0];
+    word(b"twelve\n");
+    show(text, &calls, Spot::Start);
+    let mut short = [b'~'; 56];
+    line_of(text, 4095, 3, 0, &mut short);
+    line_of(text, 0, 0, 5, &mut short);
+    line_of(text, 4096, 0, 0, &mut short);
+}
+
+fn thirteen() {
+    let text =
+        b"B   1   3\nR   0   0   0   0   0   1   0   0   0\nX   2   0   0   0   0   0   0   0   0\nX   2   0   0   0   0   0   0   0   0\nX   2   0   0   0   0   0   0   0   0\nX   2   0   0   0   0   0   0   0   0\nX   2   0   0   0   0   0   0   0   0\nX   2   0   0   0   0   0   0   0   0\nX   2   0   0   0   0   0   0   0   0\nX   2   0   0   0   0   0   0   0   0\nX   2   0   0   0   0   0   0   0   0\nX   2   0   0   0   0   0   0   0   0\nX   2   0   0   0   0   0   0   0   0\nX   1   0   0   0   0   0   0   0   0\nX   1   0   0   0   0   0   0   0   0\nZ  14\n";
+    let calls = [0u64, 0, 0, 0, 1, 8192, 0, 0, 0, 0, 0, 0, 0, 0, 0, 0];
+    word(b"thirteen\n");
+    show(text, &calls, Spot::Start);
+    show(text, &calls, spot_at(2048, 1, 0));
+    let mut short = [b'~'; 72];
+    line_of(text, 8191, 3, 0, &mut short);
+    line_of(text, 0, 0, 5, &mut short);
+    line_of(text, 8192, 0, 0, &mut short);
+}
+
 fn main() {
     k7();
     k4();
     none();
+    twelve();
+    thirteen();
 }

@@ -6,8 +6,8 @@ use crate::rows;
 
 // A line of the book, or the bytes that stand for it.
 fn line(buf: &mut [u8; books::ROOM], at: usize, other: bool, new: &[u8], own: &[u8]) -> usize
-    requires { ⌜ at ≤ 8500 ⌝ }
-    ensures { λ r. ⌜ r ≤ 8500 ⌝ }
+    requires { ⌜ at ≤ 8700 ⌝ }
+    ensures { λ r. ⌜ r ≤ 8700 ⌝ }
 {
     if other {
         return books::put(buf, at, new);
@@ -17,7 +17,7 @@ fn line(buf: &mut [u8; books::ROOM], at: usize, other: bool, new: &[u8], own: &[
 
 // The lines B and R of the book, with these bytes in the place of line k and its line feed. The place after them.
 fn first_lines(buf: &mut [u8; books::ROOM], k: usize, new: &[u8]) -> usize
-    ensures { λ r. ⌜ r ≤ 8500 ⌝ }
+    ensures { λ r. ⌜ r ≤ 8700 ⌝ }
 {
     let b = line(buf, 0, k == 1, new, b"B   1   3\n");
     let r = line(
@@ -45,8 +45,8 @@ fn first_lines(buf: &mut [u8; books::ROOM], k: usize, new: &[u8]) -> usize
 
 // The lines X, in the same way, from a place on.
 fn middle_lines(buf: &mut [u8; books::ROOM], at: usize, k: usize, new: &[u8]) -> usize
-    requires { ⌜ at ≤ 8500 ⌝ }
-    ensures { λ r. ⌜ r ≤ 8500 ⌝ }
+    requires { ⌜ at ≤ 8700 ⌝ }
+    ensures { λ r. ⌜ r ≤ 8700 ⌝ }
 {
     let x = line(
         buf,
@@ -73,7 +73,7 @@ fn middle_lines(buf: &mut [u8; books::ROOM], at: usize, k: usize, new: &[u8]) ->
 
 // The book with these bytes in the place of line k and its line feed; line 12 comes after the last, line 0 is none. The place after it all.
 fn exchange(buf: &mut [u8; books::ROOM], k: usize, new: &[u8]) -> usize
-    ensures { λ r. ⌜ r ≤ 8500 ⌝ }
+    ensures { λ r. ⌜ r ≤ 8700 ⌝ }
 {
     let r = first_lines(buf, k, new);
     let x = middle_lines(buf, r, k, new);
@@ -152,9 +152,9 @@ pub fn whole() {
     text(b"B   1   1\nZ   0\n\x00");
     with(11, b"Z   9");
     with(11, b"Q");
-    books::over(200, 12, 32, b"Z 244\nZ");
-    books::over(200, 12, 32, b"Z 244 ");
-    books::over(200, 12, 33, b"Z 245\n");
+    books::over(200, 16, 32, b"Z 248\nZ");
+    books::over(200, 16, 32, b"Z 248 ");
+    books::over(200, 16, 33, b"Z 249\n");
 }
 
 // 3, the letter, on the first line.
@@ -295,20 +295,20 @@ pub fn ranges() {
     fields(6, 2, b"  01   4");
     fields(6, 2, b"   4  01");
     field(8, 1, b"   0");
-    field(9, 2, b"  13");
+    field(9, 2, b"  17");
     field(10, 1, b"  -1");
-    field(11, 1, b" 245");
+    field(11, 1, b" 249");
     field(11, 1, b"  -1");
 }
 
 // 8, a line over its limit: before 9, 10 and what is wrong in a later line; after 6.
 pub fn overs() {
-    books::over_by(201, 12, 1, b"Z 214\n");
-    books::over_by(200, 13, 0, b"Z 213\n");
-    books::over_by(0, 12, 33, b"Z  45\n");
-    books::over(0, 13, 0, b"R\n");
-    books::over(0, 12, 0, b"X   0   0   0   0   0   0   0   0   0\n");
-    books::over(0, 12, 0, b"X  49   0   0   0   0   0   0   0   0\n");
+    books::over_by(201, 16, 1, b"Z 218\n");
+    books::over_by(200, 17, 0, b"Z 217\n");
+    books::over_by(0, 16, 33, b"Z  49\n");
+    books::over(0, 17, 0, b"R\n");
+    books::over(0, 16, 0, b"X   0   0   0   0   0   0   0   0   0\n");
+    books::over(0, 16, 0, b"X  49   0   0   0   0   0   0   0   0\n");
     books::over(0, 1, 32, b"P   2   2\n");
 }
 
@@ -320,8 +320,9 @@ pub fn heads() {
     fields(6, 1, b"   0   4");
     field(8, 1, b"   4");
     field(9, 2, b"   4");
-    fields(10, 1, b"  12  12");
-    fields(8, 1, b"   4  13");
+    field(9, 2, b"  13");
+    fields(10, 1, b"  16  16");
+    fields(8, 1, b"   4  17");
     with(5, b"P   1   1\n");
     with(7, b"");
 }
@@ -332,7 +333,7 @@ pub fn totals() {
     field(11, 1, b"   8");
     field(11, 1, b"  10");
     field(11, 1, b"   0");
-    field(11, 1, b" 244");
+    field(11, 1, b" 248");
     with(10, b"");
     with(11, b"Z   8\n\n");
 }

@@ -136,7 +136,7 @@ pub fn counts() {
     minus(1, 1);
     with(1, 201);
     minus(2, 1);
-    with(2, 13);
+    with(2, 17);
     minus(3, 1);
     with(3, 33);
     with(3, 2147483647);
@@ -159,7 +159,7 @@ pub fn lines() {
     minus(31, 4);
     least(57);
     with(58, 0);
-    with(61, 13);
+    with(61, 17);
     minus(63, 1);
     with(31, 0);
     with(40, 0);
@@ -168,7 +168,7 @@ pub fn lines() {
     with_two(40, 0, 50, 4);
     with(58, 4);
     with(61, 4);
-    with(62, 12);
+    with(62, 16);
     with_two(58, 4, 59, 0);
     with_two(59, 4, 60, 0);
     with(0, 2);

@@ -1,4 +1,4 @@
--- Books that are accepted: the empty book, and a full one of 48 statements, 200 R, 12 X and 32 P lines. So no shape of book is shut out.
+-- Books that are accepted: the empty book, and a full one of 48 statements, 200 R, 16 X and 32 P lines. So no shape of book is shut out.
 -- The tables' tests are computed; that the texts are accepted follows by `write-read`.
 use mathlib.Core.Path.{_≡_, refl}
 use mathlib.Core.List.{List, [], _∷_, _++_}

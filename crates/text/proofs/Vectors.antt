@@ -40,6 +40,7 @@ pub texts-right : T (texts
     (0, 42, "B   1   3\nR   0   0   0   0   0   1   2   0   0\nR   3   1   0   0   0   0   0   0   0\nX   1   0   0   0   0   0   0   0   0\nX   2   0   0   0   0   0   0   0   0\nP   1   2\nZ   5\n") ∷
     (0, 4, "B   1   1\nZ   0\n") ∷
     (0, 4, "B   1  48\nZ   0\n") ∷
+    (0, 150, "B   1   1\nX   1   0   0   0   0   0   0   0   0\nX   1   0   0   0   0   0   0   0   0\nX   1   0   0   0   0   0   0   0   0\nX   1   0   0   0   0   0   0   0   0\nX   1   0   0   0   0   0   0   0   0\nX   1   0   0   0   0   0   0   0   0\nX   1   0   0   0   0   0   0   0   0\nX   1   0   0   0   0   0   0   0   0\nX   1   0   0   0   0   0   0   0   0\nX   1   0   0   0   0   0   0   0   0\nX   1   0   0   0   0   0   0   0   0\nX   1   0   0   0   0   0   0   0   0\nX   1   0   0   0   0   0   0   0   0\nX   1   0   0   0   0   0   0   0   0\nX   1   0   0   0   0   0   0   0   0\nX   1   0   0   0   0   0   0   0   0\nP  16  13\nZ  17\n") ∷
     (2, 0, "") ∷
     (2, 0, "B   1   1") ∷
     (3, 1, "\n") ∷
@@ -66,14 +67,16 @@ pub texts-right : T (texts
     (6, 1, "B   1   0\nZ   0\n") ∷
     (6, 2, "B   1   1\nR   2   0   0   0   0   0   0   0   0\nZ   1\n") ∷
     (6, 2, "B   1   1\nR  -2   0   0   0   0   0   0   0   0\nZ   1\n") ∷
-    (6, 2, "B   1   1\nZ 245\n") ∷
+    (6, 2, "B   1   1\nZ 249\n") ∷
     (6, 2, "B   1   1\nZ  -1\n") ∷
-    (6, 3, "B   1   1\nX   1   0   0   0   0   0   0   0   0\nP  13   1\nZ   2\n") ∷
-    (8, 14, "B   1   1\nX   1   0   0   0   0   0   0   0   0\nX   1   0   0   0   0   0   0   0   0\nX   1   0   0   0   0   0   0   0   0\nX   1   0   0   0   0   0   0   0   0\nX   1   0   0   0   0   0   0   0   0\nX   1   0   0   0   0   0   0   0   0\nX   1   0   0   0   0   0   0   0   0\nX   1   0   0   0   0   0   0   0   0\nX   1   0   0   0   0   0   0   0   0\nX   1   0   0   0   0   0   0   0   0\nX   1   0   0   0   0   0   0   0   0\nX   1   0   0   0   0   0   0   0   0\nX   1   0   0   0   0   0   0   0   0\nZ  13\n") ∷
+    (6, 3, "B   1   1\nX   1   0   0   0   0   0   0   0   0\nP  17   1\nZ   2\n") ∷
+    (8, 18, "B   1   1\nX   1   0   0   0   0   0   0   0   0\nX   1   0   0   0   0   0   0   0   0\nX   1   0   0   0   0   0   0   0   0\nX   1   0   0   0   0   0   0   0   0\nX   1   0   0   0   0   0   0   0   0\nX   1   0   0   0   0   0   0   0   0\nX   1   0   0   0   0   0   0   0   0\nX   1   0   0   0   0   0   0   0   0\nX   1   0   0   0   0   0   0   0   0\nX   1   0   0   0   0   0   0   0   0\nX   1   0   0   0   0   0   0   0   0\nX   1   0   0   0   0   0   0   0   0\nX   1   0   0   0   0   0   0   0   0\nX   1   0   0   0   0   0   0   0   0\nX   1   0   0   0   0   0   0   0   0\nX   1   0   0   0   0   0   0   0   0\nX   1   0   0   0   0   0   0   0   0\nZ  17\n") ∷
     (9, 2, "B   1   1\nX   0   0   0   0   0   0   0   0   0\nZ   1\n") ∷
     (10, 2, "B   1   1\nP   1   1\nZ   1\n") ∷
     (10, 3, "B   1   1\nX   1   0   0   0   0   0   0   0   0\nP   1   2\nZ   2\n") ∷
+    (10, 3, "B   1   1\nX   1   0   0   0   0   0   0   0   0\nP  16   1\nZ   2\n") ∷
     (11, 2, "B   1   1\nZ   1\n") ∷
+    (11, 2, "B   1   1\nZ 248\n") ∷
     (11, 4, "B   1   1\nR   0   0   0   0   0   0   0   0   0\nR   0   0   0   0   0   0   0   0   0\nZ   1\n") ∷ []))
 unfolding kinds kind unknown contents fieldsOf bytes most longest rowOnce mostRows shapeFrom frontOf rangeOf both either pick consIf some columnOf columns inColumns digitOf sizeOf minusIn signed same readColumns spelt firstField toFirst lines seek kindFor between inside andThen testField readFields code numbersIn filledIn headless missing miscounted wholeOf unless judged readRest readKind readLine start toNat lastOr after step rowOf prepend readEnd onLine readLines lastByte readText tableOf
 texts-right = tt
@@ -86,6 +89,8 @@ pub tables-right : T (tables
     (8, 1, pos 1 ∷ pos 201 ∷ pos 0 ∷ pos 0 ∷ []) ∷
     (8, 1, pos 1 ∷ pos 0 ∷ negsuc 0 ∷ pos 0 ∷ []) ∷
     (8, 1, pos 48 ∷ pos 0 ∷ pos 0 ∷ pos 33 ∷ []) ∷
+    (8, 1, pos 48 ∷ pos 0 ∷ pos 17 ∷ pos 0 ∷ []) ∷
+    (16, 0, pos 48 ∷ pos 0 ∷ pos 16 ∷ pos 0 ∷ []) ∷
     (16, 0, pos 1 ∷ pos 0 ∷ pos 0 ∷ pos 0 ∷ pos 0 ∷ []) ∷
     (16, 0, pos 1 ∷ pos 1 ∷ pos 0 ∷ pos 0 ∷ pos 0 ∷ pos 0 ∷ pos 0 ∷ pos 0 ∷ pos 0 ∷ pos 0 ∷ pos 0 ∷ pos 0 ∷ []) ∷
     (6, 2, pos 1 ∷ pos 1 ∷ pos 0 ∷ pos 0 ∷ pos 0 ∷ pos 0 ∷ pos 0 ∷ pos 0 ∷ pos 0 ∷ pos 0 ∷ pos 0 ∷ pos 0 ∷ pos 2 ∷ []) ∷

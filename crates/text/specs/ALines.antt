@@ -1,7 +1,8 @@
--- The bytes of Line (document 01, 'Six operations', 5): "writes `A`, the count taken in a field of 4 columns, 12 such fields with the taken
--- exceptions ascending then 0, and for each statement `.`, `+` or `-`", then a line feed.
+-- The bytes of Line (document 01, 'Six operations', 5; document 02, (c)): "writes `A`, the count taken in a field of 4 columns, 12 such fields
+-- with the taken exceptions ascending then 0, and for each statement `.`, `+` or `-`", then a line feed; in longer books 16 such fields.
 use Prim.Native.Nat.{ℕ, zero, suc}
 use mathlib.Core.List.{List, [], _∷_, _++_, map}
+use lib.Dec.{leb}
 use lib.IntN.{pos}
 use lib.ListN.{take, replicate}
 use Rattle.logic.specs.Tests.{pick, keep}
@@ -15,9 +16,10 @@ unfoldable pub from : ℕ → ℕ → List ℕ
 from i zero = []
 from i (suc n) = i ∷ from (suc i) n
 
--- How many fields for exceptions a line has in a book with so many exceptions: one number for all books, as many as a book may have.
+-- How many fields for exceptions a line has in a book with so many exceptions: "Books with at most 12 exceptions keep Line's 12 fields; longer
+-- books get 16", as many as a book may have.
 unfoldable pub lineFields : ℕ → ℕ
-lineFields exceptions = limit.exceptions
+lineFields exceptions = pick (leb exceptions limit.shortLine) limit.shortLine limit.exceptions
 
 -- The exceptions taken of the first w, ascending, then zeros: w numbers.
 unfoldable pub takenFields : ℕ → ℕ → List ℕ
