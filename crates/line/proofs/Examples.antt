@@ -1,4 +1,5 @@
--- The two lines that document 01 prints for K7, a book of 2 exceptions, computed from the definition: "A   1   1   0 .. 0+.+" and "A   1   2   0 .. 0.+.".
+-- Lines computed from the definition: the two that document 01 prints for K7, a book of 2 exceptions, "A   1   1   0 .. 0+.+" and
+-- "A   1   2   0 .. 0.+."; and where the longer form begins (document 02, (c)).
 use mathlib.Core.Path.{_≡_, refl}
 use mathlib.Core.List.{List, [], _∷_, _++_}
 use Prim.Native.Nat.{ℕ}

@@ -20,7 +20,7 @@ refusal-requires : tie.Need-refusal-requires
 refusal-requires c κs =
     let got2 = c .before .got2 in
     let parse = c .before .before .before .parse in
-    (few-statements _ _ _ (got2 .given .0 .0) (parse .ensures) (search needs), few-exceptions _ _ _ (got2 .given .0 .0) (parse .ensures) (search needs))
+    (few-statements _ _ _ (got2 .given .0 .0) (parse .ensures) (search needs), omega (arith, few-exceptions _ _ _ (got2 .given .0 .0) (parse .ensures) (search needs)))
 
 returns : tie.Need-returns
 returns c =
