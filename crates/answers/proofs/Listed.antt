@@ -82,7 +82,8 @@ module _ (bs : List ℕ) (s : Shape) (ws : List ℤ) (e : readText bs ≡ accept
   unfolding onwardFrom handed moved
   step-end k from h = h
 
-  handed-page : (k : ℕ) (from : Point) → LawfulPoint (bookOf s ws) from → pageFrom (bookOf s ws) k from ≡ listing (asks bs) (replicate k (goOn 0)) from
+  -- k calls that go on hand out the first k of the later resolutions.
+  pub handed-page : (k : ℕ) (from : Point) → LawfulPoint (bookOf s ws) from → pageFrom (bookOf s ws) k from ≡ listing (asks bs) (replicate k (goOn 0)) from
   unfolding pageFrom listing answered
   handed-page zero from l = refl
   handed-page (suc k) from l = rw (asked from l) (on (nextFrom (bookOf s ws) from) (next-is (bookOf s ws) from l) refl (λ p h. handed-page k (at p) h) (handed-page k from l))

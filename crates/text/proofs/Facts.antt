@@ -20,7 +20,7 @@ use Rattle.book.specs.declared.Shape.{Shape}
 use Rattle.book.specs.declared.Content.{Content}
 use Rattle.book.specs.declared.Content.the-variants.{Edition, Literal, Exception}
 use Rattle.book.specs.Kinds.{kinds, kind, contents, fieldsOf, numbersOf, none, first, last, plain, exception, preference, ruleNumbers, preferenceNumbers, rangeOf}
-use Rattle.book.specs.Counts.{countsOf, countAt, sumTo, startOf, rowNumbers, measured}
+use Rattle.book.specs.Counts.{countsOf, countAt, sumTo, startOf, rowNumbers, textBytes, measured}
 use Rattle.book.proofs.Counts.{sum-next, sum-up}
 use Rattle.text.specs.declared.Field.the-variants.{Value}
 use Rattle.text.specs.Lines.{between, inside, code, numbersIn, headless, missing}
@@ -33,8 +33,8 @@ use Rattle.text.proofs.KindFacts.{unfilled-some, numbers-wide}
 use Rattle.text.proofs.Lines.{first-numbers}
 use Rattle.text.proofs.Layouts.{row-counts, counts-long}
 use Rattle.text.proofs.Books.{in-first}
-use Rattle.text.proofs.Written.{Row-passed, next-row}
-use Rattle.text.proofs.Inverse.{Table, shape-back, table-passed, read-write}
+use Rattle.text.proofs.Written.{Row-passed, next-row, book-bytes}
+use Rattle.text.proofs.Inverse.{book-writable, Table, shape-back, table-passed, read-write}
 
 -- ---- a block of rows of one kind
 module _ (s s′ : Shape) (k : ℕ) (ks : List ℕ) where
@@ -138,6 +138,14 @@ table-facts s ws t =
 
 pub accepted-facts : (bs : List ℕ) (s : Shape) (ws : List ℤ) → readText bs ≡ accepted s ws → Accepted s ws
 accepted-facts bs s ws e = table-facts s ws (table-passed (tableOf s ws) s ws (read-write bs s ws e .0))
+
+-- The bytes of an accepted text.
+pub text-length : (bs : List ℕ) (s : Shape) (ws : List ℤ) → readText bs ≡ accepted s ws → length bs ≡ textBytes s
+text-length bs s ws e =
+    let r = read-write bs s ws e in
+    let t = table-passed (tableOf s ws) s ws (r .0) in
+    let b = shape-back s ws in
+    ap length (sym (r .1)) ∙ book-bytes s ws (book-writable s ws (rw (b .0) at (t .limits)) s ws (rw (b .0, b .1) at (t .pass)))
 
 -- ---- what the ranges say
 literal-size : (n : ℕ) (v : ℤ) → inside (rangeOf Literal n) v ≡ true → natAbs v ≤ n

@@ -1,0 +1,179 @@
+-- "A point noted before the change goes on to the same resolutions" (document 02, (c)). Any table of sets that meets document 01's rule gives the one
+-- order of pairs: `all-later-by`. So the table of 4,096 sets and that of 65,536 list a book of at most 12 exceptions alike, `noted-point`, and the
+-- engine hands out that list, `goes-on`. Such a book keeps document 01's limits, `keeps-limits`.
+use mathlib.Core.Path.{_≡_, sym, _∙_}
+use mathlib.Core.List.{List, [], _∷_}
+use mathlib.Core.Logic.{_↔_}
+use Prim.Native.Nat.{ℕ, _^_, _<_, _≤_}
+use native.Mathlib.Omega.{arith}
+use lib.IntN.{ℤ}
+use lib.ListN.{length, take, replicate}
+use lib.Pow.{pow-mono}
+use Rattle.logic.specs.Lists.{Every}
+use Rattle.logic.specs.Tests.{pick}
+use Rattle.logic.proofs.Members.{every-at, every-of, every-map}
+use Rattle.sets.specs.declared.Pair.{Pair}
+use Rattle.book.specs.declared.Shape.{Shape}
+use Rattle.book.specs.Limits as limit
+use Rattle.book.specs.Kinds.{kinds, kind, bytes, rowOnce}
+use Rattle.book.specs.Counts.{countsOf, allCounts, countAt, sumTo, total, textBytes}
+use Rattle.book.proofs.Counts.{plain-in, preferences-in}
+use Rattle.text.specs.Reading.{readText}
+use Rattle.text.specs.Reading.Outcome.{accepted}
+use Rattle.text.specs.Accepted.{Accepted}
+use Rattle.text.proofs.Facts.{accepted-facts, text-length}
+use Rattle.order.specs.Order.{Earlier, fewer as fewer-set, smaller as smaller-set, Ordered}
+use Rattle.order.specs.Formula.{placeOf, setAt}
+use Rattle.order.proofs.Rule.{order-rule, place-there}
+use Rattle.order.proofs.Places.{place-earlier, same-order}
+use Rattle.meaning.specs.Books.{Book, Lawful}
+use Rattle.meaning.specs.Meant.{bookOf}
+use Rattle.meaning.specs.Order.{Before, fewer, smaller, differs, Ascending, Point, start, at, LawfulPoint, Later, AllLater}
+use Rattle.meaning.specs.Listings.{goOn, listing}
+use Rattle.meaning.proofs.Meant.{exceptions-count}
+use Rattle.meaning.proofs.Pages.{page-is}
+use Rattle.meaning.proofs.Sorted.{all-later}
+use Rattle.answers.specs.Operations.{asks}
+use Rattle.answers.proofs.Listed.{handed-page}
+use Rattle.bridge.specs.Ranks.{Names}
+use Rattle.bridge.proofs.Rows.{rows-named}
+use Rattle.line.proofs.PutLaws.{line-54}
+use Rattle.operations.proofs.Loading.{lawful-rows}
+use Rattle.promises.specs.Noted.{BeforeBy, earlier, differs as differs-by, LaterBy, AscendingBy, AllLaterBy, KeepsLimits}
+
+-- ---- two pairs
+-- Pairs with different sets stand in the order of their sets.
+earlier-before : (p q : Pair) → Earlier (p .taken) (q .taken) → Before p q
+earlier-before p q (fewer-set l) = fewer l
+earlier-before p q (smaller-set e l) = smaller e l
+
+before-earlier : (p q : Pair) → (p .taken ≡ q .taken → ⊥) → Before p q → Earlier (p .taken) (q .taken)
+before-earlier p q n (fewer l) = fewer-set l
+before-earlier p q n (smaller e l) = smaller-set e l
+before-earlier p q n (differs e i h s l) = absurd (n e)
+
+-- The order of pairs with different sets is that of their places in the order of the sets of w exceptions, for every w that has both.
+module _ (w : ℕ) (small : w ≤ 64) (p q : Pair) (hp : p .taken < 2 ^ w) (hq : q .taken < 2 ^ w) where
+  pub place-before : (p .taken ≡ q .taken → ⊥) → Before p q ↔ (placeOf w (p .taken) < placeOf w (q .taken))
+  place-before n =
+      let rule = order-rule w small in
+      let x = place-there w (p .taken) hp in
+      let y = place-there w (q .taken) hq in (
+        λ b. place-earlier {w = w} {f = setAt w} rule (placeOf w (p .taken)) (placeOf w (q .taken)) (x .0) (rw (x .1, y .1) (before-earlier p q n b)),
+        λ l. earlier-before p q (rw (x .1, y .1) at (rule .rises (placeOf w (p .taken)) (placeOf w (q .taken)) l (y .0))),
+      )
+
+-- So two sets stand in one order, whatever the number of exceptions.
+pub places-agree : (w v : ℕ) → w ≤ 64 → v ≤ 64 → (s t : ℕ) → s < 2 ^ w → t < 2 ^ w → s < 2 ^ v → t < 2 ^ v → (placeOf w s < placeOf w t) ↔ (placeOf v s < placeOf v t)
+places-agree w v hw hv s t sw tw sv tv = (go w v hw hv sw tw sv tv, go v w hv hw sv tv sw tw)
+  where
+    go : (w v : ℕ) → w ≤ 64 → v ≤ 64 → s < 2 ^ w → t < 2 ^ w → s < 2 ^ v → t < 2 ^ v → placeOf w s < placeOf w t → placeOf v s < placeOf v t
+    go w v hw hv sw tw sv tv l =
+        let a = place-there w s sw in
+        let b = place-there w t tw in
+        let c = place-there v s sv in
+        let d = place-there v t tv in
+        same-order {w = w} {x = v} {f = setAt w} {g = setAt v} (order-rule w hw) (order-rule v hv) (placeOf w s) (placeOf w t) (placeOf v s) (placeOf v t)
+        (b .0) (c .0) (a .1 ∙ sym (c .1)) (b .1 ∙ sym (d .1)) l
+
+-- ---- by a table that meets the rule
+module _ (w : ℕ) (f : ℕ → ℕ) (rule : Ordered w f) where
+  by-place : (p q : Pair) → p .taken < 2 ^ w → q .taken < 2 ^ w → Earlier (p .taken) (q .taken) → BeforeBy w f p q
+  by-place p q hp hq l =
+      let j = rule .present (p .taken) hp in
+      let k = rule .present (q .taken) hq in
+      earlier (j .0) (k .0) (place-earlier {w = w} {f = f} rule (j .0) (k .0) (j .1) (rw (j .2, k .2) l)) (k .1) (j .2) (k .2)
+
+  -- Two pairs that it has both stand in it as they do by the rule.
+  before-by : (p q : Pair) → p .taken < 2 ^ w → q .taken < 2 ^ w → Before p q → BeforeBy w f p q
+  before-by p q hp hq (fewer l) = by-place p q hp hq (fewer-set l)
+  before-by p q hp hq (smaller e l) = by-place p q hp hq (smaller-set e l)
+  before-by p q hp hq (differs e i h s l) = differs-by e i h s l
+
+  by-before : (p q : Pair) → BeforeBy w f p q → Before p q
+  by-before p q (earlier j k l h ep eq) = earlier-before p q (rw (ep, eq) at (rule .rises j k l h))
+  by-before p q (differs-by e i h s l) = differs e i h s l
+
+  by-ascending : (ps : List Pair) → AscendingBy w f ps → Ascending ps
+  by-ascending [] a = tt
+  by-ascending (p ∷ ps) a = (every-map (λ q. by-before p q) ps (a .0), by-ascending ps (a .1))
+
+  -- In a book of at most w exceptions.
+  module _ (b : Book) (few : length (b .exceptions) ≤ w) where
+    in-table : (p : Pair) → Lawful b p → p .taken < 2 ^ w
+    in-table p l = omega (arith, l .exceptions, pow-mono few)
+
+    ascending-by : (ps : List Pair) → Every (Lawful b) ps → Ascending ps → AscendingBy w f ps
+    ascending-by [] l a = tt
+    ascending-by (p ∷ ps) l a = (
+      every-of (BeforeBy w f p) ps (λ q m. before-by p q (in-table p (l .0)) (in-table q (every-at (Lawful b) q ps (l .1) m)) (every-at (Before p) q ps (a .0) m)),
+      ascending-by ps (l .1) (a .1),
+    )
+
+    by-later : (from : Point) (q : Pair) → LaterBy w f from q → Later from q
+    by-later start q l = tt
+    by-later (at p) q l = by-before p q l
+
+    later-by : (from : Point) → LawfulPoint b from → (q : Pair) → Lawful b q → Later from q → LaterBy w f from q
+    later-by start h q m l = tt
+    later-by (at p) h q m l = before-by p q (in-table p h) (in-table q m) l
+
+    -- The list of all later resolutions is the same by the table and by the rule.
+    pub all-later-by : (from : Point) → LawfulPoint b from → (ps : List Pair) → AllLaterBy w f b from ps ↔ AllLater b from ps
+    all-later-by from h ps = (
+      λ a. record {
+        only = every-map (λ p x. (x .0, by-later from p (x .1))) ps (a .only);
+        all = λ p r l. a .all p r (later-by from h p (r .view .lawful) l);
+        ascending = by-ascending ps (a .ascending);
+      },
+      λ a. record {
+        only = every-map (λ p x. (x .0, later-by from h p (x .0 .view .lawful) (x .1))) ps (a .only);
+        all = λ p r l. a .all p r (by-later from p l);
+        ascending = ascending-by ps (every-map (λ p x. x .0 .view .lawful) ps (a .only)) (a .ascending);
+      },
+    )
+
+-- ---- before the change and after it
+-- In a book of at most 12 exceptions the resolutions later than a point are listed alike by any table of the sets of 12 and any of the sets of 16.
+pub noted-point : (old new : ℕ → ℕ) → Ordered limit.shortLine old → Ordered limit.exceptions new → (b : Book) → length (b .exceptions) ≤ limit.shortLine
+    → (from : Point) → LawfulPoint b from → (ps : List Pair) → AllLaterBy limit.shortLine old b from ps ↔ AllLaterBy limit.exceptions new b from ps
+noted-point old new ro rn b few from h ps =
+    let x = all-later-by limit.shortLine old ro b few from h ps in
+    let y = all-later-by limit.exceptions new rn b (omega arith) from h ps in
+    (λ a. y .1 (x .0 a), λ a. x .1 (y .0 a))
+
+module _ (bs : List ℕ) (s : Shape) (ws : List ℤ) (e : readText bs ≡ accepted s ws) (few : s .exceptions ≤ limit.shortLine) where
+  facts : Accepted s ws
+  facts = accepted-facts bs s ws e
+
+  -- From a point in such a book the calls that go on hand out the later resolutions in document 01's order, each once, and nothing after them.
+  pub goes-on : (old : ℕ → ℕ) → Ordered limit.shortLine old → (from : Point) → LawfulPoint (bookOf s ws) from
+      → (ps : List Pair) × AllLaterBy limit.shortLine old (bookOf s ws) from ps × ((k : ℕ) → listing (asks bs) (replicate k (goOn 0)) from ≡ take k ps)
+  goes-on old rule from h =
+      let a = all-later (bookOf s ws) from h in (
+        a .0,
+        all-later-by limit.shortLine old rule (bookOf s ws) (rw (exceptions-count s ws) few) from h (a .0) .1 (a .1),
+        λ k. sym (handed-page bs s ws e k from h) ∙ page-is (bookOf s ws) k from (a .0) h (a .1),
+      )
+
+  -- ---- document 01's limits
+  few-bytes : textBytes s ≤ 8392
+  unfolding sumTo countAt allCounts countsOf kind kinds bytes
+  few-bytes = omega (arith, plain-in s (facts .limits), preferences-in s (facts .limits))
+
+  few-rows : total s ≤ 244
+  unfolding sumTo countAt allCounts countsOf kind kinds rowOnce pick
+  few-rows = omega (arith, plain-in s (facts .limits), preferences-in s (facts .limits))
+
+  names-few : (i : ℕ) → Names (length (bookOf s ws .exceptions)) i → Names limit.shortLine i
+  names-few i n = record { from-one = n .from-one; most = omega (arith, n .most, exceptions-count s ws) }
+
+  -- A text that is accepted now and has no more X lines than document 01 allows keeps all its limits.
+  pub keeps-limits : KeepsLimits bs s ws
+  unfolding bookOf
+  keeps-limits = record {
+    text = omega (arith, text-length bs s ws e, few-bytes);
+    total = few-rows;
+    preferences = every-map (λ (l : ℕ × ℕ) n. (names-few (l .0) (n .0), names-few (l .1) (n .1))) (bookOf s ws .preferences) (rows-named s ws (lawful-rows s ws facts));
+    line = λ p. line-54 (length (bookOf s ws .exceptions)) (s .statements) p (rw (exceptions-count s ws) few);
+  }

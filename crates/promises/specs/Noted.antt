@@ -1,0 +1,50 @@
+-- What was noted before request (c) of document 02, and the books of that time: the order of pairs as document 01 lays it down, by a table of the
+-- sets of taken exceptions, and document 01's limits.
+use Prim.Native.Nat.{ℕ, _+_, _^_, _<_, _≤_}
+use mathlib.Core.Path.{_≡_}
+use mathlib.Core.List.{List, [], _∷_}
+use lib.IntN.{ℤ}
+use lib.ListN.{length}
+use Rattle.logic.specs.Lists.{Every, Among}
+use Rattle.sets.specs.declared.Pair.{Pair}
+use Rattle.book.specs.declared.Shape.{Shape}
+use Rattle.book.specs.Limits as limit
+use Rattle.book.specs.Counts.{total as rowsIn}
+use Rattle.meaning.specs.Books.{Book}
+use Rattle.meaning.specs.Meant.{bookOf}
+use Rattle.meaning.specs.Order.{value, Point, start, at}
+use Rattle.meaning.specs.Resolutions.{Resolution}
+use Rattle.answers.specs.Operations.{lineIn}
+use Rattle.bridge.specs.Ranks.{Names}
+
+-- ---- by a table f of the sets of w exceptions, which has 2^w places
+-- The pair p comes before q: its set stands at an earlier place; or both have the same set, and at the lowest-numbered statement that differs
+-- absent comes before held before denied.
+pub data BeforeBy (w : ℕ) (f : ℕ → ℕ) (p q : Pair) : Type 0 where
+  earlier : (j k : ℕ) → j < k → k < 2 ^ w → f j ≡ p .taken → f k ≡ q .taken → BeforeBy w f p q
+  differs : p .taken ≡ q .taken → (i : ℕ) → 0 < i → ((j : ℕ) → 0 < j → j < i → value p j ≡ value q j) → value p i < value q i → BeforeBy w f p q
+
+-- The pair is later than the point.
+abbrev pub LaterBy : ℕ → (ℕ → ℕ) → Point → Pair → Type 0
+LaterBy w f start q = Unit {0}
+LaterBy w f (at p) q = BeforeBy w f p q
+
+-- Each member of the list comes before all that follow it.
+abbrev pub AscendingBy : ℕ → (ℕ → ℕ) → List Pair → Type 0
+AscendingBy w f [] = Unit {0}
+AscendingBy w f (p ∷ ps) = Every (BeforeBy w f p) ps × AscendingBy w f ps
+
+-- The list of all resolutions later than the point, in this order, each once.
+pub record AllLaterBy (w : ℕ) (f : ℕ → ℕ) (b : Book) (from : Point) (ps : List Pair) : Type 0 where
+  pub only : Every (λ p. Resolution b p × LaterBy w f from p) ps
+  pub all : (p : Pair) → Resolution b p → LaterBy w f from p → Among p ps
+  pub ascending : AscendingBy w f ps
+
+-- ---- the limits of document 01
+-- A text and its book keep the limits of document 01: the bytes of the text, the number of Z, the fields of the P lines; and the lines of Line
+-- have the bytes that document 01 gives them.
+pub record KeepsLimits (bs : List ℕ) (s : Shape) (ws : List ℤ) : Type 0 where
+  pub text : length bs ≤ 8392
+  pub total : rowsIn s ≤ 244
+  pub preferences : Every (λ (l : ℕ × ℕ). Names limit.shortLine (l .0) × Names limit.shortLine (l .1)) (bookOf s ws .preferences)
+  pub line : (p : Pair) → length (lineIn (bookOf s ws) p) ≡ 54 + s .statements
