@@ -1,6 +1,7 @@
 -- What is answered of a prepared book: its root bounds, the verdict, pages. A page of the walk is the page of the definitions, since both are
 -- the front of the one list of all later resolutions.
 use mathlib.Core.Path.{_≡_, sym, _∙_}
+use mathlib.Core.Bool.{Bool, true, false}
 use mathlib.Core.List.{List}
 use Prim.Native.Nat.{ℕ, _-_, _*_, _/_, _≤_}
 use native.Mathlib.Nat.{le-refl, div-mul-le-self}
@@ -28,7 +29,7 @@ use Rattle.bridge.specs.Roots.{rootOf}
 use Rattle.bridge.specs.Rows.{ruleCount}
 use Rattle.resolution.proofs.Resolutions.{rooted}
 use Rattle.judge.specs.Judged.{Judged}
-use Rattle.walk.specs.Walks.{Serves, FirstPage, PageAfter}
+use Rattle.walk.specs.Walks.{Serves, beginning, Paged}
 use Rattle.engine.specs.Loaded.{Loaded, RootIs, VerdictIs, PageIs}
 
 pub root-is : (s : Shape) (ws ranks : List ℕ) (b o : Bounds) → ((t : List ℤ) → b ≡ rootOf (bookOf s t)) → Propagated ws (ruleCount s) ranks b o → RootIs s ws ranks o
@@ -63,14 +64,16 @@ module _ (s : Shape) (ws ranks : List ℕ) (root : Bounds) (q : Task) (i : RootI
   few rows = rw (exceptions-count s rows) (le-refl (s .exceptions))
 
   module _ (o o′ : List ℕ) (r : ℕ) (em : q .room ≡ length o / 3) where
-    pub first-is : FirstPage ws ranks root q (s .exceptions) o o′ r → PageIs s ws ranks start o o′ r
-    first-is f = record {
-      count = λ rows l p. let d = f .page (bookOf s rows) (serves rows l) (few rows) in page-count (bookOf s rows) start o o′ r (q .room) em (d .0) (d .1) p (d .2);
-      filled = λ rows l p. let d = f .page (bookOf s rows) (serves rows l) (few rows) in page-filled (bookOf s rows) start o o′ r (q .room) em (d .0) (d .1) p (d .2);
+    pages-are : (a : Bool) → Paged ws ranks root q (s .exceptions) a o o′ r → PageIs s ws ranks (beginning a q) o o′ r
+    pages-are a f = record {
+      count = λ rows l p. let d = f .page (bookOf s rows) (serves rows l) (few rows) p in page-count (bookOf s rows) (beginning a q) o o′ r (q .room) em (d .0) (d .1) p (d .2);
+      filled = λ rows l p. let d = f .page (bookOf s rows) (serves rows l) (few rows) p in page-filled (bookOf s rows) (beginning a q) o o′ r (q .room) em (d .0) (d .1) p (d .2);
     }
 
-    pub after-is : PageAfter ws ranks root q (s .exceptions) o o′ r → PageIs s ws ranks (at (q .point)) o o′ r
-    after-is f = record {
-      count = λ rows l p. let d = f .page (bookOf s rows) (serves rows l) (few rows) p in page-count (bookOf s rows) (at (q .point)) o o′ r (q .room) em (d .0) (d .1) p (d .2);
-      filled = λ rows l p. let d = f .page (bookOf s rows) (serves rows l) (few rows) p in page-filled (bookOf s rows) (at (q .point)) o o′ r (q .room) em (d .0) (d .1) p (d .2);
-    }
+    pub first-is : Paged ws ranks root q (s .exceptions) false o o′ r → PageIs s ws ranks start o o′ r
+    unfolding beginning
+    first-is f = pages-are false f
+
+    pub after-is : Paged ws ranks root q (s .exceptions) true o o′ r → PageIs s ws ranks (at (q .point)) o o′ r
+    unfolding beginning
+    after-is f = pages-are true f

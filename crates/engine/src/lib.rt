@@ -60,7 +60,7 @@ pub fn first_in(words: &Words, ranks: &Ranks, s: Shape, out: &mut [u64]) -> usiz
             denied: 0,
         },
     };
-    walk::first_page(words, ranks, &index, root, s.exceptions, task, out)
+    walk::page(words, ranks, &index, root, s.exceptions, task, false, out)
 }
 
 // The first resolutions later than a pair that is lawful in the prepared book.
@@ -78,5 +78,5 @@ pub fn after_in(words: &Words, ranks: &Ranks, s: Shape, p: Pair, out: &mut [u64]
         room: out.len() / 3,
         point: p,
     };
-    walk::page_after(words, ranks, &index, root, s.exceptions, task, out)
+    walk::page(words, ranks, &index, root, s.exceptions, task, true, out)
 }

@@ -1,146 +1,295 @@
--- Marks that are set one by one: each is the mark of a struck set, and no struck set is left out; and the exceptions that a set outranks,
+-- Marks that are set word by word: each is the mark of a struck set, and no struck set is left out; and the exceptions that a set outranks,
 -- gathered word by word.
-use mathlib.Core.Path.{_≡_, refl, sym, _∙_}
-use mathlib.Core.Bool.{true, false, not}
+use mathlib.Core.Path.{_≡_, refl, sym, ap, _∙_}
+use mathlib.Core.Bool.{true}
 use mathlib.Core.List.{List}
-use mathlib.Core.Logic.{inl, inr, ⊎-elim}
-use Prim.Native.Nat.{ℕ, _+_, _-_, _<_, _≤_}
-use native.Mathlib.Nat.{le-refl, le-trans}
+use mathlib.Core.Logic.{_⊎_, inl, inr, ⊎-elim}
+use Prim.Native.Nat.{ℕ, suc, _+_, _*_, _/_, _%_, _^_, _<_, _≤_}
+use native.Mathlib.Nat.{le-refl, le-trans, mod-lt}
 use native.Mathlib.Omega.{arith}
 use lib.Bits.{bitAnd, bitOr}
 use lib.Dec.{eqb}
-use lib.ListN.{length, getD, set, length-set, List·getD-eq-default}
+use lib.ListN.{length, getD, set, replicate, length-set, getD-replicate, List·getD-eq-default, length-replicate}
 use lib.Seq.{getD-set-same, getD-set-other}
+use borrow.Author.Tests.{eqb-true, eq-eqb}
 use Rattle.logic.specs.Tests.{Decides}
-use Rattle.logic.proofs.Decide.{clash, decided, reworded, holds-or-not, decides-eq, decides-not}
+use Rattle.logic.proofs.Decide.{decided, reworded, holds-or-not, decides-eq}
+use Rattle.logic.proofs.Tests.{all, all-at}
 use Rattle.sets.specs.Sets.{bitOf, Within, Apart, without}
-use Rattle.sets.proofs.Digits.{bit-or, bit-lt, bit-zero, lt-or-le}
-use Rattle.sets.proofs.Words.{minus-zero, zero-minus, minus-off, and-none, none-and, none-off, or-r, and-r, sub-or, sub-le}
-use Rattle.book.specs.Kinds.{setCount}
+use Rattle.sets.proofs.Digits.{bit-and, bit-or, bit-without, bit-single, bit-lt, bit-zero, shifted, lt-or-le}
+use Rattle.sets.proofs.Words.{minus-off, and-none, none-and, off-is, off-sub, or-l, or-r, and-r, sub-or, sub-le, zero-minus, none-off}
 use Rattle.meaning.specs.Books.{Book}
 use Rattle.marking.specs.declared.Strike.{Strike}
-use Rattle.marking.specs.Marks.{Struck, shares, between, IsMarked, Marked, Stands, Next, NoneAt, RightMarks, Outranked, WithRank}
-use Rattle.marking.proofs.Steps.{outside, outside-lt, outside-parts, none-after, later, next-in}
+use Rattle.marking.specs.Marks.{marksIn, IsMarked, shut-out, noted, InRange, Struck, shares, between, Marked, Digit, Fits, Chosen, Pattern, Spans, Next, allOnes, Clear, NoneAt, RightMarks, Outranked, WithRank}
+use Rattle.marking.proofs.Steps.{outside, outside-lt, outside-parts, room, later, next-in, bit-number, words-within, within-words, ones-at}
 
--- ---- one set
-module _ (s : Strike) (t : ℕ) where
-  pub struck-shares : (bitAnd t (s .any) ≡ 0 → ⊥) → Decides true (Struck s t)
-  struck-shares n = decided (λ e. shares (λ a. n (none-and t (s .any) (λ k. let q = a k in omega arith)))) (λ k. refl)
+-- ---- one look
+module _ (m : List ℕ) (t : ℕ) where
+  pub look-shut : (bitAnd t (getD m 0 0) ≡ 0 → ⊥) → Decides true (IsMarked m t)
+  look-shut n = decided (λ e. shut-out (λ a. n (none-and t (getD m 0 0) (λ k. let q = a k in omega arith)))) (λ k. refl)
 
-  -- A set that shares nothing is struck only by lo and hi.
-  only-between : bitAnd t (s .any) ≡ 0 → Struck s t → Within (s .lo) t × Within t (s .hi) × (t ≡ s .but → ⊥)
-  only-between z (shares d) = absurd (d (λ k. let q = and-none t (s .any) z k in omega arith))
-  only-between z (between a b d) = (a, b, d)
+  pub look-noted : bitAnd t (getD m 0 0) ≡ 0 → Decides (eqb (bitOf (getD m (t / 64 + 1) 0) (t % 64)) 1) (IsMarked m t)
+  look-noted z = reworded (decides-eq _ 1) (λ e. noted e) only
+    where
+      only : IsMarked m t → bitOf (getD m (t / 64 + 1) 0) (t % 64) ≡ 1
+      only (shut-out d) = absurd (d (λ k. let q = and-none t (getD m 0 0) z k in omega arith))
+      only (noted e) = e
 
-  pub struck-below : bitAnd t (s .any) ≡ 0 → (without (s .lo) t ≡ 0 → ⊥) → Decides false (Struck s t)
-  struck-below z n = decided (λ e. absurd (clash e)) (λ k. absurd (n (zero-minus (s .lo) t (only-between z k .0))))
+-- Words of zeros mark nothing.
+pub zeros-clear : (k : ℕ) → Clear (replicate k 0)
+zeros-clear k = record { none = none }
+  where
+    zero-at : (i : ℕ) → _≡_ {A = ℕ} (getD (replicate k 0) i 0) 0
+    zero-at i = ⊎-elim (λ h. getD-replicate k i 0 0 h) (λ h. List·getD-eq-default (replicate k 0) 0 (rw (length-replicate {A = ℕ} k 0) h)) (lt-or-le i k)
 
-  pub struck-above : bitAnd t (s .any) ≡ 0 → (without t (s .hi) ≡ 0 → ⊥) → Decides false (Struck s t)
-  struck-above z n = decided (λ e. absurd (clash e)) (λ k. absurd (n (zero-minus t (s .hi) (only-between z k .1))))
+    none : (t : ℕ) → IsMarked (replicate k 0) t → ⊥
+    none t (shut-out d) = d (rw (zero-at 0) (none-off t))
+    none t (noted e) = let x = rw (zero-at (t / 64 + 1)) at e in let y = bit-zero (t % 64) in omega arith
 
-  pub struck-between : bitAnd t (s .any) ≡ 0 → without (s .lo) t ≡ 0 → without t (s .hi) ≡ 0 → Decides (not (eqb t (s .but))) (Struck s t)
-  struck-between z a b =
-      reworded (decides-not (decides-eq t (s .but))) (λ d. between (minus-zero (s .lo) t a) (minus-zero t (s .hi) b) d) (λ k. only-between z k .2)
+-- ---- the numbers of a word
+-- A word of numbers with a digit, found by looking at all 64.
+pub digit-is : (i d : ℕ) → all (λ k. eqb (bitOf d k) (bitOf k i)) 64 ≡ true → Digit i d
+digit-is i d e = record { is = λ k h. eqb-true _ _ (all-at (λ k. eqb (bitOf d k) (bitOf k i)) 64 k e h) }
 
--- ---- the sets to look at
--- Where no member is asked for, a struck set lies from lo to hi.
-in-range : (s : Strike) (t : ℕ) → Struck s t → Stands s t
-in-range s t (shares d) e = absurd (d (rw e (none-off t)))
-in-range s t (between a b d) e = (a, b)
+module _ (p i d lo hi : ℕ) (g : Digit i d) (sub : Within lo hi) where
+  -- lo has the digit; hi has it not; it may be either.
+  pub chosen-with : bitOf lo i ≡ 1 → Chosen p (λ k. Fits lo hi k i) (bitAnd p d)
+  chosen-with e = record {
+    from = λ k h x. let a = bit-and p d k in let b = g .is k h in let c = sub i in let u = bit-lt p k in let v = bit-lt d k in let w = bit-lt hi i in (omega arith, (omega arith, omega arith));
+    all = λ k h x f. let a = bit-and p d k in let b = g .is k h in let c = f .0 in let v = bit-lt d k in omega arith;
+  }
 
-module _ (s : Strike) where
-  -- Where a member is asked for, every set is looked at.
-  pub next-any : (s .any ≡ 0 → ⊥) → (t : ℕ) → Next s t t
-  next-any n t = record { least = λ u h k. h; stands = λ l e. absurd (n e) }
+  pub chosen-without : bitOf hi i ≡ 0 → Chosen p (λ k. Fits lo hi k i) (without p d)
+  chosen-without e = record {
+    from = λ k h x. let a = bit-without p d k in let b = g .is k h in let c = sub i in let u = bit-lt p k in (omega arith, (omega arith, omega arith));
+    all = λ k h x f. let a = bit-without p d k in let b = g .is k h in let c = f .1 in omega arith;
+  }
 
-  module _ (e : s .any ≡ 0) where
-    -- No set lies from lo to hi.
-    pub first-none : (without (s .lo) (s .hi) ≡ 0 → ⊥) → Next s 0 setCount
-    first-none n = record {
-      least = λ u h k. let x = in-range s u k e in absurd (n (zero-minus (s .lo) (s .hi) (λ i. le-trans (x .0 i) (x .1 i))));
-      stands = λ l. absurd (omega arith);
-    }
+  pub chosen-all : (bitOf lo i ≡ 1 → ⊥) → (bitOf hi i ≡ 0 → ⊥) → Chosen p (λ k. Fits lo hi k i) p
+  chosen-all n o = record {
+    from = λ k h x. let u = bit-lt lo i in let v = bit-lt hi i in let w = bit-lt k i in (x, (omega arith, omega arith));
+    all = λ k h x f. x;
+  }
 
-    pub first-lo : without (s .lo) (s .hi) ≡ 0 → Next s 0 (s .lo)
-    first-lo z = record {
-      least = λ u h k. sub-le (s .lo) u (in-range s u k e .0);
-      stands = λ l y. (λ i. le-refl _, minus-zero (s .lo) (s .hi) z);
-    }
+module _ (lo hi : ℕ) where
+  pub pattern-none : Pattern 0 lo hi allOnes
+  pattern-none = record { from = λ k h x i l. absurd (omega arith); all = λ k h f. ones-at k h }
 
-    -- What is outside of hi.
-    abbrev gap : ℕ
-    gap = outside (s .hi)
+  pub pattern-more : (m p r : ℕ) → Pattern m lo hi p → Chosen p (λ k. Fits lo hi k m) r → Pattern (suc m) lo hi r
+  pattern-more m p r f c = record {
+    from = λ k h x i l. ⊎-elim (λ a. f .from k h (c .from k h x .0) i a) (λ a. let e : i ≡ m = omega arith in rw e (c .from k h x .1)) (lt-or-le i m);
+    all = λ k h g. c .all k h (f .all k h (λ i l. g i (omega arith))) (g m (omega arith));
+  }
 
-    off : Apart gap (s .hi)
-    off = minus-off (setCount - 1) (s .hi)
+-- The word that has the set left out, and the others.
+module _ (p but w : ℕ) where
+  pub other-word : (but / 64 ≡ w → ⊥) → Chosen p (λ k. w * 64 + k ≡ but → ⊥) p
+  other-word n = record { from = λ k h x. (x, λ e. n (omega arith)); all = λ k h x o. x }
 
-    module _ (t : ℕ) (w : Stands s t) where
-      -- What is within hi of the sum that is carried over the rest.
-      abbrev carried : ℕ
-      carried = bitAnd (bitOr t gap + 1) (s .hi)
-
-      pub next-none : setCount ≤ bitOr t gap + 1 → Next s (t + 1) setCount
-      next-none g = record {
-        least = λ u h k. none-after (s .hi) gap off t u (outside-lt (s .hi)) (w e .1) (in-range s u k e .1) g (omega arith);
-        stands = λ l. absurd (omega arith);
-      }
-
-      pub next-range : Next s (t + 1) (bitOr carried (s .lo))
-      next-range = record {
-        least = λ u h k. let x = in-range s u k e in next-in (s .hi) gap off t u (s .lo) (w e .0) (w e .1) (x .0) (x .1) (omega arith);
-        stands = λ l y. (or-r carried (s .lo), sub-or carried (s .lo) (s .hi) (and-r (bitOr t gap + 1) (s .hi)) (λ i. le-trans (w e .0 i) (w e .1 i)));
-      }
-
-      pub next-later : bitOr t gap + 1 < setCount → t < bitOr carried (s .lo)
-      next-later h = later (s .hi) gap off t (s .lo) (w e .1) (outside-parts (s .hi) (bitOr t gap + 1) h)
-
--- ---- all sets
-module _ (s : Strike) (m : List ℕ) where
-  marked-same : (from to : ℕ) → ((u : ℕ) → from ≤ u → u < to → Struck s u → IsMarked m u) → Marked m s from to m
-  marked-same from to f = record { only = λ t x. inl x; stays = λ t x. x; same = refl; all = λ u h l g k. f u h l k }
-
-  -- The set t is marked already; it is not struck; it is marked now.
-  pub marked-there : (t : ℕ) → IsMarked m t → Marked m s t (t + 1) m
-  marked-there t x = marked-same t (t + 1) (λ u h l k. let e : u ≡ t = omega arith in rw e x)
-
-  pub marked-not : (t : ℕ) → (Struck s t → ⊥) → Marked m s t (t + 1) m
-  marked-not t n = marked-same t (t + 1) (λ u h l k. let e : u ≡ t = omega arith in absurd (n (rw e at k)))
-
-  pub marked-one : (t : ℕ) → Struck s t → Marked m s t (t + 1) (set m t 1)
-  marked-one t k = record {
-    only = λ u x. ⊎-elim (λ e. inr (rw e k)) (λ n. inl (λ z. x (getD-set-other m t u 1 0 n ∙ z))) (holds-or-not (decides-eq u t));
-    stays = λ u x. ⊎-elim (λ e. rw e (here (there m t (rw e at x)))) (λ n z. x (sym (getD-set-other m t u 1 0 n) ∙ z)) (holds-or-not (decides-eq u t));
-    same = length-set m t 1;
-    all = λ u a b h c. let e : u ≡ t = omega arith in rw e (here (rw e at h));
+  pub own-word : but / 64 ≡ w → Chosen p (λ k. w * 64 + k ≡ but → ⊥) (without p (1 * 2 ^ (but % 64) % 2 ^ 64))
+  own-word e = rw (shifted (but % 64) (omega (arith, mod-lt but {m = 64} (omega arith)))) record {
+    from = λ k h x.
+        let a = bit-without p (2 ^ (but % 64)) k in
+        let u = bit-lt p k in
+        (omega arith, λ o. let b = has k (omega arith) in omega arith);
+    all = λ k h x o. let a = bit-without p (2 ^ (but % 64)) k in let b = has-not k (λ d. o (omega arith)) in omega arith;
   }
     where
-      here : t < length m → IsMarked (set m t 1) t
-      here h z = let e = getD-set-same m t 1 0 h in omega arith
+      has : (k : ℕ) → but % 64 ≡ k → bitOf (2 ^ (but % 64)) k ≡ 1
+      has k d = eqb-true _ _ (bit-single (but % 64) k ∙ eq-eqb _ _ d)
 
-      there : (l : List ℕ) (i : ℕ) → IsMarked l i → i < length l
-      there l i x = ⊎-elim (λ h. h) (λ h. absurd (x (List·getD-eq-default l 0 h))) (lt-or-le i (length l))
+      has-not : (k : ℕ) → (but % 64 ≡ k → ⊥) → bitOf (2 ^ (but % 64)) k ≡ 0
+      has-not k n =
+          let l = bit-lt (2 ^ (but % 64)) k in
+          let o : bitOf (2 ^ (but % 64)) k ≡ 1 → ⊥ = λ x. n (eqb-true _ _ (sym (bit-single (but % 64) k) ∙ eq-eqb _ _ x)) in
+          omega arith
 
-  -- Nothing stands before the first set; one set more; all sets.
-  pub marked-none : (r : ℕ) → Next s 0 r → Marked m s 0 r m
-  marked-none r f = marked-same 0 r (λ u h l k. let e = f .least u h k in absurd (omega arith))
+-- ---- marks more and more
+-- Nothing to mark; two steps; the first word; another word.
+pub marked-none : (m : List ℕ) (P : ℕ → Type 0) → ((t : ℕ) → P t → ⊥) → Marked m P m
+marked-none m P n = record { only = λ t x. inl x; stays = λ t x. x; same = refl; all = λ t h x. absurd (n t x) }
 
-  pub marked-more : (n o : List ℕ) (t r : ℕ) → Marked m s 0 t n → Marked n s t (t + 1) o → Next s (t + 1) r → Marked m s 0 r o
-  marked-more n o t r f g x = record {
-    only = λ u y. ⊎-elim (λ z. f .only u z) (λ k. inr k) (g .only u y);
-    stays = λ u y. g .stays u (f .stays u y);
-    same = g .same ∙ f .same;
-    all = λ u h l i k.
-        ⊎-elim (λ a. g .stays u (f .all u h a i k))
-        (λ a. ⊎-elim (λ b. g .all u a b (rw (f .same) i) k) (λ b. let e = x .least u b k in absurd (omega arith)) (lt-or-le u (t + 1)))
-        (lt-or-le u t);
+pub marked-both : (l m n : List ℕ) (P Q R : ℕ → Type 0) → Marked l P m → Marked m Q n → ((t : ℕ) → P t ⊎ Q t → R t) → ((t : ℕ) → t < marksIn l → R t → P t ⊎ Q t) → Marked l R n
+marked-both l m n P Q R f g into back = record {
+  only = λ t x. ⊎-elim (λ y. ⊎-elim (λ z. inl z) (λ z. inr (into t (inl z))) (f .only t y)) (λ y. inr (into t (inr y))) (g .only t x);
+  stays = λ t x. g .stays t (f .stays t x);
+  same = g .same ∙ f .same;
+  all = λ t h x. ⊎-elim (λ y. g .stays t (f .all t h y)) (λ y. g .all t (rw (f .same) h) y) (back t h x);
+}
+
+module _ (m : List ℕ) where
+  module _ (any : ℕ) (room : 0 < length m) where
+    abbrev first : ℕ
+    first = getD m 0 0
+
+    abbrev shut : List ℕ
+    shut = set m 0 (bitOr first any)
+
+    shut-first : getD shut 0 0 ≡ bitOr first any
+    shut-first = getD-set-same m 0 (bitOr first any) 0 room
+
+    shut-other : (t : ℕ) → getD shut (t / 64 + 1) 0 ≡ getD m (t / 64 + 1) 0
+    shut-other t = getD-set-other m 0 (t / 64 + 1) (bitOr first any) 0 (λ e. omega arith)
+
+    either-off : (t : ℕ) → Apart first t → Apart any t → Apart (bitOr first any) t
+    either-off t a b i = let o = bit-or first any i in let x = a i in let y = b i in omega arith
+
+    pub marked-first : Marked m (λ t. Apart any t → ⊥) shut
+    marked-first = record { only = only; stays = stays; same = length-set m 0 (bitOr first any); all = λ t h x. shut-out (rw shut-first (λ a. x (off-sub any (bitOr first any) t t (or-r first any) (λ i. le-refl _) a))) }
+      where
+        only : (t : ℕ) → IsMarked shut t → IsMarked m t ⊎ (Apart any t → ⊥)
+        only t (shut-out d) = ⊎-elim (λ a. inr (λ b. rw shut-first at d (either-off t a b))) (λ n. inl (shut-out n)) (holds-or-not (off-is first t))
+        only t (noted e) = inl (noted (sym (ap (λ (x : ℕ). bitOf x (t % 64)) (shut-other t)) ∙ e))
+
+        stays : (t : ℕ) → IsMarked m t → IsMarked shut t
+        stays t (shut-out d) = shut-out (rw shut-first (λ a. d (off-sub first (bitOr first any) t t (or-l first any) (λ i. le-refl _) a)))
+        stays t (noted e) = noted (ap (λ (x : ℕ). bitOf x (t % 64)) (shut-other t) ∙ e)
+
+  module _ (w new : ℕ) (room : w + 1 < length m) where
+    abbrev word : ℕ
+    word = getD m (w + 1) 0
+
+    abbrev more : List ℕ
+    more = set m (w + 1) (bitOr word new)
+
+    more-first : getD more 0 0 ≡ getD m 0 0
+    more-first = getD-set-other m (w + 1) 0 (bitOr word new) 0 (λ e. omega arith)
+
+    more-there : (t : ℕ) → t / 64 ≡ w → getD more (t / 64 + 1) 0 ≡ bitOr word new
+    more-there t e = rw e (getD-set-same m (w + 1) (bitOr word new) 0 room)
+
+    more-other : (t : ℕ) → (t / 64 ≡ w → ⊥) → getD more (t / 64 + 1) 0 ≡ getD m (t / 64 + 1) 0
+    more-other t n = getD-set-other m (w + 1) (t / 64 + 1) (bitOr word new) 0 (λ e. n (omega arith))
+
+    pub marked-word : Marked m (λ t. (t / 64 ≡ w) × (bitOf new (t % 64) ≡ 1)) more
+    marked-word = record { only = only; stays = stays; same = length-set m (w + 1) (bitOr word new); all = λ t h x. noted (rw (more-there t (x .0)) (new-at t (x .1))) }
+      where
+        new-at : (t : ℕ) → bitOf new (t % 64) ≡ 1 → bitOf (bitOr word new) (t % 64) ≡ 1
+        new-at t x = let o = bit-or word new (t % 64) in let l = bit-lt word (t % 64) in omega arith
+
+        old-at : (t : ℕ) → bitOf word (t % 64) ≡ 1 → bitOf (bitOr word new) (t % 64) ≡ 1
+        old-at t x = let o = bit-or word new (t % 64) in let l = bit-lt new (t % 64) in omega arith
+
+        one-of : (t : ℕ) → bitOf (bitOr word new) (t % 64) ≡ 1 → (bitOf new (t % 64) ≡ 1 → ⊥) → bitOf word (t % 64) ≡ 1
+        one-of t x n = let o = bit-or word new (t % 64) in let k = bit-lt word (t % 64) in let l = bit-lt new (t % 64) in omega arith
+
+        only : (t : ℕ) → IsMarked more t → IsMarked m t ⊎ ((t / 64 ≡ w) × (bitOf new (t % 64) ≡ 1))
+        only t (shut-out d) = inl (shut-out (rw more-first at d))
+        only t (noted x) =
+            ⊎-elim
+            (λ e. ⊎-elim (λ y. inr (e, y)) (λ n. inl (noted (rw e (one-of t (rw (more-there t e) at x) n)))) (holds-or-not (decides-eq (bitOf new (t % 64)) 1)))
+            (λ n. inl (noted (rw (more-other t n) at x)))
+            (holds-or-not (decides-eq (t / 64) w))
+
+        stays : (t : ℕ) → IsMarked m t → IsMarked more t
+        stays t (shut-out d) = shut-out (rw more-first d)
+        stays t (noted x) =
+            ⊎-elim (λ e. noted (rw (more-there t e) (old-at t (rw e at x)))) (λ n. noted (rw (more-other t n) x)) (holds-or-not (decides-eq (t / 64) w))
+
+-- ---- the words of a range
+module _ (lo hi : ℕ) where
+  -- Nothing comes after hi.
+  pub next-none : (w end : ℕ) → w ≡ hi → Next lo hi (w + 1) end end
+  next-none w end e = record { least = λ v h l s. let x = sub-le v hi (s .below) in absurd (omega arith); stands = λ l. absurd (omega arith) }
+
+  module _ (w : ℕ) (s : Spans lo hi w) where
+    -- What is within hi of the sum that is carried over the rest.
+    abbrev carried : ℕ
+    carried = bitAnd (bitOr w (outside hi) + 1) hi
+
+    off : Apart (outside hi) hi
+    off = minus-off allOnes hi
+
+    pub next-fits : hi < 2 ^ 64 → (w ≡ hi → ⊥) → bitOr w (outside hi) + 1 < 2 ^ 64
+    next-fits h n = room hi (outside hi) off w (outside-lt hi) h (s .below) n
+
+    pub next-later : hi < 2 ^ 64 → (w ≡ hi → ⊥) → w < bitOr carried lo
+    next-later h n = later hi (outside hi) off w lo (s .below) (outside-parts hi (bitOr w (outside hi) + 1) (next-fits h n))
+
+    pub next-there : (end : ℕ) → Next lo hi (w + 1) end (bitOr carried lo)
+    next-there end = record {
+      least = λ v h l x. next-in hi (outside hi) off w v lo (s .above) (s .below) (x .above) (x .below) (omega arith);
+      stands = λ l. record { above = or-r carried lo; below = sub-or carried lo hi (and-r (bitOr w (outside hi) + 1) hi) (λ i. le-trans (s .above i) (s .below i)) };
+    }
+
+-- ---- the sets of a range
+-- The sets of the range in the words before w.
+pub record Reached (s : Strike) (w t : ℕ) : Type 0 where
+  pub in-range : InRange s t
+  pub before : t / 64 < w
+
+module _ (s : Strike) where
+  abbrev low : ℕ
+  low = s .lo / 64
+
+  abbrev high : ℕ
+  high = s .hi / 64
+
+  in-words : (t : ℕ) → InRange s t → Spans low high (t / 64)
+  in-words t f = record { above = words-within (s .lo) t (f .above); below = words-within t (s .hi) (f .below) }
+
+  -- Marking begins with the word of lo.
+  pub range-begins : Within (s .lo) (s .hi) → Spans low high low
+  range-begins f = record { above = λ i. le-refl _; below = words-within (s .lo) (s .hi) f }
+
+  pub range-none : (m : List ℕ) → Marked m (Reached s low) m
+  range-none m = marked-none m (Reached s low) (λ t x. let y = sub-le low (t / 64) (in-words t (x .in-range) .above) in let z = x .before in omega arith)
+
+  module _ (p w new : ℕ) (f : Pattern 6 (s .lo) (s .hi) p) (c : Chosen p (λ k. w * 64 + k ≡ s .but → ⊥) new) (x : Spans low high w) where
+    -- The new marks of a word are those of its sets in the range.
+    word-in : (t : ℕ) → (t / 64 ≡ w) × (bitOf new (t % 64) ≡ 1) → InRange s t
+    word-in t e =
+        let h = mod-lt t {m = 64} (omega arith) in
+        let k = c .from (t % 64) h (e .1) in
+        let g = f .from (t % 64) h (k .0) in
+        record {
+          above = within-words (s .lo) t (rw (e .0) (x .above)) (λ i l. rw (bit-number t i l) at (g i l .0));
+          below = within-words t (s .hi) (rw (e .0) (x .below)) (λ i l. rw (bit-number t i l) at (g i l .1));
+          other = λ o. k .1 (let q = e .0 in omega arith);
+        }
+
+    in-word : (t : ℕ) → InRange s t → t / 64 ≡ w → bitOf new (t % 64) ≡ 1
+    in-word t r e =
+        let h = mod-lt t {m = 64} (omega arith) in
+        c .all (t % 64) h (f .all (t % 64) h (λ i l. (rw (bit-number t i l) (r .above i), rw (bit-number t i l) (r .below i)))) (λ o. r .other (omega arith))
+
+    -- One word more, up to the next one.
+    pub range-more : (l m o : List ℕ) (end v : ℕ) → length m ≡ end + 1 → w < end → Marked l (Reached s w) m → o ≡ set m (w + 1) (bitOr (getD m (w + 1) 0) new) → w < v
+        → Next low high (w + 1) end v → Marked l (Reached s v) o
+    range-more l m o end v e h g d b n =
+        marked-both l m o (Reached s w) (λ t. (t / 64 ≡ w) × (bitOf new (t % 64) ≡ 1)) (Reached s v) g (rw d (marked-word m w new (omega arith)))
+        (λ t y. ⊎-elim (λ z. record { in-range = z .in-range; before = omega (arith, z .before) }) (λ z. record { in-range = word-in t z; before = omega (arith, z .0) }) y)
+        (λ t a z. ⊎-elim (λ k. inl (record { in-range = z .in-range; before = k }))
+        (λ k. ⊎-elim (λ o. inr (o, in-word t (z .in-range) o)) (λ o. absurd (past t a z (omega arith))) (holds-or-not (decides-eq (t / 64) w)))
+        (lt-or-le (t / 64) w))
+      where
+        past : (t : ℕ) → t < marksIn l → Reached s v t → w < t / 64 → ⊥
+        past t a z k = let y = n .least (t / 64) (omega arith) (omega (arith, a, g .same)) (in-words t (z .in-range)) in omega (arith, z .before)
+
+  -- All words have been marked.
+  pub range-all : (l m : List ℕ) (w : ℕ) → length l ≤ w + 1 → Marked l (Reached s w) m → Marked l (InRange s) m
+  range-all l m w h g = record {
+    only = λ t x. ⊎-elim (λ y. inl y) (λ y. inr (y .in-range)) (g .only t x);
+    stays = g .stays;
+    same = g .same;
+    all = λ t a x. g .all t a (record { in-range = x; before = omega arith });
   }
 
-  pub marked-all : (n : List ℕ) (t : ℕ) → setCount ≤ t → Marked m s 0 t n → Marked m s 0 setCount n
-  marked-all n t h f = record { only = f .only; stays = f .stays; same = f .same; all = λ u a l i k. f .all u a (omega arith) i k }
+  -- The first word, then the range; or there is none.
+  module _ (l m : List ℕ) (f : Marked l (λ t. Apart (s .any) t → ⊥) m) where
+    pub struck-both : (n : List ℕ) → Marked m (InRange s) n → Marked l (Struck s) n
+    struck-both n g = marked-both l m n _ _ _ f g (λ t x. ⊎-elim (λ y. shares y) (λ y. between y) x) (λ t h x. back t x)
+      where
+        back : (t : ℕ) → Struck s t → (Apart (s .any) t → ⊥) ⊎ InRange s t
+        back t (shares y) = inl y
+        back t (between y) = inr y
+
+    pub struck-first : (without (s .lo) (s .hi) ≡ 0 → ⊥) → Marked l (Struck s) m
+    struck-first n = struck-both m (marked-none m (InRange s) (λ t x. n (zero-minus (s .lo) (s .hi) (λ i. le-trans (x .above i) (x .below i)))))
 
 -- Marks of sets that no resolution has are right.
-pub right-more : (b : Book) (m n : List ℕ) (s : Strike) → RightMarks b m → Marked m s 0 setCount n → ((t : ℕ) → Struck s t → NoneAt b t) → RightMarks b n
-right-more b m n s r f g = record { right = λ t x. ⊎-elim (λ y. r .right t y) (λ k. g t k) (f .only t x) }
+pub right-more : (b : Book) (m n : List ℕ) (P : ℕ → Type 0) → RightMarks b m → Marked m P n → ((t : ℕ) → P t → NoneAt b t) → RightMarks b n
+right-more b m n P r f g = record { right = λ t x. ⊎-elim (λ y. r .right t y) (λ k. g t k) (f .only t x) }
 
 -- ---- outranked exceptions
 module _ (rank a taken b : ℕ) where

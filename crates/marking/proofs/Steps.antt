@@ -1,16 +1,15 @@
--- The sets from lo to hi in the order of numbers.
+-- The words from lo to hi in the order of numbers: which one comes after a word; and digits of words of 64 sets.
 use mathlib.Core.Path.{_≡_, ap, _∙_}
 use mathlib.Core.Logic.{⊎-elim}
 use Prim.Native.Nat.{ℕ, zero, suc, _+_, _-_, _/_, _%_, _^_, _<_, _≤_}
-use native.Mathlib.Nat.{mod-eq-of-lt}
+use native.Mathlib.Nat.{le-refl, mod-eq-of-lt}
 use native.Mathlib.Omega.{arith}
+use lib.Pow.{shr-shr, pow-lt}
 use lib.Bits.{bitAnd, bitOr, bitXor, or-step, and-step, or-add-and, or-disjoint, or-lt, and-le-r, and-mask, xor-self}
-use Rattle.sets.specs.Sets.{Within, Apart, without}
-use Rattle.sets.proofs.Digits.{bit-and, bit-or, bit-without, bit-lt, lt-or-le}
+use Rattle.sets.specs.Sets.{bitOf, Within, Apart, without}
+use Rattle.sets.proofs.Digits.{bit-and, bit-or, bit-without, bit-mod, bit-lt, lt-or-le}
 use Rattle.sets.proofs.Lowest.{bit-half}
-use Rattle.sets.proofs.Words.{sub-or, sub-le, minus-sub, minus-zero, none-and}
-use Rattle.book.specs.Limits as limit
-use Rattle.book.specs.Kinds.{setCount}
+use Rattle.sets.proofs.Words.{sub-or, sub-le, minus-sub, minus-zero, none-and, single-has}
 use Rattle.marking.specs.Marks.{allOnes}
 
 -- ---- halves
@@ -26,7 +25,7 @@ low-within a b f = let z = f 0 in omega arith
 low-apart : (a b : ℕ) → Apart a b → a % 2 + b % 2 ≤ 1
 low-apart a b f = let z = f 0 in omega arith
 
--- What is outside of hi is in no set within hi.
+-- What is outside of hi is in no word within hi.
 fill-within : (t hi gap : ℕ) → Within t hi → Apart gap hi → Within (bitAnd (bitOr t gap) hi) t
 fill-within t hi gap f g i =
     let x = bit-and (bitOr t gap) hi i in
@@ -36,8 +35,8 @@ fill-within t hi gap f g i =
     let b = bit-lt gap i in
     omega arith
 
--- If t and v lie from lo to hi and v comes after t, the next such set after t is not past v. By the digits: if both t and gap end in 0, that
--- set is at most the number after t; otherwise the 1 is carried, and it is the same of the halves, and lo's last digit.
+-- If t and v lie from lo to hi and v comes after t, the next such word after t is not past v. By the digits: if both t and gap end in 0, that
+-- word is at most the number after t; otherwise the 1 is carried, and it is the same of the halves, and lo's last digit.
 next-by : (k t v lo hi gap : ℕ) → v < k → Within lo t → Within t hi → Within lo v → Within v hi → Apart gap hi → t < v
     → bitOr (bitAnd (bitOr t gap + 1) hi) lo ≤ v
 next-by zero t v lo hi gap h a b c d g l = absurd (omega arith)
@@ -63,7 +62,7 @@ next-by (suc k) t v lo hi gap h a b c d g l =
     omega arith)
     (lt-or-le (bitOr t gap % 2) 1)
 
--- ---- the sets within hi after t, which is one of them; gap is what is outside of hi
+-- ---- the words within hi after t, which is one of them; gap is what is outside of hi
 module _ (hi gap : ℕ) (off : Apart gap hi) where
   pub next-in : (t v lo : ℕ) → Within lo t → Within t hi → Within lo v → Within v hi → t < v → bitOr (bitAnd (bitOr t gap + 1) hi) lo ≤ v
   next-in t v lo a b c d = next-by (suc v) t v lo hi gap (omega arith) a b c d off
@@ -71,14 +70,16 @@ module _ (hi gap : ℕ) (off : Apart gap hi) where
   filled : (v : ℕ) → Within v hi → bitOr v gap ≡ v + gap
   filled v f = or-disjoint v gap (none-and v gap (λ i. let x = off i in let y = f i in omega arith))
 
-  -- If the 1 is carried past the last place, there is none.
-  pub none-after : (t v : ℕ) → gap < setCount → Within t hi → Within v hi → setCount ≤ bitOr t gap + 1 → t < v → setCount ≤ v
-  none-after t v b f g h l =
+  -- Within hi a word other than hi leaves room for the 1: with all that is outside, hi itself is still a word.
+  pub room : (t : ℕ) → gap < 2 ^ 64 → hi < 2 ^ 64 → Within t hi → (t ≡ hi → ⊥) → bitOr t gap + 1 < 2 ^ 64
+  room t b h f n =
       let x = filled t f in
-      let y = filled v g in
-      ⊎-elim (λ a. let z = or-lt limit.exceptions v gap a b in absurd (omega arith)) (λ a. a) (lt-or-le v setCount)
+      let y = filled hi (λ i. le-refl _) in
+      let z = or-lt 64 hi gap h b in
+      let l = sub-le t hi f in
+      omega arith
 
-  -- Otherwise it comes later: outside of hi the sum has at most gap.
+  -- The next one comes later: outside of hi the sum has at most gap.
   pub later : (t lo : ℕ) → Within t hi → Within (bitOr t gap + 1) (bitOr (bitAnd (bitOr t gap + 1) hi) gap) → t < bitOr (bitAnd (bitOr t gap + 1) hi) lo
   later t lo f g =
       let x = filled t f in
@@ -90,35 +91,48 @@ module _ (hi gap : ℕ) (off : Apart gap hi) where
 
 -- What is outside of hi.
 abbrev pub outside : ℕ → ℕ
-outside hi = without (setCount - 1) hi
+outside hi = without allOnes hi
 
-lt-within : (a b : ℕ) → Within a b → b < setCount → a < setCount
-lt-within a b f h = let x = sub-le a b f in omega arith
+a-word : (a : ℕ) → a ≤ allOnes → a < 2 ^ 64
+a-word a h = omega arith
 
-pub outside-lt : (hi : ℕ) → outside hi < setCount
-outside-lt hi = lt-within (outside hi) (setCount - 1) (minus-sub (setCount - 1) hi) (omega arith)
+pub outside-lt : (hi : ℕ) → outside hi < 2 ^ 64
+outside-lt hi = a-word (outside hi) (sub-le (outside hi) allOnes (minus-sub allOnes hi))
 
--- The number with all ones outside of hi has a successor in a word.
-lt-word : (a : ℕ) → a < setCount → a + 1 < 2 ^ 64
-lt-word a h = omega arith
+-- Every set of w numbers is within the set of all of them, and every word within the word of all ones.
+pub within-all : (w t : ℕ) → t < 2 ^ w → Within t (2 ^ w - 1)
+within-all w t h = minus-zero t (2 ^ w - 1) (ap (bitXor t) (and-mask t w ∙ mod-eq-of-lt h) ∙ xor-self t)
 
-pub fill-word : (t hi : ℕ) → t < setCount → bitOr t (outside hi) + 1 < 2 ^ 64
-fill-word t hi h = lt-word (bitOr t (outside hi)) (or-lt limit.exceptions t (outside hi) h (outside-lt hi))
+pub all-within : (t : ℕ) → t < 2 ^ 64 → Within t allOnes
+all-within t h = within-all 64 t h
 
 -- A word is within what it shares with hi and what is outside of hi.
-in-parts : (all hi u : ℕ) → Within u all → Within u (bitOr (bitAnd u hi) (without all hi))
-in-parts all hi u f i =
-    let a = f i in
-    let b = bit-without all hi i in
+pub outside-parts : (hi u : ℕ) → u < 2 ^ 64 → Within u (bitOr (bitAnd u hi) (outside hi))
+outside-parts hi u h i =
+    let a = all-within u h i in
+    let b = bit-without allOnes hi i in
     let c = bit-and u hi i in
-    let d = bit-or (bitAnd u hi) (without all hi) i in
+    let d = bit-or (bitAnd u hi) (outside hi) i in
     let p = bit-lt hi i in
-    let q = bit-lt all i in
+    let q = bit-lt allOnes i in
     omega arith
 
-pub outside-parts : (hi u : ℕ) → u < setCount → Within u (bitOr (bitAnd u hi) (outside hi))
-outside-parts hi u h = in-parts (setCount - 1) hi u (minus-zero u (setCount - 1) (ap (bitXor u) (and-mask u limit.exceptions ∙ mod-eq-of-lt h) ∙ xor-self u))
+-- ---- words of 64 sets
+-- The digits of a set past the sixth are those of its word; the first six are those of its number there.
+pub bit-word : (x i : ℕ) → bitOf (x / 64) i ≡ bitOf x (6 + i)
+bit-word x i = ap (λ (m : ℕ). m % 2) (shr-shr x 6 i)
 
--- Every set of exceptions is within the word of all ones.
-pub all-within : (t : ℕ) → t < setCount → Within t allOnes
-all-within t h = minus-zero t allOnes (ap (bitXor t) (and-mask t 64 ∙ mod-eq-of-lt (omega arith)) ∙ xor-self t)
+pub bit-number : (x i : ℕ) → i < 6 → bitOf (x % 64) i ≡ bitOf x i
+bit-number x i h = bit-mod x 6 i h
+
+pub words-within : (a b : ℕ) → Within a b → Within (a / 64) (b / 64)
+words-within a b f i = rw (bit-word a i, bit-word b i) (f (6 + i))
+
+-- A set contains another if its word and its number there do.
+pub within-words : (a b : ℕ) → Within (a / 64) (b / 64) → ((i : ℕ) → i < 6 → bitOf a i ≤ bitOf b i) → Within a b
+within-words a b f g i =
+    ⊎-elim (λ h. g i h) (λ h. let e : i ≡ 6 + (i - 6) = omega arith in rw e (rw (← bit-word a (i - 6), ← bit-word b (i - 6)) (f (i - 6)))) (lt-or-le i 6)
+
+-- Every number below 64 is in the word of all ones.
+pub ones-at : (k : ℕ) → k < 64 → bitOf allOnes k ≡ 1
+ones-at k h = single-has k allOnes (all-within (2 ^ k) (pow-lt h))

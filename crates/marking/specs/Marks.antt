@@ -1,41 +1,80 @@
 -- Marks on the sets of exceptions that no resolution has.
-use Prim.Native.Nat.{ℕ, _-_, _^_, _<_, _≤_}
+use Prim.Native.Nat.{ℕ, _+_, _-_, _*_, _/_, _%_, _^_, _<_, _≤_}
 use mathlib.Core.Path.{_≡_}
 use mathlib.Core.List.{List}
 use mathlib.Core.Logic.{_⊎_}
 use lib.ListN.{length, getD}
 use Rattle.sets.specs.declared.Pair.{Pair}
 use Rattle.sets.specs.Sets.{bitOf, Within, Apart}
-use Rattle.book.specs.Kinds.{setCount}
 use Rattle.meaning.specs.Books.{Book}
 use Rattle.meaning.specs.Resolutions.{Resolution}
 use Rattle.marking.specs.declared.Strike.{Strike}
 
--- The set t has a member of `any`, or lies from lo to hi and is not the one left out.
+-- Marks are words. The first has exceptions: every set with one of them is marked. The words after it have a bit for each set, 64 in a word.
+-- How many sets have a bit.
+abbrev pub marksIn : List ℕ → ℕ
+marksIn marks = 64 * (length marks - 1)
+
+-- The set t is marked: it has an exception of the first word, or its bit is set.
+pub data IsMarked (marks : List ℕ) (t : ℕ) : Type 0 where
+  shut-out : (Apart (getD marks 0 0) t → ⊥) → IsMarked marks t
+  noted : bitOf (getD marks (t / 64 + 1) 0) (t % 64) ≡ 1 → IsMarked marks t
+
+-- The set t lies from lo to hi and is not the one left out.
+pub record InRange (s : Strike) (t : ℕ) : Type 0 where
+  pub above : Within (s .lo) t
+  pub below : Within t (s .hi)
+  pub other : t ≡ s .but → ⊥
+
+-- A set to mark: it has a member of `any`, or lies in the range.
 pub data Struck (s : Strike) (t : ℕ) : Type 0 where
   shares : (Apart (s .any) t → ⊥) → Struck s t
-  between : Within (s .lo) t → Within t (s .hi) → (t ≡ s .but → ⊥) → Struck s t
+  between : InRange s t → Struck s t
 
--- The set t is marked.
-abbrev pub IsMarked : List ℕ → ℕ → Type 0
-IsMarked marks t = getD marks t 0 ≡ 0 → ⊥
-
--- The struck sets from `from` on and before `to` are marked afterwards, so far as there are marks for them. What is marked afterwards was marked
--- before or is struck, and what was marked stays so.
-pub record Marked (before : List ℕ) (s : Strike) (from to : ℕ) (after : List ℕ) : Type 0 where
-  pub only : (t : ℕ) → IsMarked after t → IsMarked before t ⊎ Struck s t
+-- The sets of P that have a bit are marked afterwards. What is marked afterwards was marked before or is of P, and what was marked stays so.
+pub record Marked (before : List ℕ) (P : ℕ → Type 0) (after : List ℕ) : Type 0 where
+  pub only : (t : ℕ) → IsMarked after t → IsMarked before t ⊎ P t
   pub stays : (t : ℕ) → IsMarked before t → IsMarked after t
   pub same : length after ≡ length before
-  pub all : (t : ℕ) → from ≤ t → t < to → t < length before → Struck s t → IsMarked after t
+  pub all : (t : ℕ) → t < marksIn before → P t → IsMarked after t
 
--- Where no member is asked for, t lies from lo to hi.
-abbrev pub Stands : Strike → ℕ → Type 0
-Stands s t = s .any ≡ 0 → Within (s .lo) t × Within t (s .hi)
+-- ---- the range, word by word: set t is number t % 64 of word t / 64
+-- Each number below 64 has a one in d exactly where its own digit i is 1.
+pub record Digit (i d : ℕ) : Type 0 where
+  pub is : (k : ℕ) → k < 64 → bitOf d k ≡ bitOf k i
 
--- No struck set stands from `from` on and before r, where marking goes on.
-pub record Next (s : Strike) (from r : ℕ) : Type 0 where
-  pub least : (t : ℕ) → from ≤ t → Struck s t → r ≤ t
-  pub stands : r < setCount → Stands s r
+-- The digit i of k lies from that of lo to that of hi.
+abbrev pub Fits : ℕ → ℕ → ℕ → ℕ → Type 0
+Fits lo hi k i = (bitOf lo i ≤ bitOf k i) × (bitOf k i ≤ bitOf hi i)
+
+-- Of the numbers below 64 that p has, r has those that P holds of.
+pub record Chosen (p : ℕ) (P : ℕ → Type 0) (r : ℕ) : Type 0 where
+  pub from : (k : ℕ) → k < 64 → bitOf r k ≡ 1 → (bitOf p k ≡ 1) × P k
+  pub all : (k : ℕ) → k < 64 → bitOf p k ≡ 1 → P k → bitOf r k ≡ 1
+
+-- Of the numbers below 64, r has those whose first m digits lie from those of lo to those of hi.
+pub record Pattern (m lo hi r : ℕ) : Type 0 where
+  pub from : (k : ℕ) → k < 64 → bitOf r k ≡ 1 → (i : ℕ) → i < m → Fits lo hi k i
+  pub all : (k : ℕ) → k < 64 → ((i : ℕ) → i < m → Fits lo hi k i) → bitOf r k ≡ 1
+
+-- The word w has sets of the range from lo to hi, words both.
+pub record Spans (lo hi w : ℕ) : Type 0 where
+  pub above : Within lo w
+  pub below : Within w hi
+
+-- No such word stands from `from` on and before r, where marking goes on, unless r is the end.
+pub record Next (lo hi from end r : ℕ) : Type 0 where
+  pub least : (v : ℕ) → from ≤ v → v < end → Spans lo hi v → r ≤ v
+  pub stands : r < end → Spans lo hi r
+
+-- The word of all ones, which contains every set.
+abbrev pub allOnes : ℕ
+allOnes = 2 ^ 64 - 1
+
+-- ---- what marks mean
+-- Nothing is marked.
+pub record Clear (marks : List ℕ) : Type 0 where
+  pub none : (t : ℕ) → IsMarked marks t → ⊥
 
 -- No resolution has the set t.
 pub record NoneAt (b : Book) (t : ℕ) : Type 0 where
@@ -60,12 +99,8 @@ pub record Outranked (ranks : List ℕ) (taken r : ℕ) : Type 0 where
 pub record WithRank (rank a taken b r : ℕ) : Type 0 where
   pub from : (c : ℕ) → bitOf r c ≡ 1 → (bitOf b c ≡ 1) ⊎ ((bitOf taken a ≡ 1) × (bitOf rank c ≡ 1))
 
--- The word of all ones, which contains every set.
-abbrev pub allOnes : ℕ
-allOnes = 2 ^ 64 - 1
-
 -- The sets that a view with the exceptions taken surpasses are marked: all of its proper supersets, and those with a member that it outranks.
 pub record Surpassed (ranks : List ℕ) (taken : ℕ) (before after : List ℕ) : Type 0 where
   pub lower : ℕ
   pub outranked : Outranked ranks taken lower
-  pub marked : Marked before (record { lo = taken; hi = allOnes; but = taken; any = lower }) 0 setCount after
+  pub marked : Marked before (Struck (record { lo = taken; hi = allOnes; but = taken; any = lower })) after

@@ -1,13 +1,12 @@
-// Which sets of exceptions are marked: known to be those of no resolution.
-ghost use Prim.Native.Nat.{_+_, _<_, _≤_};
-ghost use lib.ListN.{length};
+// Which sets of exceptions are marked: known to be those of no resolution. A bit for each set, and before them a word of exceptions that no
+// resolution has, so that one look marks all sets with one of these.
+ghost use mathlib.Core.Path.{_≡_};
+ghost use Prim.Native.Nat.{_+_, _*_, _<_, _≤_};
+ghost use lib.Bits.{bitOr};
+ghost use lib.ListN.{length, getD, set};
 ghost use Rattle.logic.specs.Tests.{Decides};
-ghost use Rattle.book.specs.Kinds.{setCount};
-ghost use Rattle.marking.specs.Marks.{Struck, Marked, Stands, Next, Outranked, WithRank, Surpassed};
-use book::Book;
-
-// A byte for each set of exceptions, not 0 where the set is known to be that of no resolution.
-pub type Marks = [u8; Book::SETS];
+ghost use Rattle.sets.specs.Sets.{Within};
+ghost use Rattle.marking.specs.Marks.{marksIn, IsMarked, InRange, Struck, Marked, Digit, Fits, Chosen, Pattern, Spans, Next, Outranked, WithRank, Surpassed};
 
 // Which sets to mark: those that have a member of `any`, and those from lo to hi but one.
 pub struct Strike {
@@ -17,79 +16,110 @@ pub struct Strike {
     pub any: u64,
 }
 
-// The set t is one to mark.
-pub fn struck(s: Strike, t: u64) -> bool
-    ensures { λ r. ⌜ Decides r (Struck s t) ⌝ }
+// The word of all ones: every set is within it.
+const ALL: u64 = 0xffff_ffff_ffff_ffff;
+
+// The set t is marked.
+pub fn is_marked(marks: &[u64], t: u64) -> bool
+    requires { ⌜ t < marksIn (now marks) ⌝ }
+    ensures { λ r. ⌜ Decides r (IsMarked (now (marks .entry)) t) ⌝ }
 {
-    if t & s.any != 0 {
+    if t & marks[0] != 0 {
         return true;
     }
-    if s.lo ^ (s.lo & t) != 0 {
-        return false;
-    }
-    if t ^ (t & s.hi) != 0 {
-        return false;
-    }
-    t != s.but
+    (marks[(t / 64) as usize + 1] >> (t % 64)) % 2 == 1
 }
 
-// Marks the set t if it is one to mark. The result is how many sets are newly marked.
-pub fn mark_one(marks: &mut Marks, s: Strike, t: usize) -> u64
-    requires { ⌜ t < setCount ⌝ }
-    ensures { λ _. ⌜ Marked (now (marks .entry)) s t (t + 1) (now (marks .exit)) ⌝ }
+// Of the numbers in p those whose digit i lies from that of lo to that of hi. The word `digit` has the numbers with that digit.
+pub fn narrowed(p: u64, i: u64, digit: u64, lo: u64, hi: u64) -> u64
+    requires { ⌜ (i < 64) × Digit i digit × Within lo hi ⌝ }
+    ensures { λ r. ⌜ Chosen p (λ k. Fits lo hi k i) r ⌝ }
 {
-    if marks[t] != 0 {
-        return 0;
+    if (lo >> i) % 2 == 1 {
+        return p & digit;
     }
-    if !struck(s, t as u64) {
-        return 0;
+    if (hi >> i) % 2 == 0 {
+        return p ^ (p & digit);
     }
-    marks[t] = 1;
-    1
+    p
 }
 
-// The first set that may be one to mark: where no member is asked for, lo itself, if there are sets from lo to hi.
-pub fn first_set(s: Strike) -> usize
-    ensures { λ r. ⌜ Next s 0 r ⌝ }
+// The numbers below 64 whose six digits lie from those of lo to those of hi.
+pub fn pattern(lo: u64, hi: u64) -> u64
+    requires { ⌜ Within lo hi ⌝ }
+    ensures { λ r. ⌜ Pattern 6 lo hi r ⌝ }
 {
-    if s.any != 0 {
-        return 0;
-    }
-    if s.lo ^ (s.lo & s.hi) != 0 {
-        return Book::SETS;
-    }
-    s.lo as usize
+    let a = narrowed(ALL, 0, 0xaaaa_aaaa_aaaa_aaaa, lo, hi);
+    let b = narrowed(a, 1, 0xcccc_cccc_cccc_cccc, lo, hi);
+    let c = narrowed(b, 2, 0xf0f0_f0f0_f0f0_f0f0, lo, hi);
+    let d = narrowed(c, 3, 0xff00_ff00_ff00_ff00, lo, hi);
+    let e = narrowed(d, 4, 0xffff_0000_ffff_0000, lo, hi);
+    narrowed(e, 5, 0xffff_ffff_0000_0000, lo, hi)
 }
 
-// The next set after t that may be one to mark: where no member is asked for, the next one from lo to hi. There 1 is added to t with ones at
-// all places outside of hi, so that it is carried over them.
-pub fn next_set(s: Strike, t: usize) -> usize
-    requires { ⌜ (t < setCount) × Stands s t ⌝ }
-    ensures { λ r. ⌜ (t < r) × Next s (t + 1) r ⌝ }
+// Of the sets of word w that p has, all but the one left out.
+pub fn but_one(p: u64, but: u64, w: u64) -> u64
+    ensures { λ r. ⌜ Chosen p (λ k. w * 64 + k ≡ but → ⊥) r ⌝ }
 {
-    if s.any != 0 {
-        return t + 1;
+    if but / 64 != w {
+        return p;
     }
-    let hi = s.hi as usize;
-    let all = Book::SETS - 1;
-    let u = (t | (all ^ (all & hi))) + 1;
-    if Book::SETS <= u {
-        return Book::SETS;
-    }
-    (u & hi) | (s.lo as usize)
+    p ^ (p & (1 << (but % 64)))
 }
 
-// Marks every set that is one to mark. The result is how many sets are newly marked.
-pub fn mark(marks: &mut Marks, s: Strike) -> u64
-    ensures { λ _. ⌜ Marked (now (marks .entry)) s 0 setCount (now (marks .exit)) ⌝ }
+// Adds the sets of a word to the marks there. The result is how many are newly marked.
+pub fn mark_word(marks: &mut [u64], w: usize, new: u64) -> u64
+    requires { ⌜ w < length (now marks) ⌝ }
+    ensures { λ _. ⌜ now (marks .exit) ≡ set (now (marks .entry)) w (bitOr (getD (now (marks .entry)) w 0) new) ⌝ }
 {
+    let old = marks[w];
+    marks[w] = old | new;
+    sets::size(new ^ (new & old)) as u64
+}
+
+// The next word after w that has sets from lo to hi, or the end. There 1 is added to w with ones at all places outside of hi, so that it is carried
+// over them.
+pub fn next_word(lo: usize, hi: usize, w: usize, end: usize) -> usize
+    requires { ⌜ (w < end) × Spans lo hi w ⌝ }
+    ensures { λ r. ⌜ (w < r) × Next lo hi (w + 1) end r ⌝ }
+{
+    if w == hi {
+        return end;
+    }
+    let all = 0xffff_ffff_ffff_ffff;
+    let u = (w | (all ^ (all & hi))) + 1;
+    (u & hi) | lo
+}
+
+// Marks the sets from lo to hi but one, word by word. The result is how many are newly marked.
+pub fn mark_range(marks: &mut [u64], s: Strike) -> u64
+    requires { ⌜ (0 < length (now marks)) × Within (s .lo) (s .hi) ⌝ }
+    ensures { λ _. ⌜ Marked (now (marks .entry)) (InRange s) (now (marks .exit)) ⌝ }
+{
+    let p = pattern(s.lo, s.hi);
+    let lo = (s.lo / 64) as usize;
+    let hi = (s.hi / 64) as usize;
+    let end = marks.len() - 1;
     let mut count = 0;
-    let mut t = first_set(s);
-    while t < Book::SETS {
-        count = std::num::wrapping_add_u64(count, mark_one(marks, s, t));
-        t = next_set(s, t);
+    let mut w = lo;
+    while w < end {
+        let new = but_one(p, s.but, w as u64);
+        count = std::num::wrapping_add_u64(count, mark_word(marks, w + 1, new));
+        w = next_word(lo, hi, w, end);
     }
     count
+}
+
+// Marks every set that is one to mark. The result is how many sets of the range are newly marked.
+pub fn mark(marks: &mut [u64], s: Strike) -> u64
+    requires { ⌜ 0 < length (now marks) ⌝ }
+    ensures { λ _. ⌜ Marked (now (marks .entry)) (Struck s) (now (marks .exit)) ⌝ }
+{
+    mark_word(marks, 0, s.any);
+    if s.lo ^ (s.lo & s.hi) != 0 {
+        return 0;
+    }
+    mark_range(marks, s)
 }
 
 // The set b with those of `rank`, if the exception at place a is taken.
@@ -118,8 +148,8 @@ pub fn outranked(ranks: &[u64], taken: u64) -> u64
 }
 
 // Marks the sets that a view with the exceptions `taken` surpasses: those above its set, and those with a member that it outranks.
-pub fn mark_surpassed(ranks: &[u64], taken: u64, marks: &mut Marks)
-    requires { ⌜ length (now ranks) ≤ 64 ⌝ }
+pub fn mark_surpassed(ranks: &[u64], taken: u64, marks: &mut [u64])
+    requires { ⌜ (length (now ranks) ≤ 64) × (0 < length (now marks)) ⌝ }
     ensures { λ _. ⌜ Surpassed (now (ranks .entry)) taken (now (marks .entry)) (now (marks .exit)) ⌝ }
 {
     let any = outranked(ranks, taken);
@@ -127,7 +157,7 @@ pub fn mark_surpassed(ranks: &[u64], taken: u64, marks: &mut Marks)
         marks,
         Strike {
             lo: taken,
-            hi: 0xffff_ffff_ffff_ffff,
+            hi: ALL,
             but: taken,
             any,
         },

@@ -1,25 +1,25 @@
 -- The parts of a listing by the place of their set of exceptions: the part of the first j places and that of the next join, since the order of
 -- the sets is the order of pairs; all places together have every resolution.
-use mathlib.Core.Path.{_≡_, sym}
+use mathlib.Core.Path.{_≡_, sym, ap}
 use mathlib.Core.List.{List, [], _++_}
 use mathlib.Core.Logic.{_⊎_, inl, inr, ⊎-elim}
-use Prim.Native.Nat.{ℕ, zero, suc, _+_, _^_, _<_, _≤_}
+use Prim.Native.Nat.{ℕ, zero, suc, _+_, _-_, _*_, _%_, _^_, _<_, _≤_}
 use native.Mathlib.Omega.{arith}
-use native.Mathlib.Nat.{lt-of-lt-of-le, le-refl}
+use native.Mathlib.Nat.{lt-of-lt-of-le, le-refl, le-trans, mod-lt}
 use lib.ListN.{length}
-use lib.Pow.{pow-mono}
+use lib.Bits.{bitAnd, and-mask}
+use lib.Pow.{pow-mono, pow-pos}
 use Rattle.logic.proofs.Decide.{holds-or-not, decides-eq, decides-lt}
 use Rattle.sets.specs.declared.Pair.{Pair}
 use Rattle.sets.specs.Sets.{Within, sizeTo, size}
 use Rattle.sets.proofs.Sizes.{size-grows}
-use Rattle.sets.proofs.Digits.{lt-or-le}
-use Rattle.sets.proofs.Words.{sub-le}
+use Rattle.sets.proofs.Digits.{shifted, lt-or-le}
+use Rattle.sets.proofs.Words.{sub-le, sub-and, and-l, minus-zero}
 use Rattle.book.specs.Limits.{exceptions}
-use Rattle.book.specs.Kinds.{setCount}
 use Rattle.masks.specs.declared.Bounds.{Bounds}
 use Rattle.order.specs.Order.{Earlier, fewer, smaller, Ordered}
 use Rattle.order.specs.Formula.{setAt, placeOf, NextSet}
-use Rattle.order.proofs.Places.{place-earlier}
+use Rattle.order.proofs.Places.{once, place-earlier}
 use Rattle.order.proofs.Rule.{order-rule, inverse}
 use Rattle.meaning.specs.Books.{Book}
 use Rattle.meaning.specs.Order as order
@@ -27,7 +27,8 @@ use Rattle.meaning.specs.Order.{Before, Point, LawfulPoint, AllLater}
 use Rattle.meaning.proofs.Parts.{Part, part-none, part-join, part-all, part-there}
 use Rattle.walk.specs.declared.Position.{Position}
 use Rattle.walk.specs.Plans.{RuledOut}
-use Rattle.walk.specs.Walks.{Passed, AtPlace, Skipped}
+use Rattle.walk.specs.Walks.{Passed, AtPlace, Spanned, Skipped}
+use Rattle.marking.proofs.Steps.{within-all}
 
 -- A set comes earlier than one that contains it.
 subset-earlier : (a b : ℕ) → Within a b → (a ≡ b → ⊥) → Earlier a b
@@ -57,9 +58,6 @@ module _ (x : ℕ) (small : x ≤ exceptions) where
     pub set-inside : p .set < 2 ^ x
     set-inside = rw (s .is h) (rule .below (p .place) h)
 
-    pub set-marked : p .set < setCount
-    set-marked = lt-of-lt-of-le set-inside (pow-mono small)
-
     pub position-next : (u : ℕ) → NextSet x (p .set) u → AtPlace x (record { place = p .place + 1; set = u })
     position-next u f = record { to = omega arith; is = λ l. sym (f .next (p .place) l (sym (s .is h))) }
 
@@ -79,8 +77,8 @@ module _ (x : ℕ) (small : x ≤ exceptions) where
         ruled-out = λ i a b. ⊎-elim (λ l. s .ruled-out i a l) (λ l. let e : i ≡ r .place = omega arith in rw (e, ← s .stands .is h) f) (lt-or-le i (r .place));
       }
 
-      pub skipped : (r .place < 2 ^ x → RuledOut root marks (r .set) → ⊥) → Skipped x root marks p r
-      skipped o = record { from = s .from; stands = s .stands; ruled-out = s .ruled-out; undecided = o }
+      pub skipped : (past : ℕ) → (r .place < past → RuledOut root marks (r .set) → ⊥) → Skipped x past root marks p r
+      skipped past o = record { from = s .from; stands = s .stands; ruled-out = s .ruled-out; undecided = o }
 
   -- ---- the places passed
   -- A set at an earlier place.
@@ -120,6 +118,47 @@ module _ (x : ℕ) (small : x ≤ exceptions) where
   subset-place j h u f n =
       let k = rule .present u (let x = sub-le u (setAt x j) f in let y = rule .below j h in omega arith) in
       (k .0, place-earlier {w = x} {f = setAt x} rule (k .0) j (k .1) (rw (k .2) (subset-earlier u (setAt x j) f n)), k .2)
+
+  -- ---- the places of the root's sets
+  -- A set that stands earlier than a set does not contain it; one that stands later is not within it.
+  contains-later : (i k : ℕ) → i < 2 ^ x → k < 2 ^ x → Within (setAt x k) (setAt x i) → k ≤ i
+  contains-later i k hi hk f =
+      ⊎-elim (λ e. let d = once {w = x} {f = setAt x} rule k i hk hi e in omega arith)
+      (λ n. let s = subset-place i hi (setAt x k) f n in let d = once {w = x} {f = setAt x} rule (s .0) k (omega (arith, s .1)) hk (s .2) in omega (arith, s .1))
+      (holds-or-not (decides-eq (setAt x k) (setAt x i)))
+
+  -- The set of all x exceptions, as a shift makes it.
+  abbrev full : ℕ
+  full = 1 * 2 ^ x % 2 ^ 64 - 1
+
+  full-is : full ≡ 2 ^ x - 1
+  full-is = ap (λ (m : ℕ). m - 1) (shifted x (omega arith))
+
+  pub full-there : 1 ≤ 1 * 2 ^ x % 2 ^ 64
+  full-there = rw (shifted x (omega arith)) (pow-pos x)
+
+  pub own-part : (a : ℕ) → bitAnd a full < 2 ^ x
+  own-part a = rw (full-is, and-mask a x) (mod-lt a (pow-pos x))
+
+  module _ (root : Bounds) (lo hi : ℕ) (el : lo ≡ placeOf x (bitAnd (root .lo .taken) full)) (eh : hi ≡ placeOf x (bitAnd (root .hi .taken) full)) where
+    upper-there : (hi < 2 ^ x) × (setAt x hi ≡ bitAnd (root .hi .taken) full)
+    upper-there = place-there (bitAnd (root .hi .taken) full) hi (own-part (root .hi .taken)) eh
+
+    pub past-fits : hi + 1 < 2 ^ 64
+    past-fits = let h = pow-mono small in omega (arith, upper-there .0)
+
+    pub span-is : Spanned x root (record { first = lo; past = hi + 1 })
+    span-is = record {
+      before = λ i l h z.
+          let k = place-there (bitAnd (root .lo .taken) full) lo (own-part (root .lo .taken)) el in
+          let m = contains-later i lo h (k .0) (rw (k .1) (λ d. le-trans (and-l (root .lo .taken) full d) (minus-zero (root .lo .taken) (setAt x i) z d))) in
+          omega arith;
+      after = λ i l h z.
+          let w = rw (← full-is) at (within-all x (setAt x i) (rule .below i h)) in
+          let m = contains-later hi i (upper-there .0) h (rw (upper-there .1) (sub-and (root .hi .taken) full (setAt x i) (minus-zero (setAt x i) (root .hi .taken) z) w)) in
+          omega arith;
+      to = omega (arith, upper-there .0);
+    }
 
   module _ (b : Book) (from : Point) where
     -- Before the first place there is nothing.

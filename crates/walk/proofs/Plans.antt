@@ -1,6 +1,6 @@
 -- Which sets of exceptions a resolution can have: one that no view has, that lies above a view's set, or that a view's set outranks, it cannot;
 -- and the views of an admissible set are resolutions.
-use mathlib.Core.Path.{_≡_, sym, _∙_}
+use mathlib.Core.Path.{_≡_, refl, sym, _∙_}
 use mathlib.Core.Bool.{Bool, true, false, not}
 use mathlib.Core.List.{List}
 use mathlib.Core.Logic.{⊎-elim}
@@ -17,7 +17,6 @@ use Rattle.sets.specs.Sets.{bitOf, Within, without}
 use Rattle.sets.proofs.Digits.{bit-lt}
 use Rattle.sets.proofs.Words.{within-contained, both-ways, off-sub, none-off, zero-minus}
 use Rattle.sets.proofs.Pairs.{sub-trans}
-use Rattle.book.specs.Kinds.{setCount}
 use Rattle.masks.specs.declared.Bounds.{Bounds}
 use Rattle.masks.specs.Views.{MaskView}
 use Rattle.bounds.specs.Sound.{In, Propagated, withSets}
@@ -47,11 +46,11 @@ module _ (b : Book) (ws : List ℕ) (n : ℕ) (ranks : List ℕ) (root : Bounds)
   -- A view's set surpasses every set above it and every set with a member that it outranks.
   pub surpassed : (v : Pair) → MaskView ws n ranks v → In root v → (lower : ℕ) → Outranked ranks (v .taken) lower → (hi t : ℕ)
       → Struck (record { lo = v .taken; hi = hi; but = v .taken; any = lower }) t → NoneAt b t
-  surpassed v m i lower o hi t (between f g d) = record {
+  surpassed v m i lower o hi t (between f) = record {
     none = λ p r e. r .minimal (record {
       other = v;
       view = rt .only v m i;
-      smaller = record { contained = within-contained (v .taken) (p .taken) (rw e f); different = λ q. d (sym e ∙ sym q) };
+      smaller = record { contained = within-contained (v .taken) (p .taken) (rw e (f .above)); different = λ q. f .other (sym e ∙ sym q) };
     });
   }
   surpassed v m i lower o hi t (shares d) = record { none = λ p r e. d (λ c. apart-at p r e c) }
@@ -76,35 +75,36 @@ module _ (b : Book) (ws : List ℕ) (n : ℕ) (ranks : List ℕ) (root : Bounds)
 -- ---- marks that stay right
 module _ (ws : List ℕ) (n : ℕ) (ranks : List ℕ) (root : Bounds) where
   pub marks-same : (m : List ℕ) → MarksRight ws n ranks root m m
-  marks-same m = record { stay = λ b r w. w; kept = λ t x. x; full = λ f. f }
+  marks-same m = record { stay = λ b r w. w; kept = λ t x. x; same = refl; full = λ f. f }
 
   pub marks-more : (m m′ m″ : List ℕ) → MarksRight ws n ranks root m m′ → MarksRight ws n ranks root m′ m″ → MarksRight ws n ranks root m m″
-  marks-more m m′ m″ f g = record { stay = λ b r w. g .stay b r (f .stay b r w); kept = λ t x. g .kept t (f .kept t x); full = λ x. g .full (f .full x) }
+  marks-more m m′ m″ f g = record { stay = λ b r w. g .stay b r (f .stay b r w); kept = λ t x. g .kept t (f .kept t x); same = g .same ∙ f .same; full = λ x. g .full (f .full x) }
 
   -- Marks that are kept tell what they told.
-  pub told-kept : (m m′ : List ℕ) → ((t : ℕ) → IsMarked m t → IsMarked m′ t) → (u : ℕ) → Told ws n ranks root m u → Told ws n ranks root m′ u
-  told-kept m m′ k u f = record { above = λ v x i e t h w d. k t (f .above v x i e t h w d) }
+  pub told-kept : (m m′ : List ℕ) → ((t : ℕ) → IsMarked m t → IsMarked m′ t) → length m′ ≡ length m → (u : ℕ) → Told ws n ranks root m u → Told ws n ranks root m′ u
+  told-kept m m′ k s u f = record { above = λ v x i e t h l w d. k t (f .above v x i e t (rw s at h) l w d) }
 
   -- Of a set without a view there is nothing to tell.
   told-none : (lo hi : ℕ) → NoView ws n ranks root lo hi → (m : List ℕ) (u : ℕ) → Within lo u → Within u hi → Told ws n ranks root m u
   told-none lo hi f m u g h = record { above = λ v x i e. absurd (none-in ws n ranks root lo hi f v x i (rw e g) (rw e h)) }
 
   -- Full marks stay full if the new ones tell of each struck set.
-  full-more : (m m′ : List ℕ) (s : Strike) → Marked m s 0 setCount m′ → ((u : ℕ) → Struck s u → Told ws n ranks root m′ u) → Full ws n ranks root m → Full ws n ranks root m′
-  full-more m m′ s k g f = record { long = rw (k .same) (f .long); told = λ u x. ⊎-elim (λ y. told-kept m m′ (k .stays) u (f .told u y)) (λ y. g u y) (k .only u x) }
+  full-more : (m m′ : List ℕ) (s : Strike) → Marked m (Struck s) m′ → ((u : ℕ) → Struck s u → Told ws n ranks root m′ u) → Full ws n ranks root m → Full ws n ranks root m′
+  full-more m m′ s k g f = record { told = λ u x. ⊎-elim (λ y. told-kept m m′ (k .stays) (k .same) u (f .told u y)) (λ y. g u y) (k .only u x) }
 
   -- A range that has no view is marked.
   pub range-marked : (t : ℕ) (s : Range) (but : ℕ) (m m′ : List ℕ) → Wider ws n ranks root (record { lo = t; hi = t }) s
-      → Marked m (record { lo = s .lo; hi = s .hi; but = but; any = 0 }) 0 setCount m′ → NoView ws n ranks root t t → MarksRight ws n ranks root m m′
+      → Marked m (Struck (record { lo = s .lo; hi = s .hi; but = but; any = 0 })) m′ → NoView ws n ranks root t t → MarksRight ws n ranks root m m′
   range-marked t s but m m′ f k g = record {
     stay = λ b r w. right-more b m m′ _ w k (λ u x. let y = inside u x in none-within b ws n ranks root r (s .lo) (s .hi) (f .still g) u (y .0) (y .1));
     kept = k .stays;
+    same = k .same;
     full = full-more m m′ _ k (λ u x. let y = inside u x in told-none (s .lo) (s .hi) (f .still g) m′ u (y .0) (y .1));
   }
     where
       inside : (u : ℕ) → Struck (record { lo = s .lo; hi = s .hi; but = but; any = 0 }) u → Within (s .lo) u × Within u (s .hi)
       inside u (shares x) = absurd (x (none-off u))
-      inside u (between x y z) = (x, y)
+      inside u (between x) = (x .above, x .below)
 
 -- ---- what a view's set surpasses
 module _ (ws : List ℕ) (n : ℕ) (ranks : List ℕ) (root : Bounds) (v : Pair) (vm : MaskView ws n ranks v) (vi : In root v) (m m′ : List ℕ) (p : Surpassed ranks (v .taken) m m′) where
@@ -112,20 +112,21 @@ module _ (ws : List ℕ) (n : ℕ) (ranks : List ℕ) (root : Bounds) (v : Pair)
   strike = record { lo = v .taken; hi = allOnes; but = v .taken; any = p .lower }
 
   -- A proper superset of a struck set is struck.
-  upward : (u t : ℕ) → t < setCount → Within u t → (t ≡ u → ⊥) → Struck strike u → Struck strike t
+  upward : (u t : ℕ) → t < 2 ^ 64 → Within u t → (t ≡ u → ⊥) → Struck strike u → Struck strike t
   upward u t h w d (shares x) = shares (λ a. x (off-sub (p .lower) (p .lower) u t (λ i. le-refl _) w a))
-  upward u t h w d (between x y z) = between (λ i. le-trans (x i) (w i)) (all-within t h) (λ e. d (both-ways t u (rw e x) w))
+  upward u t h w d (between x) = between (record { above = λ i. le-trans (x .above i) (w i); below = all-within t h; other = λ e. d (both-ways t u (rw e (x .above)) w) })
 
   pub surpassed-marks : MarksRight ws n ranks root m m′
   surpassed-marks = record {
-    stay = λ b r w. right-more b m m′ strike w (p .marked) (λ u s. surpassed b ws n ranks root r v vm vi (p .lower) (p .outranked) allOnes u s);
+    stay = λ b r w. right-more b m m′ (Struck strike) w (p .marked) (λ u s. surpassed b ws n ranks root r v vm vi (p .lower) (p .outranked) allOnes u s);
     kept = p .marked .stays;
-    full = λ f. full-more ws n ranks root m m′ strike (p .marked) (λ u s. record { above = λ x k i e t h w d. p .marked .all t (omega arith) h (omega (arith, f .long)) (upward u t h w d s) }) f;
+    same = p .marked .same;
+    full = λ f. full-more ws n ranks root m m′ strike (p .marked) (λ u s. record { above = λ x k i e t h l w d. p .marked .all t (rw (p .marked .same) at h) (upward u t l w d s) }) f;
   }
 
   -- The marks tell of the view's own set.
-  pub surpassed-told : (t : ℕ) → v .taken ≡ t → Full ws n ranks root m → Told ws n ranks root m′ t
-  surpassed-told t e f = record { above = λ x k i y u h w d. p .marked .all u (omega arith) h (omega (arith, f .long)) (between (rw e w) (all-within u h) (λ z. d (z ∙ e))) }
+  pub surpassed-told : (t : ℕ) → v .taken ≡ t → Told ws n ranks root m′ t
+  surpassed-told t e = record { above = λ x k i y u h l w d. p .marked .all u (rw (p .marked .same) at h) (between (record { above = rw e w; below = all-within u l; other = λ z. d (z ∙ e) })) }
 
 -- What is within bounds that propagation has narrowed is within those before.
 pub propagated-in : (ws : List ℕ) (n : ℕ) (ranks : List ℕ) (b o : Bounds) → Propagated ws n ranks b o → (v : Pair) → In o v → In b v
@@ -151,11 +152,11 @@ module _ (root : Bounds) (t : ℕ) (m : List ℕ) where
   pub out-beyond : (without t (root .hi .taken) ≡ 0 → ⊥) → Decides true (RuledOut root m t)
   out-beyond k = record { yes = λ e. beyond k; no = λ e. absurd (clash (sym e)) }
 
-  pub out-short : getD m t 0 ≡ 0 → without t (root .hi .taken) ≡ 0 → Decides (not (eqb (without (root .lo .taken) t) 0)) (RuledOut root m t)
+  pub out-short : (IsMarked m t → ⊥) → without t (root .hi .taken) ≡ 0 → Decides (not (eqb (without (root .lo .taken) t) 0)) (RuledOut root m t)
   out-short a b = record { yes = λ e. short (eqb-false _ _ (not-true _ e)); no = λ e o. none (eqb-true _ _ (not-false _ e)) o }
     where
       none : without (root .lo .taken) t ≡ 0 → RuledOut root m t → ⊥
-      none c (marked k) = k a
+      none c (marked k) = a k
       none c (beyond k) = k b
       none c (short k) = k c
 
@@ -204,7 +205,7 @@ module _ (ws : List ℕ) (n : ℕ) (ranks : List ℕ) (root : Bounds) (t : ℕ) 
     seen = surpassed-marks ws n ranks root v found found-in m m′ (rw found-set p)
 
     seen-told : Full ws n ranks root m → Told ws n ranks root m′ t
-    seen-told = surpassed-told ws n ranks root v found found-in m m′ (rw found-set p) t found-set
+    seen-told f = surpassed-told ws n ranks root v found found-in m m′ (rw found-set p) t found-set
 
     pub admits-surpassed : IsMarked m′ t → Admits ws n ranks root t known m m′ false
     admits-surpassed x = record {
@@ -225,12 +226,12 @@ module _ (ws : List ℕ) (n : ℕ) (ranks : List ℕ) (root : Bounds) (t : ℕ) 
     }
 
     -- Where every set before t has been walked, a set that is not marked is minimal.
-    pub admits-known : known ≡ true → getD m′ t 0 ≡ 0 → (z : Bool) → Decides z (Undominated ws n ranks root t) → Admits ws n ranks root t known m m′ z
+    pub admits-known : known ≡ true → (IsMarked m′ t → ⊥) → (z : Bool) → Decides z (Undominated ws n ranks root t) → Admits ws n ranks root t known m m′ z
     admits-known k o z d = record {
       marks = seen;
       told = seen-told;
       refuses = λ e b r w. not-admissible b ws n ranks root r t (λ a. d .no e (a .undominated));
-      accepts = λ e f. record { minimal = f k (λ x. seen .kept t x o); undominated = d .yes e };
+      accepts = λ e f. record { minimal = f k (λ x. o (seen .kept t x)); undominated = d .yes e };
       lawful = λ e b r. has-set b r;
     }
 

@@ -9,14 +9,13 @@ use native.Mathlib.Numerals.{add-one}
 use native.Mathlib.Omega.{arith}
 use borrow.Author.Tests.{not-true, not-false}
 use lib.Pow.{pow-mono}
-use lib.ListN.{length, replicate, getD-replicate, List·getD-eq-default, length-replicate}
+use lib.ListN.{length}
 use Rattle.logic.specs.Tests.{Decides}
 use Rattle.logic.proofs.Decide.{clash, reworded, holds-or-not, decides-eq}
 use Rattle.logic.proofs.Members.{every-at}
 use Rattle.sets.specs.declared.Pair.{Pair}
 use Rattle.sets.proofs.Digits.{lt-or-le}
 use Rattle.book.specs.Limits.{exceptions}
-use Rattle.book.specs.Kinds.{setCount}
 use Rattle.order.specs.Formula.{setAt}
 use Rattle.order.proofs.Rule.{order-rule}
 use Rattle.masks.specs.declared.Bounds.{Bounds}
@@ -32,7 +31,7 @@ use Rattle.few.specs.Few.{Collected, AllListed}
 use Rattle.meaning.specs.Books.{Book, Lawful}
 use Rattle.meaning.specs.Views.{View}
 use Rattle.meaning.specs.Order as meaning
-use Rattle.meaning.specs.Order.{Point, LawfulPoint, Later, AllLater}
+use Rattle.meaning.specs.Order.{Point, LawfulPoint, Later}
 use Rattle.meaning.specs.Twins.Verdicts.{view}
 use Rattle.meaning.proofs.Twins.{decides-view}
 use Rattle.meaning.proofs.Ordered.{before-irreflexive, before-transitive}
@@ -40,16 +39,13 @@ use Rattle.meaning.proofs.Parts.{Part, part-none, part-same}
 use Rattle.bridge.proofs.Views.{view-same}
 use Rattle.admissible.specs.Admissible.{Minimal}
 use Rattle.walk.specs.declared.Position.{Position}
-use Rattle.marking.specs.Marks.{IsMarked, RightMarks}
-use Rattle.walk.specs.Plans.{Told, MarksRight, Rests, Admits, Bounded, RuledOut}
+use Rattle.walk.specs.declared.Span.{Span}
+use Rattle.marking.specs.Marks.{marksIn, IsMarked, Clear, RightMarks}
+use Rattle.walk.specs.Plans.{Told, MarksRight, Rests, Admits, Bounded, RuledOut, beyond, short}
 use Rattle.resolution.proofs.Resolutions.{resolution-same}
-use Rattle.walk.specs.Walks.{Passed, Serves, SetListed, Skipped, Beyond, Ready, Walked, FirstPage, PageAfter}
+use Rattle.walk.specs.Walks.{Passed, Serves, SetListed, Spanned, Skipped, Beyond, Ready, Walked, beginning, Paged}
 use Rattle.walk.proofs.Plans.{marks-same, marks-more, told-kept, admits-ruled-out, in-bounds, bounds-in}
 use Rattle.walk.proofs.Places.{at-or-past, subset-place, none-yet, one-more, all-places, cut-short}
-
--- Nothing is marked at first.
-unmarked : (k t : ℕ) → IsMarked (replicate k 0) t → ⊥
-unmarked k t x = x (⊎-elim (λ h. getD-replicate k t 0 0 h) (λ h. List·getD-eq-default (replicate k 0) 0 (rw (length-replicate {A = ℕ} k 0) h)) (lt-or-le t k))
 
 -- ---- one set
 module _ (ws ranks : List ℕ) (root : Bounds) (q : Task) (t : ℕ) (after known : Bool) (at : ℕ) (m m′ : List ℕ) (z : Bool) (a : Admits ws (q .rules) ranks root t known m m′ z) (o : List ℕ) where
@@ -114,9 +110,10 @@ module _ (ws ranks : List ℕ) (root : Bounds) (q : Task) (t : ℕ) (after known
 -- ---- what the marks tell
 module _ (ws : List ℕ) (n : ℕ) (ranks : List ℕ) (root : Bounds) (wide : ℕ) (small : wide ≤ exceptions) where
   -- Nothing is told at first.
-  ready-none : (k : ℕ) → setCount ≤ k → Ready ws n ranks root wide 0 (replicate k 0)
-  ready-none k h = record {
-    full = record { long = rw (length-replicate {A = ℕ} k 0) h; told = λ u x. absurd (unmarked k u x) };
+  ready-none : (m : List ℕ) → Clear m → 2 ^ wide ≤ marksIn m → Ready ws n ranks root wide 0 m
+  ready-none m c h = record {
+    full = record { told = λ u x. absurd (c .none u x) };
+    long = h;
     told = λ i l. absurd (omega arith);
   }
 
@@ -124,7 +121,8 @@ module _ (ws : List ℕ) (n : ℕ) (ranks : List ℕ) (root : Bounds) (wide : �
   ready-next : (j : ℕ) (m m′ : List ℕ) → Ready ws n ranks root wide j m → MarksRight ws n ranks root m m′ → Told ws n ranks root m′ (setAt wide j) → Ready ws n ranks root wide (j + 1) m′
   ready-next j m m′ r k f = record {
     full = k .full (r .full);
-    told = λ i l. ⊎-elim (λ a. told-kept ws n ranks root m m′ (k .kept) (setAt wide i) (r .told i a)) (λ a. let e : i ≡ j = omega arith in rw e f) (lt-or-le i j);
+    long = rw (k .same) (r .long);
+    told = λ i l. ⊎-elim (λ a. told-kept ws n ranks root m m′ (k .kept) (k .same) (setAt wide i) (r .told i a)) (λ a. let e : i ≡ j = omega arith in rw e f) (lt-or-le i j);
   }
 
   -- Where every place before j has been walked, the set at place j is minimal if it is not marked: a view with a proper subset, which stands
@@ -133,9 +131,15 @@ module _ (ws : List ℕ) (n : ℕ) (ranks : List ℕ) (root : Bounds) (wide : �
   ready-minimal j m h r f = record {
     has = λ v x i w.
         ⊎-elim (λ (e : v .taken ≡ setAt wide j). λ (c : ℕ). rw e (le-refl _))
-        (λ d. let k = subset-place wide small j h (v .taken) w d in absurd (f (r .told (k .0) (k .1) .above v x i (sym (k .2)) (setAt wide j) (lt-of-lt-of-le (order-rule wide (omega arith) .below j h) (pow-mono small)) (rw (k .2) w) (λ e. d (sym (e ∙ k .2))))))
+        (λ d. let k = subset-place wide small j h (v .taken) w d in absurd (f (r .told (k .0) (k .1) .above v x i (sym (k .2)) (setAt wide j) (lt-of-lt-of-le here (r .long)) (lt-of-lt-of-le here (pow-mono word)) (rw (k .2) w) (λ e. d (sym (e ∙ k .2))))))
         (holds-or-not (decides-eq (v .taken) (setAt wide j)));
   }
+    where
+      word : wide ≤ 64
+      word = omega arith
+
+      here : setAt wide j < 2 ^ wide
+      here = order-rule wide word .below j h
 
 -- ---- all sets
 -- The loop of the walk at place j: marks are right and tell of the places before j, and the page has all that stands at those places.
@@ -212,35 +216,63 @@ module _ (ws ranks : List ℕ) (root : Bounds) (q : Task) (wide : ℕ) (small : 
       let e : j + suc d ≡ j + 1 + d = omega arith in
       rw e (going-over d (j + 1) k n p (omega arith) (going-past j k n p g (omega arith) (f j (omega arith) (omega arith))) (λ i a b. f i (omega arith) (omega arith)))
 
-  pub going-on : (j k : ℕ) (n p : List ℕ) → Going ws ranks root q wide first known at m o j k n p → (s r : Position) → s .place ≡ j → Skipped wide root n s r
+  pub going-on : (j k past : ℕ) (n p : List ℕ) → Going ws ranks root q wide first known at m o j k n p → (s r : Position) → s .place ≡ j → Skipped wide past root n s r
       → Going ws ranks root q wide first known at m o (r .place) k n p
-  going-on j k n p g s r e x =
+  going-on j k past n p g s r e x =
       let f : j + (r .place - j) ≡ r .place = omega (arith, x .from) in
       rw f at (going-over (r .place - j) j k n p (omega (arith, x .stands .to, f)) g (λ i a b. x .ruled-out i (omega arith) (omega (arith, f))))
 
--- ---- whole pages
-pub none-marked : (b : Book) (k : ℕ) → RightMarks b (replicate k 0)
-none-marked b k = record { right = λ t x. absurd (unmarked k t x) }
+  -- To the first place between the root's sets.
+  pub going-in : (s : Span) → Spanned wide root s → Fits ws ranks o q at → first ≤ 2 ^ wide → (j : ℕ) → first ≤ j → j ≤ 2 ^ wide → (j ≡ first) ⊎ (j ≡ s .first) → Going ws ranks root q wide first known at m o j at m o
+  going-in s x f h j a b c =
+      let e : first + (j - first) ≡ j = omega arith in
+      rw e at (going-over (j - first) first at m o (omega arith) (going-first f h) (λ i l k. short (x .before i (⊎-elim (λ d. absurd (omega arith)) (λ d. omega arith) c) (omega arith))))
 
-module _ (ws ranks : List ℕ) (root : Bounds) (q : Task) (wide : ℕ) (small : wide ≤ exceptions) (k : ℕ) (o : List ℕ) where
-  pub first-walked : setCount ≤ k → (o′ : List ℕ) (r : ℕ) → Walked ws ranks root q wide 0 true 0 (replicate k 0) o o′ r → FirstPage ws ranks root q wide o o′ r
-  first-walked h o′ r w = record {
-    page = λ b s few. w .whole b meaning.start s few (none-marked b k) (λ e. ready-none ws (q .rules) ranks root wide small k h) tt (record { later = λ i d l p e. tt }) o [] (none-yet wide small b meaning.start) (page-none (q .room) 0 o);
+  -- All places between the root's sets have been passed.
+  pub walked-past : (s : Span) → Spanned wide root s → (j k : ℕ) (n p : List ℕ) → Going ws ranks root q wide first known at m o j k n p → s .past ≤ j → Walked ws ranks root q wide first known at m o p k
+  walked-past s x j k n p g h =
+      let e : j + (2 ^ wide - j) ≡ 2 ^ wide = omega (arith, g .to) in
+      walked-all (j + (2 ^ wide - j)) k n p (going-over (2 ^ wide - j) j k n p (omega arith) g (λ i a b. beyond (x .after i (omega arith) (omega arith)))) (omega arith)
+
+  -- There are no such places from the first one on.
+  pub walked-none : (s : Span) → Spanned wide root s → Fits ws ranks o q at → first ≤ 2 ^ wide → (j : ℕ) → (j ≡ first) ⊎ (j ≡ s .first) → s .past ≤ j → Walked ws ranks root q wide first known at m o o at
+  walked-none s x f h j c l =
+      let e : first + (2 ^ wide - first) ≡ 2 ^ wide = omega arith in
+      walked-all (first + (2 ^ wide - first)) at m o
+      (going-over (2 ^ wide - first) first at m o (omega arith) (going-first f h)
+      (λ i a b. ⊎-elim (λ k. short (x .before i (⊎-elim (λ d. absurd (omega arith)) (λ d. omega arith) c) (omega arith))) (λ k. beyond (x .after i (omega arith) (omega arith))) (lt-or-le i j)))
+      (omega arith)
+
+-- ---- whole pages
+clear-right : (b : Book) (m : List ℕ) → Clear m → RightMarks b m
+clear-right b m c = record { right = λ t x. absurd (c .none t x) }
+
+module _ (ws ranks : List ℕ) (root : Bounds) (q : Task) (wide : ℕ) (small : wide ≤ exceptions) (m : List ℕ) (c : Clear m) (o : List ℕ) where
+  pub first-walked : (a : Bool) → not a ≡ true → 2 ^ wide ≤ marksIn m → (o′ : List ℕ) (r : ℕ) → Walked ws ranks root q wide 0 true 0 m o o′ r → Paged ws ranks root q wide a o o′ r
+  unfolding beginning
+  first-walked a n h o′ r w = rw (not-true a n) record {
+    page = λ b s few l. w .whole b meaning.start s few (clear-right b m c) (λ e. ready-none ws (q .rules) ranks root wide small m c h) tt (record { later = λ i d l p e. tt }) o [] (none-yet wide small b meaning.start) (page-none (q .room) 0 o);
   }
 
-  module _ (j : ℕ) (h : j < 2 ^ wide) (e : setAt wide j ≡ q .point .taken) where
+  module _ (a : Bool) (n : not a ≡ false) (j : ℕ) (h : j < 2 ^ wide) (e : setAt wide j ≡ q .point .taken) where
     -- Nothing that stands before the point's place is later than the point.
     not-later : (b : Book) → Part b (meaning.at (q .point)) (Passed wide j) []
     not-later b = part-none b (meaning.at (q .point)) (Passed wide j) (λ p r l s. before-irreflexive p (before-transitive p (q .point) p (at-or-past wide small j j (le-refl j) h p (q .point) s e) l))
 
-    pub after-walked : (m : List ℕ) (o′ o″ : List ℕ) (r r′ : ℕ) → SetListed ws ranks root q (q .point .taken) true false 0 (replicate k 0) m o o′ r
-        → Walked ws ranks root q wide (j + 1) false r m o′ o″ r′ → PageAfter ws ranks root q wide o o″ r′
-    after-walked m o′ o″ r r′ s w = record { page = page }
-      where
-        page : (b : Book) → Serves b ws ranks root q → length (b .exceptions) ≤ wide → Lawful b (q .point) → (zs : List Pair) × AllLater b (meaning.at (q .point)) zs × Page (q .room) 0 o o″ zs r′
-        page b x few l =
-            let from : Point = meaning.at (q .point) in
-            let d = s .part b from x (none-marked b k) (λ f. absurd (clash f)) (record { within = λ f. (refl, l, refl); before = λ f. absurd (clash (sym f)) }) in
-            let y = one-more wide small b from j [] (d .0) h (not-later b) (part-same b from (λ i. i .taken ≡ q .point .taken) (λ i. setAt wide j ≡ i .taken) (d .0) (λ i a z. e ∙ sym z) (λ i a z. sym z ∙ e) (d .2)) in
-            w .whole b from x few (s .marks .stay b (x .rooted) (none-marked b k)) (λ f. absurd (clash f)) l
-            (record { later = λ i n z p f. at-or-past wide small (suc j) i (omega arith) z (q .point) p (inr e) f }) o (d .0) (rw (add-one j) y) (d .1)
+    pub after-walked : (m′ : List ℕ) (o′ o″ : List ℕ) (r r′ : ℕ) → SetListed ws ranks root q (q .point .taken) true false 0 m m′ o o′ r
+        → Walked ws ranks root q wide (j + 1) false r m′ o′ o″ r′ → Paged ws ranks root q wide a o o″ r′
+    unfolding beginning
+    after-walked m′ o′ o″ r r′ s w = rw (not-false a n) record {
+      page = λ b x few l.
+          let from : Point = meaning.at (q .point) in
+          let d = s .part b from x (clear-right b m c) (λ f. absurd (clash f)) (record { within = λ f. (refl, l, refl); before = λ f. absurd (clash (sym f)) }) in
+          let y = one-more wide small b from j [] (d .0) h (not-later b) (part-same b from (λ i. i .taken ≡ q .point .taken) (λ i. setAt wide j ≡ i .taken) (d .0) (λ i l z. e ∙ sym z) (λ i l z. sym z ∙ e) (d .2)) in
+          w .whole b from x few (s .marks .stay b (x .rooted) (clear-right b m c)) (λ f. absurd (clash f)) l
+          (record { later = λ i d z p f. at-or-past wide small (suc j) i (omega arith) z (q .point) p (inr e) f }) o (d .0) (rw (add-one j) y) (d .1);
+    }
+
+    -- A look at the point's own set tells that no resolution has it.
+    pub after-past : RuledOut root m (q .point .taken) → (o′ : List ℕ) (r : ℕ) → Walked ws ranks root q wide (j + 1) false 0 m o o′ r → Paged ws ranks root q wide a o o′ r
+    after-past f o′ r w =
+        after-walked m o o′ 0 r
+        (set-refused ws ranks root q (q .point .taken) true false 0 m m false (admits-ruled-out ws (q .rules) ranks root (q .point .taken) false m f) o refl (omega arith)) w

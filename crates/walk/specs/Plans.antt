@@ -1,37 +1,36 @@
 -- What the walk knows of the book whose words it reads, and what it says of a set of exceptions.
-use Prim.Native.Nat.{ℕ, _^_, _<_, _≤_}
+use Prim.Native.Nat.{ℕ, _^_, _<_}
 use mathlib.Core.Path.{_≡_}
 use mathlib.Core.Bool.{Bool, true, false}
 use mathlib.Core.List.{List}
 use lib.ListN.{length}
 use Rattle.sets.specs.declared.Pair.{Pair}
 use Rattle.sets.specs.Sets.{Within, without}
-use Rattle.book.specs.Kinds.{setCount}
 use Rattle.masks.specs.declared.Bounds.{Bounds}
 use Rattle.masks.specs.Views.{MaskView}
 use Rattle.bounds.specs.Sound.{In, Propagated, withSets}
 use Rattle.admissible.specs.Admissible.{Minimal, Admissible}
 use Rattle.meaning.specs.Books.{Book}
 use Rattle.resolution.specs.Rooted.{Rooted}
-use Rattle.marking.specs.Marks.{IsMarked, NoneAt, RightMarks}
+use Rattle.marking.specs.Marks.{marksIn, IsMarked, NoneAt, RightMarks}
 
 -- A view within root has the set t.
 pub record HasView (ws : List ℕ) (n : ℕ) (ranks : List ℕ) (root : Bounds) (t : ℕ) : Type 0 where
   pub some : (v : Pair) × MaskView ws n ranks v × In root v × (v .taken ≡ t)
 
--- If a view has the set u, every proper superset of u is marked.
+-- If a view has the set u, every proper superset of u that is a word and has a bit is marked.
 pub record Told (ws : List ℕ) (n : ℕ) (ranks : List ℕ) (root : Bounds) (marks : List ℕ) (u : ℕ) : Type 0 where
-  pub above : (v : Pair) → MaskView ws n ranks v → In root v → v .taken ≡ u → (t : ℕ) → t < setCount → Within u t → (t ≡ u → ⊥) → IsMarked marks t
+  pub above : (v : Pair) → MaskView ws n ranks v → In root v → v .taken ≡ u → (t : ℕ) → t < marksIn marks → t < 2 ^ 64 → Within u t → (t ≡ u → ⊥) → IsMarked marks t
 
--- There is a mark for every set, and that is so of each marked set.
+-- That is so of each marked set.
 pub record Full (ws : List ℕ) (n : ℕ) (ranks : List ℕ) (root : Bounds) (marks : List ℕ) : Type 0 where
-  pub long : setCount ≤ length marks
   pub told : (u : ℕ) → IsMarked marks u → Told ws n ranks root marks u
 
--- Marks that are right for the book stay so; what is marked stays marked; full marks stay full.
+-- Marks that are right for the book stay so; what is marked stays marked; there are as many words; full marks stay full.
 pub record MarksRight (ws : List ℕ) (n : ℕ) (ranks : List ℕ) (root : Bounds) (before after : List ℕ) : Type 0 where
   pub stay : (b : Book) → Rooted b ws n ranks root → RightMarks b before → RightMarks b after
   pub kept : (t : ℕ) → IsMarked before t → IsMarked after t
+  pub same : length after ≡ length before
   pub full : Full ws n ranks root before → Full ws n ranks root after
 
 -- Where known is true, t is minimal if it is not marked.

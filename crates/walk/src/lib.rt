@@ -1,19 +1,19 @@
 // The walk over all sets of exceptions in their order: which of them a resolution can have.
 ghost use mathlib.Core.Path.{_≡_};
 ghost use mathlib.Core.Bool.{true, false};
+ghost use mathlib.Core.Logic.{_⊎_};
 ghost use Prim.Native.Nat.{_*_, _^_, _<_, _≤_};
 ghost use lib.ListN.{length};
 ghost use Rattle.logic.specs.Tests.{Decides};
 ghost use Rattle.book.specs.Limits.{exceptions};
-ghost use Rattle.book.specs.Kinds.{setCount};
+ghost use Rattle.marking.specs.Marks.{marksIn, Clear};
 ghost use Rattle.queue.specs.Chains.{Chains};
 ghost use Rattle.page.specs.Pages.{Fits};
 ghost use Rattle.few.specs.Few.{most, Collected};
 ghost use Rattle.ranges.specs.Ranges.{NoView};
-ghost use Rattle.walk.specs.Walks.{SetListed, AtPlace, Skipped, Walked, FirstPage, PageAfter};
+ghost use Rattle.walk.specs.Walks.{SetListed, AtPlace, Spanned, Skipped, Walked, Paged};
 ghost use Rattle.walk.specs.Plans.{HasView, MarksRight, Admits, Bounded, RuledOut};
 use book::Book;
-use marking::Marks;
 use marking::Strike;
 use masks::Bounds;
 use page::Task;
@@ -63,9 +63,9 @@ pub fn mark_around(
     root: Bounds,
     t: u64,
     credit: u64,
-    marks: &mut Marks,
+    marks: &mut [u64],
 ) -> u64
-    requires { ⌜ (n * 8 ≤ length (now words)) × (length (now ranks) ≤ 64) × Chains (now words) n (now index) ⌝ }
+    requires { ⌜ (n * 8 ≤ length (now words)) × (length (now ranks) ≤ 64) × (0 < length (now marks)) × Chains (now words) n (now index) ⌝ }
     ensures { λ _. ⌜ (NoView (now (words .entry)) n (now (ranks .entry)) root t t → MarksRight (now (words .entry)) n (now (ranks .entry)) root (now (marks .entry)) (now (marks .exit))) ⌝ }
 {
     if credit < WIDENING {
@@ -120,9 +120,9 @@ pub fn mark_shaven(
     root: Bounds,
     t: u64,
     doubt: u64,
-    marks: &mut Marks,
+    marks: &mut [u64],
 ) -> u64
-    requires { ⌜ (n * 8 ≤ length (now words)) × (length (now ranks) ≤ 64) × Chains (now words) n (now index) ⌝ }
+    requires { ⌜ (n * 8 ≤ length (now words)) × (length (now ranks) ≤ 64) × (0 < length (now marks)) × Chains (now words) n (now index) ⌝ }
     ensures { λ _. ⌜ (NoView (now (words .entry)) n (now (ranks .entry)) root t t → MarksRight (now (words .entry)) n (now (ranks .entry)) root (now (marks .entry)) (now (marks .exit))) ⌝ }
 {
     if doubt < DOUBT {
@@ -157,14 +157,13 @@ pub fn tested(
     root: Bounds,
     t: u64,
     known: bool,
-    marks: &mut Marks,
+    marks: &mut [u64],
 ) -> bool
-    requires { ⌜ (n * 8 ≤ length (now words)) × (length (now ranks) ≤ 64) × (t < setCount) × Chains (now words) n (now index) ⌝ }
+    requires { ⌜ (n * 8 ≤ length (now words)) × (length (now ranks) ≤ 64) × (t < marksIn (now marks)) × Chains (now words) n (now index) ⌝ }
     ensures { λ r. ⌜ (HasView (now (words .entry)) n (now (ranks .entry)) root t → Admits (now (words .entry)) n (now (ranks .entry)) root t known (now (marks .entry)) (now (marks .exit)) r) ⌝ }
 {
     marking::mark_surpassed(ranks, t, marks);
-    let place = t as usize;
-    if marks[place] != 0 {
+    if marking::is_marked(marks, t) {
         return false;
     }
     if known {
@@ -185,11 +184,11 @@ pub fn admits(
     known: bool,
     credit: u64,
     doubt: u64,
-    marks: &mut Marks,
+    marks: &mut [u64],
     store: &mut [u64],
     cap: usize,
 ) -> Admission
-    requires { ⌜ (n * 8 ≤ length (now words)) × (length (now ranks) ≤ 64) × (t < setCount) × Chains (now words) n (now index) × (cap * 3 ≤ length (now store)) × (0 < cap) ⌝ }
+    requires { ⌜ (n * 8 ≤ length (now words)) × (length (now ranks) ≤ 64) × (t < marksIn (now marks)) × Chains (now words) n (now index) × (cap * 3 ≤ length (now store)) × (0 < cap) ⌝ }
     ensures { λ r. ⌜ Admits (now (words .entry)) n (now (ranks .entry)) root t known (now (marks .entry)) (now (marks .exit)) (r .ok) × Bounded (now (words .entry)) n (now (ranks .entry)) root t (r .ok) (r .rest .bounds) × (r .ok ≡ true → Collected (now (words .entry)) n (now (ranks .entry)) (r .rest .bounds) cap (now (store .exit)) (r .count)) ⌝ }
 {
     let rest = ranges::narrowed(words, n, ranks, index, root, t, t);
@@ -233,11 +232,11 @@ pub fn list_set(
     after: bool,
     known: bool,
     filled: Filled,
-    marks: &mut Marks,
+    marks: &mut [u64],
     store: &mut [u64],
     out: &mut [u64],
 ) -> Filled
-    requires { ⌜ Fits (now words) (now ranks) (now out) task (filled .at) × (t < setCount) × Chains (now words) (task .rules) (now index) × (most * 3 ≤ length (now store)) ⌝ }
+    requires { ⌜ Fits (now words) (now ranks) (now out) task (filled .at) × (t < marksIn (now marks)) × Chains (now words) (task .rules) (now index) × (most * 3 ≤ length (now store)) ⌝ }
     ensures { λ r. ⌜ SetListed (now (words .entry)) (now (ranks .entry)) root task t after known (filled .at) (now (marks .entry)) (now (marks .exit)) (now (out .entry)) (now (out .exit)) (r .at) ⌝ }
 {
     let at = filled.at;
@@ -283,12 +282,11 @@ pub fn list_set(
 }
 
 // A look is enough to see that no resolution has the set t: it is marked, or it is not between the root's sets.
-pub fn ruled_out(root: Bounds, marks: &Marks, t: u64) -> bool
-    requires { ⌜ t < setCount ⌝ }
+pub fn ruled_out(root: Bounds, marks: &[u64], t: u64) -> bool
+    requires { ⌜ t < marksIn (now marks) ⌝ }
     ensures { λ r. ⌜ Decides r (RuledOut root (now (marks .entry)) t) ⌝ }
 {
-    let place = t as usize;
-    if marks[place] != 0 {
+    if marking::is_marked(marks, t) {
         return true;
     }
     if t ^ (t & root.hi.taken) != 0 {
@@ -303,15 +301,32 @@ pub struct Position {
     pub set: u64,
 }
 
-// The first place from p on at which a look is not enough, or the end of the order of the sets of x exceptions.
-pub fn past_ruled_out(x: usize, root: Bounds, marks: &Marks, p: Position) -> Position
-    requires { ⌜ (x ≤ exceptions) × AtPlace x p ⌝ }
-    ensures { λ r. ⌜ Skipped x root (now (marks .entry)) p r ⌝ }
+// The places of the sets that stand between the root's sets: from that of the lower one on, up to that of the upper one.
+pub struct Span {
+    pub first: usize,
+    pub past: usize,
+}
+
+// These places: a set earlier than the root's lower one does not contain it, and one later than the upper one is not within it.
+pub fn spanned(x: usize, root: Bounds) -> Span
+    requires { ⌜ x ≤ exceptions ⌝ }
+    ensures { λ r. ⌜ Spanned x root r ⌝ }
 {
-    let places = order::place_count(x);
+    let all = (1 << x) - 1;
+    Span {
+        first: order::place_of(x, root.lo.taken & all),
+        past: order::place_of(x, root.hi.taken & all) + 1,
+    }
+}
+
+// The first place from p on at which a look is not enough, or one from `past` on, in the order of the sets of x exceptions.
+pub fn past_ruled_out(x: usize, past: usize, root: Bounds, marks: &[u64], p: Position) -> Position
+    requires { ⌜ (x ≤ exceptions) × (past ≤ 2 ^ x) × (2 ^ x ≤ marksIn (now marks)) × AtPlace x p ⌝ }
+    ensures { λ r. ⌜ Skipped x past root (now (marks .entry)) p r ⌝ }
+{
     let mut place = p.place;
     let mut set = p.set;
-    while place < places {
+    while place < past {
         if !ruled_out(root, marks, set) {
             return Position { place, set };
         }
@@ -319,6 +334,16 @@ pub fn past_ruled_out(x: usize, root: Bounds, marks: &Marks, p: Position) -> Pos
         place += 1;
     }
     Position { place, set }
+}
+
+// The later of two places.
+fn later(a: usize, b: usize) -> usize
+    ensures { λ r. ⌜ (a ≤ r) × (b ≤ r) × ((r ≡ a) ⊎ (r ≡ b)) ⌝ }
+{
+    if a < b {
+        return b;
+    }
+    a
 }
 
 // Puts the resolutions with the sets of x exceptions from place `from` on on the page, until it is full. Where `known` is true, the sets before that
@@ -333,24 +358,25 @@ pub fn walk(
     from: usize,
     known: bool,
     filled: Filled,
-    marks: &mut Marks,
+    marks: &mut [u64],
     store: &mut [u64],
     out: &mut [u64],
 ) -> usize
-    requires { ⌜ Fits (now words) (now ranks) (now out) task (filled .at) × (x ≤ exceptions) × (from ≤ 2 ^ x) × Chains (now words) (task .rules) (now index) × (most * 3 ≤ length (now store)) ⌝ }
+    requires { ⌜ Fits (now words) (now ranks) (now out) task (filled .at) × (x ≤ exceptions) × (from ≤ 2 ^ x) × (2 ^ x ≤ marksIn (now marks)) × Chains (now words) (task .rules) (now index) × (most * 3 ≤ length (now store)) ⌝ }
     ensures { λ r. ⌜ Walked (now (words .entry)) (now (ranks .entry)) root task x from known (filled .at) (now (marks .entry)) (now (out .entry)) (now (out .exit)) r ⌝ }
 {
-    let places = order::place_count(x);
     if task.room <= filled.at {
         return filled.at;
     }
-    if places <= from {
+    let s = spanned(x, root);
+    let first = later(from, s.first);
+    if s.past <= first {
         return filled.at;
     }
-    let set = order::set_at(x, from);
-    let mut p = past_ruled_out(x, root, marks, Position { place: from, set });
+    let set = order::set_at(x, first);
+    let mut p = past_ruled_out(x, s.past, root, marks, Position { place: first, set });
     let mut f = filled;
-    while p.place < places {
+    while p.place < s.past {
         f = list_set(
             words,
             ranks,
@@ -370,61 +396,27 @@ pub fn walk(
         }
         let place = p.place + 1;
         let set = order::next(x, p.set);
-        p = past_ruled_out(x, root, marks, Position { place, set });
+        p = past_ruled_out(x, s.past, root, marks, Position { place, set });
     }
     f.at
 }
 
-// The page of the first resolutions of a book of at most x exceptions, whose views are within root.
-pub fn first_page(
+// The page of the first resolutions of a book of at most x exceptions, whose views are within root; where `after` is true, of the first later than the
+// task's point. Nothing is marked yet.
+pub fn page_with(
     words: &[u64],
     ranks: &[u64],
     index: &Index,
     root: Bounds,
     x: usize,
     task: Task,
+    after: bool,
+    marks: &mut [u64],
     out: &mut [u64],
 ) -> usize
-    requires { ⌜ Fits (now words) (now ranks) (now out) task 0 × (x ≤ exceptions) × Chains (now words) (task .rules) (now index) ⌝ }
-    ensures { λ r. ⌜ FirstPage (now (words .entry)) (now (ranks .entry)) root task x (now (out .entry)) (now (out .exit)) r ⌝ }
+    requires { ⌜ Fits (now words) (now ranks) (now out) task 0 × (x ≤ exceptions) × (task .point .taken < 2 ^ x) × (2 ^ x ≤ marksIn (now marks)) × Clear (now marks) × Chains (now words) (task .rules) (now index) ⌝ }
+    ensures { λ r. ⌜ Paged (now (words .entry)) (now (ranks .entry)) root task x after (now (out .entry)) (now (out .exit)) r ⌝ }
 {
-    let mut marks = [0u8; Book::SETS];
-    let mut store = [0u64; few::MOST * 3];
-    let filled = Filled {
-        at: 0,
-        credit: CREDIT,
-        doubt: 0,
-    };
-    walk(
-        words,
-        ranks,
-        index,
-        root,
-        task,
-        x,
-        0,
-        true,
-        filled,
-        &mut marks,
-        &mut store,
-        out,
-    )
-}
-
-// The page of the first resolutions later than the task's point, in a book of at most x exceptions.
-pub fn page_after(
-    words: &[u64],
-    ranks: &[u64],
-    index: &Index,
-    root: Bounds,
-    x: usize,
-    task: Task,
-    out: &mut [u64],
-) -> usize
-    requires { ⌜ Fits (now words) (now ranks) (now out) task 0 × (x ≤ exceptions) × (task .point .taken < 2 ^ x) × Chains (now words) (task .rules) (now index) ⌝ }
-    ensures { λ r. ⌜ PageAfter (now (words .entry)) (now (ranks .entry)) root task x (now (out .entry)) (now (out .exit)) r ⌝ }
-{
-    let mut marks = [0u8; Book::SETS];
     let mut store = [0u64; few::MOST * 3];
     let t = task.point.taken;
     let filled = Filled {
@@ -432,7 +424,39 @@ pub fn page_after(
         credit: CREDIT,
         doubt: 0,
     };
-    let place = order::place_of(x, t);
+    if !after {
+        return walk(
+            words,
+            ranks,
+            index,
+            root,
+            task,
+            x,
+            0,
+            true,
+            filled,
+            marks,
+            &mut store,
+            out,
+        );
+    }
+    let next = order::place_of(x, t) + 1;
+    if ruled_out(root, marks, t) {
+        return walk(
+            words,
+            ranks,
+            index,
+            root,
+            task,
+            x,
+            next,
+            false,
+            filled,
+            marks,
+            &mut store,
+            out,
+        );
+    }
     let f = list_set(
         words,
         ranks,
@@ -443,7 +467,7 @@ pub fn page_after(
         true,
         false,
         filled,
-        &mut marks,
+        marks,
         &mut store,
         out,
     );
@@ -454,11 +478,43 @@ pub fn page_after(
         root,
         task,
         x,
-        place + 1,
+        next,
         false,
         f,
-        &mut marks,
+        marks,
         &mut store,
         out,
     )
+}
+
+// How many exceptions have sets for one word of marks, and for 64 words.
+const FEW: usize = 6;
+
+const MANY: usize = 12;
+
+// The page, with no more marks cleared than a book of so many exceptions may need: one word, 64 words or as many as the limit asks for, and one before
+// them.
+pub fn page(
+    words: &[u64],
+    ranks: &[u64],
+    index: &Index,
+    root: Bounds,
+    x: usize,
+    task: Task,
+    after: bool,
+    out: &mut [u64],
+) -> usize
+    requires { ⌜ Fits (now words) (now ranks) (now out) task 0 × (x ≤ exceptions) × (task .point .taken < 2 ^ x) × Chains (now words) (task .rules) (now index) ⌝ }
+    ensures { λ r. ⌜ Paged (now (words .entry)) (now (ranks .entry)) root task x after (now (out .entry)) (now (out .exit)) r ⌝ }
+{
+    if x <= FEW {
+        let mut marks = [0u64; 2];
+        return page_with(words, ranks, index, root, x, task, after, &mut marks, out);
+    }
+    if x <= MANY {
+        let mut marks = [0u64; 65];
+        return page_with(words, ranks, index, root, x, task, after, &mut marks, out);
+    }
+    let mut marks = [0u64; Book::SETS / 64 + 1];
+    page_with(words, ranks, index, root, x, task, after, &mut marks, out)
 }

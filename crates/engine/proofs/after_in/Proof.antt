@@ -14,16 +14,16 @@ fill-requires c κs = let p = plain-in _ (c .before .before .before .before .pre
 root-of-requires : tie.Need-root-of-requires
 root-of-requires c κs = let p = plain-in _ (c .before .before .before .before .before .before .pre .0) in let x = exceptions-in _ (c .before .before .before .before .before .before .pre .0) in let s = c .before .before .before .before .before .before .pre .0 .statements in search needs
 
-page-after-requires : tie.Need-page-after-requires
-page-after-requires c κs = let i = c .before .before .before .before .before .before .before .before .before .before .before .pre .0 in let p = plain-in _ i in let x = exceptions-in _ i in let s = i .statements in (search needs, search needs, search needs, c .before .before .before .before .before .before .fill .ensures)
+page-requires : tie.Need-page-requires
+page-requires c κs = let i = c .before .before .before .before .before .before .before .before .before .before .before .pre .0 in let p = plain-in _ i in let x = exceptions-in _ i in let s = i .statements in (search needs, search needs, search needs, c .before .before .before .before .before .before .fill .ensures)
 
 same-length : tie.Need-same-length
 same-length c = search needs
 
 returns : tie.Need-returns
-returns c = after-is _ _ _ _ _ (c .before .before .before .before .before .before .before .root-of .ensures) refl refl _ _ _ refl (c .before .before .page-after .ensures)
+returns c = after-is _ _ _ _ _ (c .before .before .before .before .before .before .before .root-of .ensures) refl refl _ _ _ refl (c .before .before .page .ensures)
 
 pub after-in-spec : {M : Type 1} → statement M
 after-in-spec =
     tie.close
-    (tie.spec add-rules fill-requires root-of-requires page-after-requires same-length returns)
+    (tie.spec add-rules fill-requires root-of-requires page-requires same-length returns)

@@ -1,3 +1,4 @@
+use lib.Pow.{pow-pos}
 use Rattle.book.proofs.Counts.{plain-in, exceptions-in}
 use mathlib.Core.Path.{refl}
 use Rattle.engine.proofs.Prepared.{first-is}
@@ -14,16 +15,16 @@ fill-requires c κs = let p = plain-in _ (c .before .before .before .before .pre
 root-of-requires : tie.Need-root-of-requires
 root-of-requires c κs = let p = plain-in _ (c .before .before .before .before .before .before .pre) in let x = exceptions-in _ (c .before .before .before .before .before .before .pre) in let s = c .before .before .before .before .before .before .pre .statements in search needs
 
-first-page-requires : tie.Need-first-page-requires
-first-page-requires c κs = let i = c .before .before .before .before .before .before .before .before .before .before .before .pre in let p = plain-in _ i in let x = exceptions-in _ i in let s = i .statements in (search needs, search needs, c .before .before .before .before .before .before .fill .ensures)
+page-requires : tie.Need-page-requires
+page-requires c κs = let i = c .before .before .before .before .before .before .before .before .before .before .before .pre in let p = plain-in _ i in let x = exceptions-in _ i in let s = i .statements in (search needs, search needs, pow-pos _, c .before .before .before .before .before .before .fill .ensures)
 
 same-length : tie.Need-same-length
 same-length c = search needs
 
 returns : tie.Need-returns
-returns c = first-is _ _ _ _ _ (c .before .before .before .before .before .before .before .root-of .ensures) refl refl _ _ _ refl (c .before .before .first-page .ensures)
+returns c = first-is _ _ _ _ _ (c .before .before .before .before .before .before .before .root-of .ensures) refl refl _ _ _ refl (c .before .before .page .ensures)
 
 pub first-in-spec : {M : Type 1} → statement M
 first-in-spec =
     tie.close
-    (tie.spec add-rules fill-requires root-of-requires first-page-requires same-length returns)
+    (tie.spec add-rules fill-requires root-of-requires page-requires same-length returns)

@@ -15,11 +15,27 @@ shaven-requires c κs = search needs
 mark-requires : tie.Need-mark-requires
 mark-requires c κs = search needs
 
+same-length : tie.Need-same-length
+same-length c = search needs
+
 returns-3 : tie.Need-returns-3
-returns-3 c = range-marked _ _ _ _ _ _ _ _ _ (c .before .before .before .shaven .ensures) (c .before .mark .ensures)
+returns-3 c = range-marked _ _ _ _ _ _ _ _ _ (c .before .before .before .before .before .shaven .ensures) (c .before .before .before .mark .ensures)
+
+same-length-2 : tie.Need-same-length-2
+same-length-2 c = search needs
 
 returns-4 : tie.Need-returns-4
-returns-4 c = range-marked _ _ _ _ _ _ _ _ _ (c .before .before .before .shaven .ensures) (c .before .mark .ensures)
+returns-4 c = range-marked _ _ _ _ _ _ _ _ _ (c .before .before .before .before .before .shaven .ensures) (c .before .before .before .mark .ensures)
 
 pub mark-shaven-spec : {M : Type 1} → statement M
-mark-shaven-spec = tie.close (tie.spec returns returns-2 shaven-requires mark-requires returns-3 returns-4)
+mark-shaven-spec =
+    tie.close
+    (tie.spec
+    returns
+    returns-2
+    shaven-requires
+    mark-requires
+    same-length
+    returns-3
+    same-length-2
+    returns-4)

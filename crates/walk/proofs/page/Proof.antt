@@ -1,0 +1,60 @@
+use Prim.Native.Nat.{_≤_}
+use native.Mathlib.Omega.{arith}
+use lib.Pow.{pow-mono}
+use Rattle.marking.proofs.Marks.{zeros-clear}
+use borrow.Author.Needs.{needs}
+use Rattle.walk.proofs.page.Statement.{statement}
+use Rattle.walk.proofs.page.Tie as tie
+
+slice-aggregate-page-with : tie.Need-slice-aggregate-page-with
+slice-aggregate-page-with c = search needs
+
+page-with-requires : tie.Need-page-with-requires
+page-with-requires c κs = (c .before .before .before .before .before .before .pre .0, c .before .before .before .before .before .before .pre .1, c .before .before .before .before .before .before .pre .2, (let h : c .before .before .before .before .before .before .args .x ≤ 6 = omega arith in pow-mono h), zeros-clear 2, c .before .before .before .before .before .before .pre .3)
+
+same-length : tie.Need-same-length
+same-length c = search needs
+
+returns : tie.Need-returns
+returns c = search needs
+
+slice-aggregate-page-with-2 : tie.Need-slice-aggregate-page-with-2
+slice-aggregate-page-with-2 c = search needs
+
+page-with-requires-2 : tie.Need-page-with-requires-2
+page-with-requires-2 c κs = (c .before .before .before .before .before .before .before .pre .0, c .before .before .before .before .before .before .before .pre .1, c .before .before .before .before .before .before .before .pre .2, (let h : c .before .before .before .before .before .before .before .args .x ≤ 12 = omega arith in pow-mono h), zeros-clear 65, c .before .before .before .before .before .before .before .pre .3)
+
+same-length-2 : tie.Need-same-length-2
+same-length-2 c = search needs
+
+returns-2 : tie.Need-returns-2
+returns-2 c = search needs
+
+slice-aggregate-page-with-3 : tie.Need-slice-aggregate-page-with-3
+slice-aggregate-page-with-3 c = search needs
+
+page-with-requires-3 : tie.Need-page-with-requires-3
+page-with-requires-3 c κs = (c .before .before .before .before .before .before .before .pre .0, c .before .before .before .before .before .before .before .pre .1, c .before .before .before .before .before .before .before .pre .2, pow-mono (c .before .before .before .before .before .before .before .pre .1), zeros-clear 1025, c .before .before .before .before .before .before .before .pre .3)
+
+same-length-3 : tie.Need-same-length-3
+same-length-3 c = search needs
+
+returns-3 : tie.Need-returns-3
+returns-3 c = search needs
+
+pub page-spec : {M : Type 1} → statement M
+page-spec =
+    tie.close
+    (tie.spec
+    slice-aggregate-page-with
+    page-with-requires
+    same-length
+    returns
+    slice-aggregate-page-with-2
+    page-with-requires-2
+    same-length-2
+    returns-2
+    slice-aggregate-page-with-3
+    page-with-requires-3
+    same-length-3
+    returns-3)
