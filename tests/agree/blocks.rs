@@ -198,7 +198,7 @@ fn add_implied(random: &mut Random, book: &mut Book) {
     }
     let outranks = outranking(book);
     while book.preferences.len() < PREFERENCES {
-        let (a, b) = (random.below(12) as usize, random.below(12) as usize);
+        let (a, b) = (random.below(EXCEPTIONS as u64) as usize, random.below(EXCEPTIONS as u64) as usize);
         if outranks[a][b] {
             book.preferences.push([a as i32 + 1, b as i32 + 1]);
         }

@@ -3,12 +3,16 @@
 /// The most statements, plain rules, exceptions and preferences of a book, and the most bytes of its text.
 pub const STATEMENTS: i32 = 48;
 pub const PLAIN: usize = 200;
-pub const EXCEPTIONS: usize = 12;
+pub const EXCEPTIONS: usize = 16;
 pub const PREFERENCES: usize = 32;
-pub const TEXT: usize = 8_392;
+pub const TEXT: usize = 8_544;
 
-/// The most numbers that a number table can have.
+/// The most numbers that a number table can have, and the most bytes of an A line.
 pub const TABLE: usize = 4 + 9 * (PLAIN + EXCEPTIONS) + 2 * PREFERENCES;
+pub const LINE: usize = 70 + STATEMENTS as usize;
+
+/// The most exceptions of a book whose A lines have 12 fields for them. In a longer book they have 16.
+pub const NARROW: usize = 12;
 
 /// A plain rule or an exception: +i is i, -i is -i, and 0 is an unused entry or no head.
 #[derive(Clone, Copy, PartialEq, Eq, Debug)]
@@ -54,6 +58,17 @@ impl Book {
     /// How many R, X and P lines the book has.
     pub fn lines(&self) -> usize {
         self.plain.len() + self.exceptions.len() + self.preferences.len()
+    }
+
+    /// Whether the book has more than 12 exceptions.
+    pub fn is_wide(&self) -> bool {
+        self.exceptions.len() > NARROW
+    }
+
+    /// The bytes of an A line of the book, by the book's exceptions and not by those that a pair takes.
+    pub fn line_bytes(&self) -> usize {
+        let others = if self.is_wide() { 70 } else { 54 };
+        others + self.statements as usize
     }
 }
 

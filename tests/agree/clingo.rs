@@ -1,7 +1,7 @@
 //! The views and the resolutions of a book by clingo. tests/ENCODING.md explains how.
 
 use crate::book::*;
-use crate::meaning::{compare_pairs, members, Ranked};
+use crate::meaning::{compare_pairs, members, Ranked, Viewed};
 use crate::process::run;
 use std::fmt::Write;
 
@@ -135,7 +135,8 @@ impl Clingo {
 
     /// All resolutions, in the order of pairs.
     pub fn resolutions(&self, book: &Book) -> Result<Vec<Pair>, String> {
-        let best = Ranked::of(book).best(&self.viewed(book)?);
+        let viewed = Viewed::of(book.exceptions.len(), self.viewed(book)?);
+        let best = Ranked::of(book).best(&viewed);
         self.listing(book, &best, Bound::None, 0)
     }
 }

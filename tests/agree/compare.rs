@@ -121,6 +121,8 @@ pub struct Tally {
     pub verdicts: [u64; 6],
     pub ends: u64,
     pub pairs: u64,
+    /// Lines with 12 and with 16 fields for exceptions.
+    pub lines: [u64; 2],
 }
 
 /// The operations, in the order of `Tally::calls`.
@@ -234,6 +236,9 @@ impl Checker {
         });
         let fitting = line.and_then(|line| if length < line.len() { Err(refused(15)) } else { Ok(line) });
         self.count(5, &fitting);
+        if let (Ok(book), Ok(_)) = (known.book, &fitting) {
+            self.tally.lines[usize::from(book.is_wide())] += 1;
+        }
         let mut lent = self.lend::<u8>(length);
         let answer = engine::line(known.text, pair, lent.part());
         let expected = fitting.as_ref().map(|line| line.len() as u64).map_err(|refusal| *refusal);

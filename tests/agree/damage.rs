@@ -15,7 +15,7 @@ const BYTES: [u8; 22] = [
     255,
 ];
 
-/// A book at every limit: 48 statements, 200 R, 12 X and 32 P lines, 8,392 bytes.
+/// A book at every limit: 48 statements, 200 R, 16 X and 32 P lines, 8,544 bytes.
 pub fn full_book(random: &mut Random) -> Book {
     let mut maker = Maker::new(random, STATEMENTS, EXCEPTIONS);
     while maker.book.plain.len() < PLAIN {
@@ -25,8 +25,7 @@ pub fn full_book(random: &mut Random) -> Book {
         maker.random_exception(4, 4);
     }
     while maker.book.preferences.len() < PREFERENCES {
-        let (a, b) = (maker.random.between(1, 12), maker.random.between(1, 12));
-        maker.prefer(a, b);
+        maker.prefer_any();
     }
     maker.book
 }
@@ -54,7 +53,7 @@ fn compare_accepted(checker: &mut Checker, random: &mut Random, known: &Known, b
         });
     }
     checker.write(&table, known.text.len())?;
-    checker.line(known, &pairs::lawful(random, book), 54 + book.statements as usize)
+    checker.line(known, &pairs::lawful(random, book), book.line_bytes())
 }
 
 /// Every other operation on a refused text gives the same refusal.
@@ -188,9 +187,10 @@ pub fn limits(checker: &mut Checker, random: &mut Random) -> Outcome {
 }
 
 /// What a field is replaced by: lawful numbers, numbers out of range, and misspelt ones.
-const FIELDS: [&[u8]; 22] = [
-    b"   0", b"   1", b"   2", b"   3", b"  12", b"  13", b"  48", b"  49", b" -48", b" -49", b" 244", b" 245",
-    b"9999", b"-999", b"  -0", b"  01", b"    ", b" 1  ", b"+  1", b" - 1", b"1 -1", b"  1\0",
+const FIELDS: [&[u8]; 26] = [
+    b"   0", b"   1", b"   2", b"   3", b"  12", b"  13", b"  16", b"  17", b"  48", b"  49", b" -48", b" -49",
+    b" 244", b" 245", b" 248", b" 249", b"9999", b"-999", b"  -0", b"  01", b"    ", b" 1  ", b"+  1", b" - 1",
+    b"1 -1", b"  1\0",
 ];
 
 /// Books with so many R, X and P lines, around each limit. In the last of them each field is replaced by each of the
@@ -201,10 +201,13 @@ fn over_limit(checker: &mut Checker, random: &mut Random, full: &Book) -> Outcom
         (200, 0, 0),
         (201, 0, 0),
         (0, 1, 0),
-        (0, 12, 0),
-        (0, 13, 0),
-        (0, 12, 32),
-        (0, 12, 33),
+        (0, 12, 1),
+        (0, 13, 1),
+        (0, 15, 1),
+        (0, 16, 0),
+        (0, 17, 0),
+        (0, 16, 32),
+        (0, 16, 33),
         (0, 2, 32),
         (0, 2, 33),
         (0, 0, 1),
@@ -256,7 +259,7 @@ fn damage_line(random: &mut Random, line: &mut Vec<u8>) {
         4 => line.insert(start, b' '),
         5 => drop(line.remove(start)),
         6 => line[0] = random.pick(b"BRXPZA"),
-        _ => line[start..start + 4].copy_from_slice(random.pick(&[b"   3", b"  12", b"  -3", b"   2"])),
+        _ => line[start..start + 4].copy_from_slice(random.pick(&[b"   3", b"  16", b"  -3", b"   2"])),
     }
 }
 
@@ -288,7 +291,7 @@ fn fault(random: &mut Random, lines: &mut Vec<Vec<u8>>) {
         2 => drop(lines.remove(place)),
         3 => lines.push(random.pick(&[&b"Z   0\n"[..], b"\n", b"R\n", b"x\n", b"P   1   1\n"]).to_vec()),
         4 => lines.insert(place, line_of(b'X', &[random.between(-1, 1), 0, 0, 0, 0, 0, 0, 0, 0])),
-        5 => lines.insert(place, line_of(b'P', &[random.between(0, 13), random.between(0, 13)])),
+        5 => lines.insert(place, line_of(b'P', &[random.between(0, 17), random.between(0, 17)])),
         _ => damage_line(random, &mut lines[place]),
     }
 }
@@ -321,7 +324,7 @@ pub fn random_bytes(checker: &mut Checker, random: &mut Random) -> Outcome {
 }
 
 /// Numbers that tables get where other numbers were.
-const NUMBERS: [i32; 20] = [
+const NUMBERS: [i32; 22] = [
     i32::MIN,
     i32::MIN + 1,
     -65_536,
@@ -334,6 +337,8 @@ const NUMBERS: [i32; 20] = [
     1,
     12,
     13,
+    16,
+    17,
     32,
     33,
     48,
@@ -382,7 +387,7 @@ fn damage_table(random: &mut Random, table: &mut Vec<i32>) {
     match random.below(8) {
         0 => table.truncate(place),
         1 => table.insert(place, random.pick(&NUMBERS)),
-        2 | 3 if front < table.len() => table[front] = random.between(-2, 14),
+        2 | 3 if front < table.len() => table[front] = random.between(-2, 18),
         _ if place < table.len() => table[place] = random.pick(&NUMBERS),
         _ => table.push(0),
     }
@@ -401,7 +406,7 @@ pub fn every_length(checker: &mut Checker, random: &mut Random, book: &Book) -> 
     for length in 0..=text.len() + 2 {
         checker.write(&table, length)?;
     }
-    for length in 0..=56 + book.statements as usize {
+    for length in 0..=book.line_bytes() + 2 {
         checker.line(&known, &pairs::lawful(random, book), length)?;
         checker.line(&known, &pairs::unlawful(random, book), length)?;
     }

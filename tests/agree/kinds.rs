@@ -1,10 +1,10 @@
 //! Random books of many kinds, small enough for trying every set.
 
-use crate::book::Book;
+use crate::book::{Book, EXCEPTIONS};
 use crate::maker::Maker;
 use crate::random::Random;
 
-type Kind = fn(&mut Maker);
+pub type Kind = fn(&mut Maker);
 
 /// The kinds, by name.
 pub const KINDS: [(&str, Kind); 15] = [
@@ -33,7 +33,7 @@ pub fn small_book(random: &mut Random, kind: usize) -> Book {
     } else {
         random.pick(&[1, 2, 3, 3, 4, 4, 4, 5, 5, 6, 7])
     };
-    let room = (0..=12).rev().find(|room| 3u64.pow(statements as u32) << room <= most_sets).unwrap_or(0);
+    let room = (0..=EXCEPTIONS).rev().find(|room| 3u64.pow(statements as u32) << room <= most_sets).unwrap_or(0);
     let mut maker = Maker::new(random, statements, room);
     KINDS[kind].1(&mut maker);
     spice(&mut maker);
@@ -45,7 +45,7 @@ pub fn small_book(random: &mut Random, kind: usize) -> Book {
 }
 
 /// Sometimes adds a few random lines, so that no kind is too regular.
-fn spice(maker: &mut Maker) {
+pub fn spice(maker: &mut Maker) {
     if maker.random.one_in(3) {
         for _ in 0..maker.random.below(3) {
             maker.random_plain(2, 2);

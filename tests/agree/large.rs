@@ -5,11 +5,12 @@ use crate::book::*;
 use crate::kinds;
 use crate::maker::Maker;
 use crate::random::Random;
+use crate::wide::many;
 
 type Kind = fn(&mut Random) -> Book;
 
 /// The kinds, by name.
-pub const KINDS: [(&str, Kind); 16] = [
+pub const KINDS: [(&str, Kind); 18] = [
     ("linked blocks", linked_blocks),
     ("one-value fields", fields),
     ("defaults", defaults),
@@ -19,6 +20,8 @@ pub const KINDS: [(&str, Kind); 16] = [
     ("positive loops", positive_loops),
     ("preferences", preferences),
     ("large sets of exceptions", large_sets),
+    ("all exceptions needed", all_needed),
+    ("views that dominate each other", mutual),
     ("pigeonholes", pigeonholes),
     ("parities", parities),
     ("stated generator", stated_generator),
@@ -49,30 +52,40 @@ fn linked_blocks(random: &mut Random) -> Book {
 /// One-value fields: each claim is held if not denied, two claims of a field are never both held,
 /// and one exception denies each claim.
 fn fields(random: &mut Random) -> Book {
-    let mut counts = Vec::new();
-    while counts.iter().sum::<i32>() < 12 {
-        counts.push(random.between(1, 5).min(12 - counts.iter().sum::<i32>()));
-    }
-    counts.truncate(8);
-    let claims = counts.iter().sum();
-    let mut maker = Maker::new(random, claims, EXCEPTIONS);
-    for claim in 1..=claims {
-        maker.plain(claim, &[], &[-claim]);
-        maker.exception(-claim, &[], &[]);
-    }
-    let mut first = 1;
-    for count in counts {
-        for one in first..first + count {
-            for other in one + 1..first + count {
-                maker.constraint(&[one, other], &[]);
-            }
-        }
-        first += count;
-    }
+    let most = many(random);
+    let form = draw_form(random, most);
+    let mut maker = Maker::new(random, form.iter().sum(), EXCEPTIONS);
+    put_fields(&mut maker, &form);
     if maker.random.one_in(2) {
         maker.random_preferences(4);
     }
     maker.shuffled()
+}
+
+/// How many claims each of at most eight fields has, one to five; so many claims in all, or fewer.
+pub fn draw_form(random: &mut Random, most: i32) -> Vec<i32> {
+    let mut form: Vec<i32> = Vec::new();
+    while form.len() < 8 && form.iter().sum::<i32>() < most {
+        form.push(random.between(1, 5).min(most - form.iter().sum::<i32>()));
+    }
+    form
+}
+
+/// The numbers of the claims of each field.
+pub fn claims_of(form: &[i32]) -> Vec<Vec<i32>> {
+    let mut numbers = 1..;
+    form.iter().map(|count| numbers.by_ref().take(*count as usize).collect()).collect()
+}
+
+/// Adds one-value fields of so many claims.
+pub fn put_fields(maker: &mut Maker, form: &[i32]) {
+    for field in claims_of(form) {
+        for claim in &field {
+            maker.plain(*claim, &[], &[-claim]);
+            maker.exception(-claim, &[], &[]);
+        }
+        maker.one_of(&field);
+    }
 }
 
 /// Many defaults, observations against some of them, consequences, and exceptions that deny.
@@ -85,7 +98,7 @@ fn defaults(random: &mut Random) -> Book {
             maker.plain(-statement, &[cause], &[statement]);
         }
     }
-    for _ in 0..maker.random.between(2, 12) {
+    for _ in 0..maker.random.between(2, EXCEPTIONS as i32) {
         let statement = maker.statement();
         maker.exception(-statement, &[], &[]);
         if maker.random.one_in(2) {
@@ -161,7 +174,7 @@ fn random_rules(random: &mut Random) -> Book {
         let bars: Vec<i32> = (0..barred).map(|_| entry(&mut maker)).collect();
         maker.plain(head, &needs, &bars);
     }
-    for _ in 0..maker.random.below(13) {
+    for _ in 0..maker.random.below(EXCEPTIONS as u64 + 1) {
         maker.random_exception(1, 2);
     }
     maker.random_preferences(8);
@@ -198,14 +211,15 @@ fn positive_loops(random: &mut Random) -> Book {
     maker.shuffled()
 }
 
-/// Twelve exceptions under chains, circles and sparse orders, with wants that several of them meet.
+/// Many exceptions under chains, circles and sparse orders, with wants that several of them meet.
 fn preferences(random: &mut Random) -> Book {
-    let mut maker = maker(random, 12, 48);
-    for statement in 1..=12 {
-        let needed = if maker.random.one_in(6) { vec![maker.random.between(1, 12)] } else { Vec::new() };
+    let count = many(random);
+    let mut maker = maker(random, count, 48);
+    for statement in 1..=count {
+        let needed = if maker.random.one_in(6) { vec![maker.random.between(1, count)] } else { Vec::new() };
         maker.exception(statement, &needed, &[]);
     }
-    for statement in 13..=maker.n() {
+    for statement in count + 1..=maker.n() {
         let cause = maker.random.between(1, statement - 1);
         maker.plain(statement, &[cause], &[]);
     }
@@ -214,32 +228,33 @@ fn preferences(random: &mut Random) -> Book {
         maker.constraint(&[], &wanted);
     }
     for _ in 0..maker.random.below(3) {
-        let two = [maker.random.between(1, 12), maker.random.between(1, 12)];
+        let two = [maker.random.between(1, count), maker.random.between(1, count)];
         maker.constraint(&two, &[]);
     }
     match maker.random.below(3) {
-        0 => (1..12).for_each(|number| {
+        0 => (1..count).for_each(|number| {
             if number % 4 != 0 {
                 maker.prefer(number, number + 1)
             }
         }),
         1 => (1..4).for_each(|number| maker.prefer(number, number % 3 + 1)),
-        _ => maker.random_preferences(12),
+        _ => maker.random_preferences(count as u64),
     }
     maker.shuffled()
 }
 
 /// Views only with many exceptions: covers, or all of them.
 fn large_sets(random: &mut Random) -> Book {
-    let mut maker = maker(random, 24, 40);
-    for number in 1..=12 {
+    let count = many(random);
+    let mut maker = maker(random, 2 * count, 40);
+    for number in 1..=count {
         maker.exception(number, &[], &[]);
-        let covered = maker.random.between(13, maker.book.statements);
-        maker.plain(covered, &[number], &[]);
-        let covered = maker.random.between(13, maker.book.statements);
-        maker.plain(covered, &[number], &[]);
+        for _ in 0..2 {
+            let covered = maker.random.between(count + 1, maker.book.statements);
+            maker.plain(covered, &[number], &[]);
+        }
     }
-    for statement in 13..=maker.n() {
+    for statement in count + 1..=maker.n() {
         let reached = maker.book.plain.iter().any(|rule| rule.head == statement);
         if reached && !maker.random.one_in(4) {
             maker.constraint(&[], &[statement]);
@@ -249,6 +264,49 @@ fn large_sets(random: &mut Random) -> Book {
         maker.random_plain(2, 2);
     }
     maker.random_preferences(2);
+    maker.shuffled()
+}
+
+/// Every exception is needed: by itself, or since the next one needs what it concludes.
+fn all_needed(random: &mut Random) -> Book {
+    let count = many(random);
+    let mut maker = maker(random, count, 48);
+    let mut before = None;
+    for number in 1..=count {
+        let needed: Vec<i32> = before.into_iter().collect();
+        maker.exception(number, &needed, &[]);
+        let ends = number == count || maker.random.one_in(4);
+        if ends {
+            maker.constraint(&[], &[number]);
+        }
+        before = if ends { None } else { Some(number) };
+    }
+    for statement in (count + 1..=maker.n()).take(8) {
+        maker.free(statement);
+    }
+    maker.random_exception(1, 1);
+    maker.shuffled()
+}
+
+/// Pairs of exceptions of which one is needed, and the first outranks the second in some; across pairs some exclude
+/// each other, as in K9.
+fn mutual(random: &mut Random) -> Book {
+    let count = many(random) / 2 * 2;
+    let mut maker = maker(random, count, 48);
+    (1..=count).for_each(|number| maker.exception(number, &[], &[]));
+    for one in (1..count).step_by(2) {
+        maker.constraint(&[], &[one, one + 1]);
+        if maker.random.one_in(2) {
+            maker.prefer(one, one + 1);
+        }
+        let other = 1 + 2 * maker.random.between(0, count / 2 - 1);
+        if other != one {
+            maker.constraint(&[one, other], &[]);
+            if maker.random.one_in(2) {
+                maker.constraint(&[one + 1, other + 1], &[]);
+            }
+        }
+    }
     maker.shuffled()
 }
 
@@ -316,7 +374,7 @@ fn stated_generator(random: &mut Random) -> Book {
 /// Exceptions whose bodies need what other exceptions conclude, several chains of them.
 fn needing(random: &mut Random) -> Book {
     let mut maker = maker(random, 12, 48);
-    for _ in 0..maker.random.between(2, 4) {
+    for _ in 0..maker.random.between(2, 6) {
         kinds::exceptions_that_need_each_other(&mut maker);
     }
     for _ in 0..maker.random.below(8) {

@@ -1,6 +1,6 @@
 //! All operations of the library on accepted books whose meaning is known.
 
-use crate::book::{Book, Pair};
+use crate::book::{Book, Pair, NARROW};
 use crate::compare::{Checker, Difference, Known, Outcome};
 use crate::listing::{walk, Walked};
 use crate::meaning::{Meaning, Oracle};
@@ -18,6 +18,9 @@ pub struct Outcomes {
     pub with_exceptions: u64,
     pub without_need: u64,
     pub most: usize,
+    /// Books of 13 to 16 exceptions, and those of them of which a resolution takes one past the twelfth.
+    pub wide: u64,
+    pub past_twelfth: u64,
     /// The most statements, R, X and P lines.
     pub largest: [usize; 4],
 }
@@ -32,6 +35,8 @@ impl Outcomes {
             _ => self.several += 1,
         }
         self.most = self.most.max(resolutions.len());
+        self.wide += u64::from(book.is_wide());
+        self.past_twelfth += u64::from(resolutions.iter().any(|pair| pair.taken >> NARROW != 0));
         let shape = [book.statements as usize, book.plain.len(), book.exceptions.len(), book.preferences.len()];
         self.largest = std::array::from_fn(|place| self.largest[place].max(shape[place]));
         if resolutions.first().is_some_and(|pair| pair.taken != 0) {
@@ -90,8 +95,8 @@ fn compare_text(checker: &mut Checker, random: &mut Random, known: &Known, book:
         return Err(Difference { what: "Write has written the table".to_string(), text: known.text.to_vec() });
     }
     for pair in [pairs::lawful(random, book), pairs::lawful(random, book), pairs::unlawful(random, book)] {
-        checker.line(known, &pair, 54 + book.statements as usize)?;
-        checker.line(known, &pair, near(random, 54 + book.statements as usize))?;
+        checker.line(known, &pair, book.line_bytes())?;
+        checker.line(known, &pair, near(random, book.line_bytes()))?;
     }
     Ok(())
 }
@@ -115,7 +120,7 @@ fn compare_listing(
     if let Some(last) = all.last() {
         checker.after(known, last)?;
         checker.page_after(known, last, 6)?;
-        checker.line(known, last, 54 + book.statements as usize)?;
+        checker.line(known, last, book.line_bytes())?;
     }
     for _ in 0..8 {
         let pair = pairs::lawful(random, book);

@@ -1,6 +1,6 @@
 //! Listings: lists of calls drawn at random, refused calls among them, from random points.
 
-use crate::book::{refusal_of_pair, Book, Pair, Refusal};
+use crate::book::{refusal_of_pair, Book, Pair, Refusal, LINE};
 use crate::compare::{Difference, Known, Outcome};
 use crate::engine;
 use crate::meaning::Oracle;
@@ -126,7 +126,7 @@ fn go_on(text: &[u8], point: &Option<Pair>) -> Answer {
 fn call_others(text: &[u8], pair: &Pair) {
     let other = b"B   1   2\nR   1   0   0   0   0   2   0   0   0\nR   2   0   0   0   0   1   0   0   0\nZ   2\n";
     let _ = engine::judge(text, pair);
-    let _ = engine::line(text, pair, &mut [0; 102]);
+    let _ = engine::line(text, pair, &mut [0; LINE]);
     let _ = engine::page_after(text, pair, &mut [0; 6]);
     let _ = engine::first(other);
     let _ = engine::after(other, &Pair { taken: 0, held: 2, denied: 0 });

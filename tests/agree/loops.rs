@@ -9,13 +9,13 @@ use crate::pairs;
 use crate::random::Random;
 use crate::text::text_of;
 
-/// A book whose statements are all free; its exceptions are never needed.
-pub fn free_book(random: &mut Random, statements: i32) -> Book {
-    let mut maker = Maker::new(random, statements, EXCEPTIONS);
+/// A book whose statements are all free; its exceptions, at most as many, are never needed.
+pub fn free_book(random: &mut Random, statements: i32, exceptions: usize) -> Book {
+    let mut maker = Maker::new(random, statements, exceptions);
     for statement in 1..=statements {
         maker.free(statement);
     }
-    for _ in 0..maker.random.below(4) {
+    for _ in 0..exceptions {
         maker.random_exception(2, 2);
     }
     maker.random_preferences(3);

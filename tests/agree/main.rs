@@ -17,6 +17,7 @@ mod compare;
 mod damage;
 mod engine;
 mod kinds;
+mod known;
 mod large;
 mod library;
 mod listing;
@@ -34,6 +35,7 @@ mod solved;
 mod text;
 mod tiny;
 mod ways;
+mod wide;
 
 use sections::{Counts, Failure, Run};
 use std::fs::File;

@@ -89,6 +89,13 @@ impl<'a> Maker<'a> {
         }
     }
 
+    /// Adds a preference between any two exceptions, which may be the same one. There is at least one.
+    pub fn prefer_any(&mut self) {
+        let count = self.book.exceptions.len() as i32;
+        let (a, b) = (self.random.between(1, count), self.random.between(1, count));
+        self.prefer(a, b);
+    }
+
     /// Adds up to `most` random preferences, more often without circles than with them.
     pub fn random_preferences(&mut self, most: u64) {
         let count = self.book.exceptions.len() as i32;
@@ -122,6 +129,13 @@ impl<'a> Maker<'a> {
     pub fn free(&mut self, statement: i32) {
         self.plain(statement, &[], &[-statement]);
         self.plain(-statement, &[], &[statement]);
+    }
+
+    /// Adds constraints by which no two of the statements are both held.
+    pub fn one_of(&mut self, statements: &[i32]) {
+        for (place, one) in statements.iter().enumerate() {
+            statements[place + 1..].iter().for_each(|other| self.constraint(&[*one, *other], &[]));
+        }
     }
 
     /// Puts the lines of each kind into a random order; preferences follow their exceptions.

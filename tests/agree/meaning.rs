@@ -3,6 +3,7 @@
 
 use crate::book::*;
 use std::cmp::Ordering;
+use std::collections::HashSet;
 
 /// The most statements for which every set of conclusions is tried.
 pub const TRIED: i32 = 7;
@@ -63,6 +64,11 @@ fn least_closed(rules: &[&Rule], s: &Conclusions) -> Conclusions {
     }
 }
 
+/// What follows from the plain rules and those of T step by step, if no barred entry is concluded.
+pub fn closure(book: &Book, taken: u64) -> Conclusions {
+    least_closed(&rules_with(book, taken), &Conclusions::NONE)
+}
+
 /// S is an answer set of the rules.
 pub fn is_answer_set(rules: &[&Rule], s: &Conclusions) -> bool {
     s.held & s.denied == 0
@@ -95,6 +101,11 @@ pub fn outranking(book: &Book) -> [[bool; EXCEPTIONS]; EXCEPTIONS] {
 /// The members of a set of exceptions, counted from 0.
 pub fn members(taken: u64) -> impl Iterator<Item = usize> + Clone {
     (0..EXCEPTIONS).filter(move |exception| taken >> exception & 1 == 1)
+}
+
+/// All subsets of a set of exceptions, the set itself first.
+fn subsets(most: u64) -> impl Iterator<Item = u64> {
+    std::iter::successors(Some(most), move |set| set.checked_sub(1).map(|less| less & most))
 }
 
 /// The plain rules with those of T added.
@@ -140,6 +151,35 @@ pub trait Oracle {
     }
 }
 
+/// The sets of exceptions that some view has, and what follows from them alone.
+pub struct Viewed {
+    /// The sets, each once.
+    sets: Vec<u64>,
+    /// The exceptions that some view takes.
+    members: u64,
+    /// Of each set of the book's exceptions, whether some view has a proper subset of it.
+    smaller: Vec<bool>,
+}
+
+impl Viewed {
+    /// What these sets say in a book of so many exceptions. A proper subset of a set is a subset of the set without
+    /// one of its members.
+    pub fn of(exceptions: usize, sets: Vec<u64>) -> Viewed {
+        let mut has = vec![false; 1 << exceptions];
+        sets.iter().for_each(|set| has[*set as usize] = true);
+        let mut smaller = vec![false; has.len()];
+        for set in 0..has.len() {
+            smaller[set] = members(set as u64).map(|number| set ^ 1 << number).any(|less| has[less] || smaller[less]);
+        }
+        Viewed { members: sets.iter().fold(0, |all, set| all | set), sets, smaller }
+    }
+
+    /// Some view has a proper subset of this set.
+    fn has_smaller(&self, taken: u64) -> bool {
+        self.smaller[taken as usize]
+    }
+}
+
 /// A book of any size, with the exceptions that outrank each other.
 pub struct Ranked {
     pub book: Book,
@@ -152,8 +192,27 @@ impl Ranked {
     }
 
     /// No members a, b of T, equal or not, have a outranking b.
-    fn unranked(&self, taken: u64) -> bool {
+    pub fn unranked(&self, taken: u64) -> bool {
         !outranks_some(&self.outranks, taken, taken)
+    }
+
+    /// All views with these conclusions. Of the exceptions only those are tried whose body they satisfy and whose head
+    /// they have: a view satisfies the body of each of its exceptions, and then its answer set has the head. Where all
+    /// of these together do not give the conclusions, fewer do not.
+    fn views_with(&self, s: &Conclusions) -> Vec<Pair> {
+        let applies = |rule: &Rule| satisfied(rule, s) && s.has(rule.head);
+        let places = self.book.exceptions.iter().enumerate();
+        let most = places.filter(|(_, rule)| applies(rule)).fold(0, |set, (place, _)| set | 1 << place);
+        if !is_answer_set(&rules_with(&self.book, most), s) {
+            return Vec::new();
+        }
+        let view = |taken: u64| Pair { taken, held: s.held, denied: s.denied };
+        subsets(most).filter(|taken| self.is_view(*taken, s)).map(view).collect()
+    }
+
+    /// (S, T) is a view.
+    fn is_view(&self, taken: u64, s: &Conclusions) -> bool {
+        self.unranked(taken) && is_answer_set(&rules_with(&self.book, taken), s) && self.bodies_satisfied(taken, s)
     }
 
     /// Every body in T is satisfied by S.
@@ -161,21 +220,21 @@ impl Ranked {
         members(taken).all(|number| satisfied(&self.book.exceptions[number], s))
     }
 
-    /// A view with one of these sets dominates the views with this set.
-    fn dominated(&self, viewed: &[u64], taken: u64) -> bool {
-        viewed.iter().any(|other| outranks_some(&self.outranks, *other, taken))
+    /// Some view dominates the views with this set: it takes an exception that outranks one of these.
+    fn dominated(&self, viewed: &Viewed, taken: u64) -> bool {
+        outranks_some(&self.outranks, viewed.members, taken)
     }
 
     /// Of the sets that some view has, those that the resolutions have: no view dominates, no proper subset is among them.
-    pub fn best(&self, viewed: &[u64]) -> Vec<u64> {
-        let is_best = |taken: &u64| !self.dominated(viewed, *taken) && !has_smaller(viewed, *taken);
-        let mut best: Vec<u64> = viewed.iter().copied().filter(is_best).collect();
+    pub fn best(&self, viewed: &Viewed) -> Vec<u64> {
+        let is_best = |taken: &u64| !self.dominated(viewed, *taken) && !viewed.has_smaller(*taken);
+        let mut best: Vec<u64> = viewed.sets.iter().copied().filter(is_best).collect();
         best.sort_by_key(|taken| (taken.count_ones(), *taken));
         best
     }
 
     /// The verdict on a lawful pair, given the sets of exceptions that some view has.
-    pub fn verdict(&self, viewed: &[u64], pair: &Pair) -> u32 {
+    pub fn verdict(&self, viewed: &Viewed, pair: &Pair) -> u32 {
         let s = Conclusions { held: pair.held, denied: pair.denied };
         if !is_answer_set(&rules_with(&self.book, pair.taken), &s) {
             1
@@ -185,7 +244,7 @@ impl Ranked {
             3
         } else if self.dominated(viewed, pair.taken) {
             4
-        } else if has_smaller(viewed, pair.taken) {
+        } else if viewed.has_smaller(pair.taken) {
             5
         } else {
             0
@@ -193,52 +252,33 @@ impl Ranked {
     }
 }
 
-/// Some of these sets is a proper subset of this set.
-fn has_smaller(viewed: &[u64], taken: u64) -> bool {
-    viewed.iter().any(|other| other & !taken == 0 && *other != taken)
-}
-
 /// The meaning of a small book, with every view listed.
 pub struct Meaning {
     ranked: Ranked,
+    viewed: Viewed,
     /// All views.
     pub views: Vec<Pair>,
-    /// The sets of exceptions that some view has, each once.
-    pub viewed: Vec<u64>,
     resolutions: Vec<Pair>,
 }
 
 impl Meaning {
-    /// Tries every set of conclusions with every set of exceptions.
+    /// Tries every set of conclusions with every set of exceptions that can go with it.
     pub fn of(book: &Book) -> Meaning {
         assert!(book.statements <= TRIED);
         let ranked = Ranked::of(book);
-        let mut meaning = Meaning { ranked, views: Vec::new(), viewed: Vec::new(), resolutions: Vec::new() };
-        let sets = consistent_sets(book.statements);
-        for taken in 0..1 << book.exceptions.len() {
-            let found = meaning.views_with(&sets, taken);
-            if !found.is_empty() {
-                meaning.viewed.push(taken);
-            }
-            meaning.views.extend(found);
-        }
+        let views: Vec<Pair> = consistent_sets(book.statements).iter().flat_map(|s| ranked.views_with(s)).collect();
+        let mut sets: Vec<u64> = views.iter().map(|view| view.taken).collect();
+        sets.sort();
+        sets.dedup();
+        let viewed = Viewed::of(book.exceptions.len(), sets);
+        let mut meaning = Meaning { ranked, viewed, views, resolutions: Vec::new() };
         meaning.resolutions = meaning.list_resolutions();
         meaning
     }
 
-    /// All views with this set of exceptions, among the sets of conclusions.
-    fn views_with(&self, sets: &[Conclusions], taken: u64) -> Vec<Pair> {
-        if !self.ranked.unranked(taken) {
-            return Vec::new();
-        }
-        let rules = rules_with(&self.ranked.book, taken);
-        let is_view = |s: &&Conclusions| is_answer_set(&rules, s) && self.ranked.bodies_satisfied(taken, s);
-        sets.iter().filter(is_view).map(|s| Pair { taken, held: s.held, denied: s.denied }).collect()
-    }
-
     /// All resolutions, in the order of pairs.
     fn list_resolutions(&self) -> Vec<Pair> {
-        let best = self.ranked.best(&self.viewed);
+        let best: HashSet<u64> = self.ranked.best(&self.viewed).into_iter().collect();
         let mut list: Vec<Pair> = self.views.iter().copied().filter(|view| best.contains(&view.taken)).collect();
         list.sort_by(compare_pairs);
         list

@@ -1,5 +1,5 @@
-//! Checks of the test program itself: its reading, its order and its meaning against what document 01 states, and the
-//! closing line against document 02, (a).
+//! Checks of the test program itself: its reading, its order and its meaning against what document 01 states, and
+//! against document 02: the closing line (a), and sixteen exceptions (c).
 
 use crate::book::*;
 use crate::meaning::{compare_pairs, Meaning, Oracle};
@@ -29,8 +29,10 @@ pub fn check() -> Result<u64, String> {
     check_closing(&seventh.book, &seventh.resolutions[0])?;
     check_order()?;
     check_limits()?;
+    check_exceptions()?;
+    check_lines()?;
     check_spelling()?;
-    Ok(count + 6)
+    Ok(count + 8)
 }
 
 /// A named expectation.
@@ -46,19 +48,61 @@ fn expect(name: &str, holds: bool) -> Result<(), String> {
 fn check_closing(book: &Book, pair: &Pair) -> Result<(), String> {
     let closes = |lines: usize, more: bool, closing: &[u8]| {
         let listing = listing_of(book, &vec![*pair; lines], more);
-        listing.ends_with(closing) && listing.len() == lines.min(MOST) * (54 + book.statements as usize) + 10
+        listing.ends_with(closing) && listing.len() == lines.min(MOST) * 57 + 10
     };
     expect("an empty listing", closes(0, false, b"E       0\n"))?;
     expect("9,999 lines", closes(9_999, false, b"\nE    9999\n"))?;
     expect("9,999 lines and more", closes(9_999, true, b"\nM    9999\n") && closes(10_000, false, b"\nM    9999\n"))
 }
 
-/// The order of sets of exceptions begins 0, 1, 2, 4; entry 13 is 3, entry 14 is 5, the last 4,095.
+/// The order of the sets of 12 exceptions begins 0, 1, 2, 4; entry 13 is 3, entry 14 is 5, the last 4,095. Of 16
+/// exceptions entry 17 is 3, entry 18 is 5, the last 65,535. Sets of the first 12 stand in one order in both.
 fn check_order() -> Result<(), String> {
-    let mut sets: Vec<u64> = (0..4_096).collect();
     let pair = |taken: u64| Pair { taken, held: 0, denied: 0 };
-    sets.sort_by(|one, other| compare_pairs(&pair(*one), &pair(*other)));
-    expect("the order of sets", sets[..4] == [0, 1, 2, 4] && sets[13..15] == [3, 5] && sets[4_095] == 4_095)
+    let ordered = |count: u64| {
+        let mut sets: Vec<u64> = (0..count).collect();
+        sets.sort_by(|one, other| compare_pairs(&pair(*one), &pair(*other)));
+        sets
+    };
+    let (twelve, sixteen) = (ordered(4_096), ordered(65_536));
+    expect("the order of sets", twelve[..4] == [0, 1, 2, 4] && twelve[13..15] == [3, 5] && twelve[4_095] == 4_095)?;
+    expect("the order of 65,536 sets", sixteen[17..19] == [3, 5] && sixteen[65_535] == 65_535)?;
+    expect("one order", sixteen.into_iter().filter(|set| *set < 4_096).eq(twelve))
+}
+
+/// The text of a book of one statement with so many exceptions, this preference and this number in its last line.
+fn with_preference(exceptions: usize, order: [i32; 2], last: i32) -> Vec<u8> {
+    let rules = vec![line_of(b'X', &[1, 0, 0, 0, 0, 0, 0, 0, 0]); exceptions].concat();
+    [line_of(b'B', &[1, 1]), rules, line_of(b'P', &order), line_of(b'Z', &[last])].concat()
+}
+
+/// 16 X are accepted, 17 give 8; P fields up to 16 give 10 where the exception is missing, and 17 gives 6; Z up to 248
+/// is in its range; a text of 8,545 bytes is too long.
+fn check_exceptions() -> Result<(), String> {
+    let read = |exceptions, order, last| read_text(&with_preference(exceptions, order, last));
+    let refusal = |number, line| Err(Refusal { number, line });
+    expect("16 X", read(16, [16, 13], 17).is_ok())?;
+    expect("17 X", read(17, [1, 1], 18) == refusal(8, 18))?;
+    expect("P 13 of 12", read(12, [13, 1], 13) == refusal(10, 14) && read(12, [1, 16], 13) == refusal(10, 14))?;
+    expect("P 17", read(16, [17, 1], 17) == refusal(6, 18))?;
+    expect("Z 248", read(1, [1, 1], 248) == refusal(11, 4) && read(1, [1, 1], 249) == refusal(6, 4))?;
+    expect("8,544 bytes", read_text(&[b' '; 8_544]) == Err(refused(2)) && read_text(&[b' '; 8_545]) == Err(refused(1)))
+}
+
+/// A line of a book of 12 exceptions has 12 fields for them and 54 + n bytes; of a longer book, 16 and 70 + n, also
+/// where the pair takes none.
+fn check_lines() -> Result<(), String> {
+    let line = |exceptions: usize, taken: u64| {
+        let book =
+            read_text(&with_preference(exceptions, [1, 1], exceptions as i32 + 1)).expect("the book is accepted");
+        let line = a_line_of(&book, &Pair { taken, held: 1, denied: 0 });
+        (line.len() == book.line_bytes()).then(|| String::from_utf8(line).expect("a line is ASCII"))
+    };
+    let zeros = |count: usize| "   0".repeat(count);
+    expect("a line of 12", line(12, 0x800) == Some(format!("A   1  12{}+\n", zeros(11))))?;
+    expect("a line of 13", line(13, 0x1000) == Some(format!("A   1  13{}+\n", zeros(15))))?;
+    expect("a line of 16", line(16, 0) == Some(format!("A   0{}+\n", zeros(16))))?;
+    expect("the lengths of lines", [12, 13].map(|count| line(count, 1).map(|line| line.len())) == [Some(55), Some(71)])
 }
 
 /// n 48 is accepted, 49 gives 6; 200 R are accepted, 201 give 8.

@@ -25,7 +25,7 @@ fn sparse(random: &mut Random) -> u64 {
     match random.below(4) {
         0 => random.next() & random.next(),
         1 => random.next() | random.next(),
-        2 => 1 << random.below(12),
+        2 => 1 << random.below(EXCEPTIONS as u64),
         _ => random.next(),
     }
 }

@@ -5,6 +5,7 @@ use crate::kinds::KINDS;
 use crate::large;
 use crate::library::Outcomes;
 use crate::sections::{Counts, Failure, Run};
+use crate::wide;
 
 /// Prints how often each operation, answer and kind of book was compared.
 pub fn print(run: &Run) {
@@ -14,6 +15,7 @@ pub fn print(run: &Run) {
     println!("compared: {}", calls.join(", "));
     println!("refusals 1 to 16: {:?}; verdicts 0 to 5: {:?}", &tally.refusals[1..], tally.verdicts);
     println!("First and After: {} pairs, {} Ends", tally.pairs, tally.ends);
+    println!("Line: {} with 12 fields, {} with 16", tally.lines[0], tally.lines[1]);
     let walked = &run.walked;
     println!("listings: {}, with {} calls going on and {} refused", walked.listings, walked.going_on, walked.refused);
     let closed = &run.closed;
@@ -30,11 +32,14 @@ pub fn print(run: &Run) {
 /// Prints what the books were like, kind by kind.
 fn print_outcomes(run: &Run) {
     println!("books by kind: all, without a resolution, with one, with several (at most), in need of exceptions,");
-    println!("  with exceptions and no need, [most n, R, X, P]");
+    println!("  with exceptions and no need, of 13 to 16 exceptions (taking one past the twelfth), [most n, R, X, P]");
     let small = KINDS.iter().map(|(name, _)| *name).chain(["many parts", "one statement"]).zip(&run.outcomes);
-    let large = large::KINDS.iter().map(|(name, _)| *name).zip(&run.large);
+    let large = large::KINDS.iter().map(|(name, _)| *name).chain(["known views"]).zip(&run.large);
     for (name, seen) in small {
         print_kind("small", name, seen);
+    }
+    for ((name, _), seen) in wide::KINDS.iter().zip(&run.wide) {
+        print_kind("wide", name, seen);
     }
     for (name, seen) in large {
         print_kind("large", name, seen);
@@ -43,10 +48,10 @@ fn print_outcomes(run: &Run) {
 
 /// Prints one kind of book, if it has come up.
 fn print_kind(size: &str, name: &str, seen: &Outcomes) {
-    let Outcomes { books, none, one, several, most, with_exceptions, without_need, largest } = seen;
+    let Outcomes { books, none, one, several, most, with_exceptions, without_need, wide, past_twelfth, largest } = seen;
     if *books > 0 {
-        let several = format!("{several} ({most})");
-        let counts = format!("{books:>7}{none:>7}{one:>7}{several:>13}{with_exceptions:>7}{without_need:>7}");
+        let (several, wide) = (format!("{several} ({most})"), format!("{wide} ({past_twelfth})"));
+        let counts = format!("{books:>7}{none:>7}{one:>7}{several:>13}{with_exceptions:>7}{without_need:>7}{wide:>11}");
         println!("  {size}, {name:<33}{counts}  {largest:?}");
     }
 }
@@ -74,25 +79,28 @@ pub fn all_met(run: &Run, counts: &Counts) -> Result<(), Failure> {
 }
 
 /// The outcomes that random small books must have had.
-fn needed_outcomes(run: &Run) -> [(&'static str, u64); 5] {
-    let sum = |count: fn(&Outcomes) -> u64| run.outcomes.iter().map(count).sum::<u64>();
+fn needed_outcomes(run: &Run) -> [(&'static str, u64); 7] {
+    let sum = |count: fn(&Outcomes) -> u64| run.outcomes.iter().chain(&run.wide).map(count).sum::<u64>();
     [
         ("a book without a resolution", sum(|seen| seen.none)),
         ("a book with one resolution", sum(|seen| seen.one)),
         ("a book with several resolutions", sum(|seen| seen.several)),
         ("a book in need of exceptions", sum(|seen| seen.with_exceptions)),
         ("a book with exceptions and no need", sum(|seen| seen.without_need)),
+        ("a book of 13 to 16 exceptions", sum(|seen| seen.wide)),
+        ("a resolution with an exception past the twelfth", sum(|seen| seen.past_twelfth)),
     ]
 }
 
 /// The answers that the library must have been asked for.
-fn needed_answers(run: &Run) -> [(&'static str, u64); 4] {
+fn needed_answers(run: &Run) -> [(&'static str, u64); 5] {
     let tally = &run.checker.tally;
     [
         ("a refusal", tally.refusals[1..].iter().copied().min().unwrap_or(0)),
         ("a verdict", tally.verdicts.iter().copied().min().unwrap_or(0)),
         ("a pair or End", tally.pairs.min(tally.ends)),
         ("a refused call of a listing", run.walked.refused),
+        ("a line with 12 or with 16 fields", tally.lines[0].min(tally.lines[1])),
     ]
 }
 

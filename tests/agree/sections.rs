@@ -1,11 +1,12 @@
 //! The sections of a run: what is compared, how often, and what is printed about it.
 
 use crate::blocks::Blocks;
-use crate::book::{Book, Pair};
+use crate::book::{Book, Pair, TEXT};
 use crate::clingo::Clingo;
 use crate::compare::{Checker, Difference, Known, Outcome};
 use crate::damage;
 use crate::kinds::{small_book, KINDS};
+use crate::known::known_book;
 use crate::large;
 use crate::library::{compare_book, compare_small, judge_all, Outcomes};
 use crate::listing::Walked;
@@ -20,6 +21,7 @@ use crate::solved::{self, Solved};
 use crate::text::{read_text, refusal_line, table_of, text_of};
 use crate::tiny;
 use crate::ways::{self, listing_of, Closed};
+use crate::wide::{self, wide_book};
 use std::fs::File;
 use std::time::Instant;
 
@@ -31,6 +33,7 @@ const STEP: usize = 30_011;
 pub struct Counts {
     pub tiny: u64,
     pub small: u64,
+    pub wide: u64,
     pub blocks: u64,
     pub free: u64,
     pub full_texts: u64,
@@ -38,6 +41,7 @@ pub struct Counts {
     pub lengths: u64,
     pub by_clingo: u64,
     pub large: u64,
+    pub known: u64,
     pub ways: u64,
 }
 
@@ -47,6 +51,7 @@ impl Counts {
         Counts {
             tiny: 5_000,
             small: 9_000,
+            wide: 105,
             blocks: 500,
             free: 15,
             full_texts: 1,
@@ -58,13 +63,14 @@ impl Counts {
 
     /// The gate's second part: clingo and `ways`.
     pub fn gate_solver() -> Counts {
-        Counts { by_clingo: 300, large: 480, ways: 450, ..none() }
+        Counts { by_clingo: 300, large: 504, known: 24, ways: 450, ..none() }
     }
 
     /// A long run of so many small books.
     pub fn long(count: u64) -> Counts {
         let part = |of: u64| (count / of).max(1);
-        Counts { by_clingo: part(50), large: part(100), ways: part(50), ..Counts::library(count) }
+        let (by_clingo, large, known, ways) = (part(50), part(100), part(1_000), part(50));
+        Counts { by_clingo, large, known, ways, ..Counts::library(count) }
     }
 
     /// A run of the library alone.
@@ -73,6 +79,7 @@ impl Counts {
         Counts {
             tiny: count,
             small: count,
+            wide: part(20),
             blocks: part(20),
             free: part(500),
             full_texts: part(50_000),
@@ -89,7 +96,7 @@ impl Counts {
 
     /// `ways` alone, on so many small books and as many larger ones.
     pub fn only_ways(count: u64) -> Counts {
-        Counts { ways: count, large: count, ..none() }
+        Counts { ways: count, large: count, known: count / 10, ..none() }
     }
 }
 
@@ -123,10 +130,17 @@ pub struct Run {
     pub walked: Walked,
     /// One for each kind of small book, one for books of many parts and one for books of one statement.
     pub outcomes: Vec<Outcomes>,
-    /// One for each kind of larger book.
+    /// One for each kind of small book of 12 to 16 exceptions.
+    pub wide: Vec<Outcomes>,
+    /// One for each kind of larger book, and one for books whose views are known.
     pub large: Vec<Outcomes>,
     pub closed: Closed,
     pub ways_skipped: u64,
+}
+
+/// Outcomes of so many kinds of book, before any came up.
+fn no_outcomes(kinds: usize) -> Vec<Outcomes> {
+    (0..kinds).map(|_| Outcomes::default()).collect()
 }
 
 /// A difference that a process or a check of this program reports, at a text.
@@ -144,8 +158,9 @@ impl Run {
             tiny: tiny::all_books(),
             checker: Checker::new(running),
             walked: Walked::default(),
-            outcomes: (0..KINDS.len() + 2).map(|_| Outcomes::default()).collect(),
-            large: (0..large::KINDS.len()).map(|_| Outcomes::default()).collect(),
+            outcomes: no_outcomes(KINDS.len() + 2),
+            wide: no_outcomes(wide::KINDS.len()),
+            large: no_outcomes(large::KINDS.len() + 1),
             closed: Closed::default(),
             ways_skipped: 0,
         }
@@ -159,6 +174,7 @@ impl Run {
         let tiny = counts.tiny.min(self.tiny.len() as u64);
         self.section("books of one statement, two R and one X", tiny, Run::tiny)?;
         self.section("random small books", counts.small, Run::small)?;
+        self.section("random small books of 12 to 16 exceptions", counts.wide, Run::wide_books)?;
         self.section("books of many parts, to 48 statements", counts.blocks, Run::blocks)?;
         self.section("free statements, pages to 10,000", counts.free, Run::free)?;
         self.section("limits and spelling", counts.full_texts, Run::limits)?;
@@ -167,6 +183,7 @@ impl Run {
         self.section("full texts and tables, damaged everywhere", counts.full_texts, Run::full_text)?;
         self.section("brute force against clingo", counts.by_clingo, Run::by_clingo)?;
         self.section("larger books against clingo, to 48 statements", counts.large, Run::large_books)?;
+        self.section("books of 12 to 16 exceptions whose views are known", counts.known, Run::known_books)?;
         self.section("ways on small books and faulty texts", counts.ways, Run::ways_small)?;
         self.section("ways on K7, long texts and 9,999 lines", counts.ways.min(1), Run::ways_once)?;
         self.section("ways on listings that fill whole parts", counts.ways.min(1), Run::ways_parts)?;
@@ -230,6 +247,27 @@ impl Run {
         Ok(())
     }
 
+    /// One random small book of 12 to 16 exceptions, every operation.
+    fn wide_books(&mut self, random: &mut Random, place: u64) -> Outcome {
+        let kind = place as usize % wide::KINDS.len();
+        let book = wide_book(random, kind);
+        let meaning = compare_small(&mut self.checker, random, &book, &mut self.walked)?;
+        self.wide[kind].count(&book, meaning.resolutions());
+        Ok(())
+    }
+
+    /// A random small book; of every sixteen one has 12 to 16 exceptions. It comes with the outcomes of its kind.
+    fn next_book(&mut self, random: &mut Random, place: u64) -> (Book, &mut Outcomes) {
+        let place = place as usize;
+        if place % 16 == 15 {
+            let kind = place / 16 % wide::KINDS.len();
+            (wide_book(random, kind), &mut self.wide[kind])
+        } else {
+            let kind = place % KINDS.len();
+            (small_book(random, kind), &mut self.outcomes[kind])
+        }
+    }
+
     /// One large book of small parts, every operation.
     fn blocks(&mut self, random: &mut Random, _: u64) -> Outcome {
         let blocks = Blocks::draw(random);
@@ -242,7 +280,8 @@ impl Run {
     /// One book of free statements.
     fn free(&mut self, random: &mut Random, place: u64) -> Outcome {
         let statements = if place % 3 == 0 { 48 } else { random.between(1, 48) };
-        let book = loops::free_book(random, statements);
+        let exceptions = random.pick(&[0, 1, 3, 12, 13, 16]);
+        let book = loops::free_book(random, statements, exceptions);
         self.checker.begin(&text_of(&book));
         loops::compare(random, &book).map(|_| ())
     }
@@ -274,7 +313,7 @@ impl Run {
 
     /// One small book with every length of every lent buffer, and all its lines and numbers damaged.
     fn lengths(&mut self, random: &mut Random, place: u64) -> Outcome {
-        let book = small_book(random, place as usize % KINDS.len());
+        let (book, _) = self.next_book(random, place);
         let text = text_of(&book);
         damage::every_length(&mut self.checker, random, &book)?;
         damage::every_page(&mut self.checker, random, &book)?;
@@ -285,9 +324,10 @@ impl Run {
 
     /// The views and the resolutions of one small book, by brute force and by clingo.
     fn by_clingo(&mut self, random: &mut Random, place: u64) -> Outcome {
-        let book = small_book(random, place as usize % KINDS.len());
+        let (book, outcomes) = self.next_book(random, place);
         let text = text_of(&book);
         let meaning = Meaning::of(&book);
+        outcomes.count(&book, meaning.resolutions());
         let differs = at_text(&text);
         let mut views = meaning.views.clone();
         views.sort_by(crate::meaning::compare_pairs);
@@ -302,7 +342,6 @@ impl Run {
                 meaning.resolutions()
             )));
         }
-        self.outcomes[place as usize % KINDS.len()].count(&book, &listed);
         Ok(())
     }
 
@@ -319,11 +358,11 @@ impl Run {
 
     /// `ways` on one small book and on one faulty text.
     fn ways_small(&mut self, random: &mut Random, place: u64) -> Outcome {
-        let book = small_book(random, place as usize % KINDS.len());
+        let (book, outcomes) = self.next_book(random, place);
         let text = text_of(&book);
-        self.checker.begin(&text);
         let meaning = Meaning::of(&book);
-        self.outcomes[place as usize % KINDS.len()].count(&book, meaning.resolutions());
+        outcomes.count(&book, meaning.resolutions());
+        self.checker.begin(&text);
         self.ways_on(&text, &listing_of(&book, meaning.resolutions(), false))?;
         let mut faulty = text.clone();
         let spot = random.below(faulty.len() as u64) as usize;
@@ -344,10 +383,10 @@ impl Run {
         self.ways_on(SEVENTH_TEXT.as_bytes(), SEVENTH_LISTING.as_bytes())?;
         let full = text_of(&damage::full_book(random));
         let long = |length: usize| full.iter().copied().cycle().take(length - 1).chain([10]).collect::<Vec<u8>>();
-        for text in [vec![], vec![10], vec![b'B'], full[..8_391].to_vec()] {
+        for text in [vec![], vec![10], vec![b'B'], full[..TEXT - 1].to_vec()] {
             self.ways_refuses(&text)?;
         }
-        for length in [8_393, 16_784, 70_000, 1_000_000] {
+        for length in [TEXT + 1, 2 * TEXT, 70_000, 1_000_000] {
             self.ways_refuses(&long(length))?;
         }
         for less in 0..3 {
@@ -362,14 +401,30 @@ impl Run {
     }
 
     /// `ways` prints in parts of 1,024 lines: books with half a part, with one, two, four and eight whole parts, and
-    /// with more lines than it prints.
+    /// with more lines than it prints; lines of both widths.
     fn ways_parts(&mut self, random: &mut Random, _: u64) -> Outcome {
         for statements in 9..=14 {
-            let book = loops::free_book(random, statements);
-            let resolutions = loops::beginning(&book, ways::MOST + 1);
-            self.ways_on(&text_of(&book), &listing_of(&book, &resolutions, false))?;
+            for exceptions in [0, 12, 13] {
+                let book = loops::free_book(random, statements, exceptions);
+                let resolutions = loops::beginning(&book, ways::MOST + 1);
+                self.ways_on(&text_of(&book), &listing_of(&book, &resolutions, false))?;
+            }
         }
         Ok(())
+    }
+
+    /// One book of 12 to 16 exceptions whose views are known: its whole listing, other operations, and `ways`.
+    fn known_books(&mut self, random: &mut Random, place: u64) -> Outcome {
+        let solved = known_book(random, place);
+        let (book, all) = (&solved.ranked.book, solved.resolutions());
+        let text = text_of(book);
+        let read = Ok(book.clone());
+        let known = Known { text: &text, book: &read, oracle: Some(&solved) };
+        self.checker.begin(&text);
+        self.checker.first_page(&known, 3 * all.len() + 3)?;
+        solved::compare_some(&mut self.checker, random, &known, all.len())?;
+        self.large[large::KINDS.len()].count(book, all);
+        self.ways_on(&text, &listing_of(book, all, false))
     }
 
     /// One larger book of the kind that is next.

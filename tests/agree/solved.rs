@@ -1,10 +1,10 @@
-//! Larger books: the engine's listing, and what else it answers, against clingo.
+//! Larger books: the engine's listing, and what else it answers, against clingo or against what is known.
 
 use crate::book::*;
 use crate::clingo::{Bound, Clingo};
 use crate::compare::{Checker, Known, Outcome};
 use crate::engine;
-use crate::meaning::{compare_pairs, Oracle, Ranked};
+use crate::meaning::{compare_pairs, Oracle, Ranked, Viewed};
 use crate::random::Random;
 use std::cmp::Ordering;
 
@@ -33,10 +33,11 @@ pub fn list(text: &[u8]) -> Result<Listing, String> {
     }
 }
 
-/// What clingo says of a book: its resolutions, up to the most, and the sets of exceptions that some view has.
+/// What clingo says of a book, or what is known of it: its resolutions, up to the most that are listed, and the sets of
+/// exceptions that some view has.
 pub struct Solved {
-    ranked: Ranked,
-    viewed: Vec<u64>,
+    pub ranked: Ranked,
+    viewed: Viewed,
     resolutions: Vec<Pair>,
 }
 
@@ -54,7 +55,7 @@ impl Solved {
     /// Compares the engine's listing with clingo's. Answers what clingo says of the book.
     pub fn compare(clingo: &Clingo, book: &Book, listing: &Listing) -> Result<Solved, String> {
         let ranked = Ranked::of(book);
-        let viewed = clingo.viewed(book)?;
+        let viewed = Viewed::of(book.exceptions.len(), clingo.viewed(book)?);
         let sets = ranked.best(&viewed);
         let resolutions = if listing.more {
             list_beginning(clingo, book, &sets, &listing.pairs)?
@@ -63,6 +64,15 @@ impl Solved {
         };
         same_pairs(&listing.pairs, &resolutions)?;
         Ok(Solved { ranked, viewed, resolutions })
+    }
+
+    /// What follows where these sets, but for those with an outranked member, have one view each.
+    pub fn known(book: Book, sets: Vec<u64>, view: impl Fn(u64) -> Pair) -> Solved {
+        let ranked = Ranked::of(&book);
+        let sets = sets.into_iter().filter(|taken| ranked.unranked(*taken)).collect();
+        let viewed = Viewed::of(book.exceptions.len(), sets);
+        let resolutions = ranked.best(&viewed).into_iter().map(view).collect();
+        Solved { ranked, viewed, resolutions }
     }
 }
 
@@ -94,16 +104,23 @@ pub fn some_views(clingo: &Clingo, book: &Book) -> Result<Vec<Pair>, String> {
 
 /// Where more remain than were listed: First, After and pages within the listed part, and verdicts.
 pub fn compare_beginning(checker: &mut Checker, random: &mut Random, known: &Known, views: &[Pair]) -> Outcome {
-    let all = known.oracle.expect("the book was solved").resolutions();
-    checker.first(known)?;
-    for _ in 0..4 {
-        let place = random.below(MOST as u64 - 100) as usize;
-        checker.after(known, &all[place])?;
-        checker.page_after(known, &all[place], random.below(300) as usize)?;
-        checker.judge(known, &all[place])?;
-    }
+    compare_some(checker, random, known, MOST - 100)?;
     for view in views {
         checker.judge(known, view)?;
+    }
+    Ok(())
+}
+
+/// First; After, short pages, lines and verdicts at a few of the first so many resolutions.
+pub fn compare_some(checker: &mut Checker, random: &mut Random, known: &Known, among: usize) -> Outcome {
+    let all = known.oracle.expect("the book was solved").resolutions();
+    checker.first(known)?;
+    for _ in 0..all.len().min(4) {
+        let pair = &all[random.below(among as u64) as usize];
+        checker.after(known, pair)?;
+        checker.page_after(known, pair, random.below(300) as usize)?;
+        checker.judge(known, pair)?;
+        checker.line(known, pair, LINE)?;
     }
     Ok(())
 }

@@ -253,9 +253,9 @@ fn take_order(book: &mut Book, row: &[i32]) -> Result<(), Refusal> {
 
 /// The A line of a lawful pair.
 pub fn a_line_of(book: &Book, pair: &Pair) -> Vec<u8> {
-    let mut fields: Vec<i32> = (1..=12).filter(|number| pair.taken >> (number - 1) & 1 == 1).collect();
+    let mut fields: Vec<i32> = (1..=64).filter(|number| pair.taken >> (number - 1) & 1 == 1).collect();
     fields.insert(0, fields.len() as i32);
-    fields.resize(13, 0);
+    fields.resize(if book.is_wide() { 17 } else { 13 }, 0);
     let mut line = line_of(b'A', &fields);
     line.pop();
     for statement in 0..book.statements {
