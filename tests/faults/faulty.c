@@ -23,7 +23,10 @@
 #undef bantameasel_first_page
 #undef bantameasel_page_after
 
-enum { MOST_TEXT = BANTAMEASEL_MOST_TEXT, MOST_TABLE = BANTAMEASEL_MOST_TABLE, ROW = 9 };
+enum { MOST_TEXT = BANTAMEASEL_MOST_TEXT, MOST_TABLE = BANTAMEASEL_MOST_TABLE, MOST_LINE = BANTAMEASEL_MOST_LINE, ROW = 9 };
+
+/* The limits before there were sixteen exceptions. */
+enum { TWELVE = 12, SHORTER_TEXT = 8392 };
 
 static int fault(const char *name) {
     const char *asked = getenv("FAULT");
@@ -40,6 +43,16 @@ static void change_row(int32_t *row) {
     if (fault("constraints are not looked at") && row[0] == 0) row[1] = row[5] = 1;
 }
 
+/* Takes the preferences that name an exception past the twelfth out of a table, and answers how many are left. */
+static int32_t without_later(int32_t *orders, int32_t count) {
+    int32_t left = 0;
+    for (int32_t number = 0; number < count; number++) {
+        if (orders[2 * number] > TWELVE || orders[2 * number + 1] > TWELVE) continue;
+        memmove(orders + 2 * left++, orders + 2 * number, 2 * sizeof orders[0]);
+    }
+    return left;
+}
+
 /* Changes the table of a book, and answers how long it is then. */
 static size_t change_table(int32_t *table, size_t length) {
     int32_t rules = table[1] + table[2], *orders = table + 4 + ROW * rules;
@@ -48,6 +61,12 @@ static size_t change_table(int32_t *table, size_t length) {
     if (fault("the rule past the 199th is lost") && table[1] == 200) last[0] = last[1] = 1;
     if (fault("the last preference is lost") && table[3] > 0) table[3]--, length -= 2;
     if (fault("the twelfth exception is never taken") && table[2] == 12 && table[3] > 0) orders[0] = orders[1] = 12;
+    if (fault("the sixteenth exception is never taken") && table[2] == 16 && table[3] > 0) orders[0] = orders[1] = 16;
+    if (fault("preferences past the twelfth exception are lost")) {
+        int32_t left = without_later(orders, table[3]);
+        length -= 2 * (size_t)(table[3] - left);
+        table[3] = left;
+    }
     return length;
 }
 
@@ -70,17 +89,42 @@ static const uint8_t *changed(const uint8_t *text, size_t *length) {
 
 /* ---- refusals */
 
+/* The highest number in the fields of a line, counted from 1, of two fields. */
+static int highest_of_two(const uint8_t *text, uint64_t line) {
+    char fields[9] = {0};
+    while (--line > 0) text = (const uint8_t *)strchr((const char *)text, '\n') + 1;
+    memcpy(fields, text + 1, 8);
+    int second = atoi(fields + 4);
+    fields[4] = 0;
+    return atoi(fields) > second ? atoi(fields) : second;
+}
+
 /* The refusal that is given in the place of the true one. */
 static void change_refusal(uint32_t *number, uint64_t *line, const uint8_t *text, size_t length) {
     if (fault("lines are counted from 0") && *line > 0) --*line;
     if (fault("2 comes before 1") && *number == 1 && text[length - 1] != '\n') *number = 2;
     if (fault("3 comes after 4") && *number == 3 && *line == 1 && length < 10) *number = 4;
     if (fault("7 comes after 6") && *number == 7 && memcmp(text + 5, "  49", 4) == 0) *number = 6;
+    if (fault("a preference of a missing exception past the twelfth is out of range") && *number == 10 &&
+        highest_of_two(text, *line) > TWELVE)
+        *number = 6;
+}
+
+/* What is refused by the limits of twelve exceptions. */
+static void keep_to_twelve(bantameasel_book *answer, size_t length) {
+    bantameasel_book refused = {0};
+    if (answer->refusal != 0) return;
+    if (fault("the thirteenth exception is one too many") && answer->exceptions > TWELVE)
+        refused.refusal = BANTAMEASEL_REFUSED_TOO_MANY, refused.line = 2 + answer->plain + TWELVE;
+    if (fault("a text has at most 8,392 bytes") && length > SHORTER_TEXT)
+        refused.refusal = BANTAMEASEL_REFUSED_TEXT_TOO_LONG;
+    if (refused.refusal != 0) *answer = refused;
 }
 
 static void change_pair_refusal(uint32_t *number, bantameasel_pair pair) {
     if (fault("13 comes before 12") && *number == 12 && ((pair.held | pair.denied) >> 48) != 0) *number = 13;
     if (fault("14 is not looked for") && *number == 14) *number = 0;
+    if (fault("12 applies past the twelfth exception") && *number == 0 && pair.taken >> TWELVE != 0) *number = 12;
 }
 
 /* ---- the operations */
@@ -98,6 +142,7 @@ bantameasel_book bantameasel_read(const uint8_t *text, size_t text_length, int32
     if (fault("a reserved field is not 0")) answer.reserved[2] = 1;
     if (fault("an accepted book has edition 0")) answer.edition = 0;
     change_refusal(&answer.refusal, &answer.line, text, text_length);
+    keep_to_twelve(&answer, text_length);
     return answer;
 }
 
@@ -120,10 +165,17 @@ bantameasel_verdict bantameasel_judge(const uint8_t *text, size_t length, bantam
     if (fault("verdict 4 is never given") && answer.verdict == 4) answer.verdict = 0;
     if (fault("verdict 5 is never given") && answer.verdict == 5) answer.verdict = 0;
     change_pair_refusal(&answer.refusal, pair);
+    if (answer.refusal != 0) answer.verdict = 0;
     return answer;
 }
 
 /* ---- the order of exception sets: resolutions are looked for in another order of pairs */
+
+/* Whether the fault is one of the order: these name sets. */
+static int order_at_fault(void) {
+    const char *asked = getenv("FAULT");
+    return asked != NULL && strstr(asked, "sets ") != NULL;
+}
 
 static int value_at(bantameasel_pair pair, int place) {
     return (int)(pair.held >> place & 1) + 2 * (int)(pair.denied >> place & 1);
@@ -140,6 +192,8 @@ static int other_order(bantameasel_pair one, bantameasel_pair other) {
     int sizes = __builtin_popcountll(one.taken) - __builtin_popcountll(other.taken);
     if (fault("larger sets of exceptions come first")) sizes = -sizes;
     if (fault("sets of exceptions stand by number alone")) sizes = 0;
+    if (fault("sets with an exception past the twelfth come last") && (one.taken ^ other.taken) >> TWELVE != 0)
+        sizes = one.taken < other.taken ? -1 : 1;
     if (sizes != 0) return sizes;
     if (one.taken != other.taken) return exchanged(one.taken) < exchanged(other.taken) ? -1 : 1;
     uint64_t apart = (one.held ^ other.held) | (one.denied ^ other.denied);
@@ -151,13 +205,14 @@ static int other_order(bantameasel_pair one, bantameasel_pair other) {
 /* The first resolution after a pair (NULL: of all) in the faulty order; of long listings the true one. */
 static bantameasel_answer in_other_order(const uint8_t *text, size_t length, const bantameasel_pair *from,
                                          bantameasel_answer true_answer) {
+    if (!order_at_fault() || true_answer.refusal != 0) return true_answer;
     bantameasel_answer best = {0}, next = true_first(text, length);
     for (int step = 0; next.found != 0; step++, next = true_after(text, length, next.pair)) {
         if (step == 300) return true_answer;
         if (from != NULL && other_order(next.pair, *from) <= 0) continue;
         if (best.found == 0 || other_order(next.pair, best.pair) < 0) best = next;
     }
-    return true_answer.refusal != 0 ? true_answer : best;
+    return best;
 }
 
 bantameasel_answer bantameasel_first(const uint8_t *text, size_t length) {
@@ -183,11 +238,45 @@ bantameasel_answer bantameasel_after(const uint8_t *text, size_t length, bantame
     return answer;
 }
 
+/* ---- the width of Line: 12 fields for exceptions in some books, 16 in others */
+
+enum { FIRST_FIELD = 5, FIELD = 4, NARROW = 12, WIDE = 16 };
+
+/* How many fields a line has that is at fault: in a book of so many exceptions, of a pair that takes so many. */
+static int faulty_fields(uint64_t exceptions, int taken) {
+    if (fault("a book of thirteen has twelve fields") && exceptions == NARROW + 1 && taken <= NARROW) return NARROW;
+    if (fault("a book of twelve has sixteen fields") && exceptions == NARROW) return WIDE;
+    if (fault("every line has sixteen fields")) return WIDE;
+    if (fault("the fields go by the exceptions taken")) return taken <= NARROW ? NARROW : WIDE;
+    return exceptions <= NARROW ? NARROW : WIDE;
+}
+
+/* The byte at which a line's marks begin. */
+static size_t marks_at(int fields) { return (size_t)(FIRST_FIELD + FIELD * fields); }
+
+/* Line, with as many fields for exceptions as the fault asks for. */
+static bantameasel_length fielded_line(const uint8_t *text, size_t length, bantameasel_pair pair, uint8_t *line,
+                                       size_t line_length) {
+    int32_t table[MOST_TABLE];
+    uint8_t whole[MOST_LINE + FIELD * (WIDE - NARROW)];
+    bantameasel_book book = true_read(text, length, table, MOST_TABLE);
+    bantameasel_length answer = true_line(text, length, pair, whole, MOST_LINE);
+    int fields = faulty_fields(book.exceptions, __builtin_popcountll(pair.taken));
+    int true_fields = book.exceptions <= NARROW ? NARROW : WIDE;
+    if (answer.refusal != 0 || fields == true_fields) return true_line(text, length, pair, line, line_length);
+    memmove(whole + marks_at(fields), whole + marks_at(true_fields), answer.length - marks_at(true_fields));
+    for (int place = true_fields; place < fields; place++) memcpy(whole + marks_at(place), "   0", FIELD);
+    answer.length += marks_at(fields) - marks_at(true_fields);
+    if (line_length < answer.length) return (bantameasel_length){.refusal = BANTAMEASEL_REFUSED_BUFFER_SHORT};
+    memcpy(line, whole, answer.length);
+    return answer;
+}
+
 bantameasel_length bantameasel_line(const uint8_t *text, size_t length, bantameasel_pair pair, uint8_t *line,
                                     size_t line_length) {
     bantameasel_pair swapped = {pair.taken, pair.denied, pair.held};
     bantameasel_length answer =
-        true_line(text, length, fault("Line's signs are swapped") ? swapped : pair, line, line_length);
+        fielded_line(text, length, fault("Line's signs are swapped") ? swapped : pair, line, line_length);
     if (fault("Line writes before a refusal") && answer.refusal != 0 && line_length > 0) line[0] = 'A' ^ line[0];
     if (fault("Line writes past the line") && answer.refusal == 0 && line_length > answer.length)
         line[answer.length] ^= 1;
