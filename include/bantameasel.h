@@ -28,15 +28,18 @@
  * - Refusals and verdicts keep their numbers. Later versions have more refusals: take any number but 0 for a refusal.
  * - Structs keep their size, and every field its place. A reserved field is 0 in this version; do not use it, since a
  *   later version may give it a name and a meaning.
- * - Limits may grow, but not BANTAMEASEL_MOST_STACK. The number table may get more numbers before its rows and in them: keep a book as its text, not as
- *   its table. A pair that was noted for a book goes on to the same resolutions.
+ * - Limits may grow, but not BANTAMEASEL_MOST_STACK. A program that was built with an earlier header then gets 15 where a
+ *   buffer of the earlier length is too short. The number table may get more numbers before its rows and in them: keep
+ *   a book as its text, not as its table. A pair that was noted for a book goes on to the same resolutions.
  * - BANTAMEASEL_VERSION is the version of this header, bantameasel_version() that of the library linked. Where the two
  *   are not the same, the limits below may not be those of the library.
+ * - From 2.0 to 2.1: a book may have 16 exceptions (12 in 2.0), so the longest text, table and line are longer. The line
+ *   of a book of at most 12 exceptions is as it was.
  *
  * THE REFUSALS, IN THE ORDER IN WHICH THEY ARE LOOKED FOR; the first that applies is given. The names are below.
  *
  * Of a text:
- *    1  the text is longer than 8,392 bytes (line 0)
+ *    1  the text is longer than 8,544 bytes (line 0)
  *    2  the text is empty, or its last byte is not a line feed (line 0)
  *    then line by line, from the top:
  *    3  the line's letter is not allowed here; an empty line; a line after Z; a missing Z, at the line after the last
@@ -47,7 +50,7 @@
  *    7  the edition is not 1
  *    6  the number is outside its range
  *    then the line as a whole:
- *    8  this is one R, X or P line more than a book may have (200, 12, 32)
+ *    8  this is one R, X or P line more than a book may have (200, 16, 32)
  *    9  an exception has the head 0
  *   10  a preference names an exception that the book does not have
  *   11  the number in the Z line is not the number of R, X and P lines
@@ -103,8 +106,8 @@
 extern "C" {
 #endif
 
-/* The version of this header: 100 for each whole version and 1 for each part of one, so that 200 is version 2.0. */
-#define BANTAMEASEL_VERSION 200
+/* The version of this header: 100 for each whole version and 1 for each part of one, so that 201 is version 2.1. */
+#define BANTAMEASEL_VERSION 201
 
 /* The limits of a book, and what follows from them. */
 #define BANTAMEASEL_MOST_STATEMENTS 48  /* statements, n */
@@ -165,7 +168,7 @@ typedef struct {
     uint64_t line;        /* the refusal's line, or 0 */
     uint64_t statements;  /* n, 1 to 48 */
     uint64_t plain;       /* how many R lines, 0 to 200 */
-    uint64_t exceptions;  /* how many X lines, 0 to 12 */
+    uint64_t exceptions;  /* how many X lines, 0 to 16 */
     uint64_t preferences; /* how many P lines, 0 to 32 */
     uint64_t reserved[4]; /* each 0 */
 } bantameasel_book;
@@ -271,11 +274,12 @@ bantameasel_answer bantameasel_after(const uint8_t *text, size_t text_length, ba
  * Line: the A line of a pair, as `ways` prints it.
  *
  * Takes    the text of a book, a lawful pair, which need not be a resolution, and a lent buffer of line_length bytes.
- * Answers  the length of the line, 54 + n.
- * Writes   the line, from the buffer's start on: the letter A; the count of exceptions taken in 4 columns; 12 fields
- *          of 4 columns with the exceptions taken, ascending, then 0; for each statement '.' (absent), '+' (held) or
- *          '-' (denied); a line feed. The bytes past it are unchanged, and no 0 byte is put behind it.
- *          BANTAMEASEL_MOST_LINE bytes are room enough for every book.
+ * Answers  the length of the line: 54 + n in a book of at most 12 exceptions, 70 + n in one of 13 to 16. It is the same
+ *          for all pairs of a book, however many exceptions they take.
+ * Writes   the line, from the buffer's start on: the letter A; the count of exceptions taken in 4 columns; 12 fields,
+ *          or 16 in a book of 13 to 16 exceptions, of 4 columns with the exceptions taken, ascending, then 0; for each
+ *          statement '.' (absent), '+' (held) or '-' (denied); a line feed. The bytes past it are unchanged, and no 0
+ *          byte is put behind it. BANTAMEASEL_MOST_LINE bytes are room enough for every book.
  * Refuses  1 to 11 for the text; then 12 to 14 for the pair; then 15 if the buffer is too short. The buffer is then
  *          unchanged.
  */

@@ -71,6 +71,7 @@ void full(book *b) {
     begin(b, BANTAMEASEL_MOST_STATEMENTS);
     for (int k = 0; k < BANTAMEASEL_MOST_PLAIN; k++) add(b, 'R', (row){.head = 1 + k % 48, .needed = {1 + k % 7}});
     for (int k = 0; k < BANTAMEASEL_MOST_EXCEPTIONS; k++) add(b, 'X', (row){.head = 1 + k});
-    for (int k = 0; k < BANTAMEASEL_MOST_PREFERENCES; k++) prefer(b, 1 + k % 11, 12);
+    for (int k = 0; k < BANTAMEASEL_MOST_PREFERENCES; k++)
+        prefer(b, 1 + k % (BANTAMEASEL_MOST_EXCEPTIONS - 1), BANTAMEASEL_MOST_EXCEPTIONS);
     finish(b);
 }

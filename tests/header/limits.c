@@ -60,6 +60,23 @@ static void test_lengths(const book *b) {
     expect_refusal("one exception more", written.refusal, BANTAMEASEL_REFUSED_PAIR_TAKEN);
 }
 
+/* A line has 54 + n bytes in a book of at most 12 exceptions and 70 + n in a longer one, whether the pair takes none of
+ * them or all. */
+static void test_line_lengths(void) {
+    for (int exceptions = 0; exceptions <= BANTAMEASEL_MOST_EXCEPTIONS; exceptions++) {
+        bantameasel_pair none = {0, 1, 0}, all = {(UINT64_C(1) << exceptions) - 1, 1, 0};
+        const uint64_t wanted = (exceptions <= 12 ? 54 : 70) + 3;
+        book b;
+        begin(&b, 3);
+        for (int k = 0; k < exceptions; k++) add(&b, 'X', (row){.head = 1});
+        finish(&b);
+        expect("a line", bantameasel_line(b.bytes, b.length, none, text, BANTAMEASEL_MOST_LINE).length, wanted);
+        expect("a line of all", bantameasel_line(b.bytes, b.length, all, text, BANTAMEASEL_MOST_LINE).length, wanted);
+        expect("no room", bantameasel_line(b.bytes, b.length, none, text, wanted - 1).refusal,
+               BANTAMEASEL_REFUSED_BUFFER_SHORT);
+    }
+}
+
 void test_limits(void) {
     const int r = BANTAMEASEL_MOST_PLAIN, x = BANTAMEASEL_MOST_EXCEPTIONS, p = BANTAMEASEL_MOST_PREFERENCES;
     book b;
@@ -68,6 +85,7 @@ void test_limits(void) {
     test_counts(r + 1, 0, 0, BANTAMEASEL_REFUSED_TOO_MANY);
     test_counts(0, x + 1, 0, BANTAMEASEL_REFUSED_TOO_MANY);
     test_counts(0, 1, p + 1, BANTAMEASEL_REFUSED_TOO_MANY);
+    test_line_lengths();
     full(&b);
     test_lengths(&b);
     b.bytes[b.length++] = '\n';

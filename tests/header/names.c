@@ -22,7 +22,11 @@ static const faulty TEXTS[] = {
     {"B   2   1\n", BANTAMEASEL_REFUSED_EDITION, 1},
     {"B   1   1\nX   0   0   0   0   0   0   0   0   0\n", BANTAMEASEL_REFUSED_NO_HEAD, 2},
     {"B   1   1\nP   1   1\n", BANTAMEASEL_REFUSED_PREFERENCE, 2},
+    {"B   1   1\nP  16   1\n", BANTAMEASEL_REFUSED_PREFERENCE, 2},
+    {"B   1   1\nP  17   1\n", BANTAMEASEL_REFUSED_OUT_OF_RANGE, 2},
     {"B   1   1\nZ   1\n", BANTAMEASEL_REFUSED_TOTAL, 2},
+    {"B   1   1\nZ 248\n", BANTAMEASEL_REFUSED_TOTAL, 2},
+    {"B   1   1\nZ 249\n", BANTAMEASEL_REFUSED_OUT_OF_RANGE, 2},
 };
 
 /* Read refuses the text so, and all other numbers of its answer are 0. */
@@ -85,10 +89,12 @@ static void test_pairs(void) {
 }
 
 static void test_tables(void) {
-    int32_t short_one[3] = {1, 0, 0}, long_one[5] = {1, 0, 0, 0, 0}, many[4] = {1, 201, 0, 0}, good[4] = {1, 0, 0, 0};
+    int32_t short_one[3] = {1, 0, 0}, long_one[5] = {1, 0, 0, 0, 0}, good[4] = {1, 0, 0, 0};
+    int32_t many[4] = {1, 201, 0, 0}, excepted[4] = {1, 0, 17, 0};
     expect_refusal("a short table", bantameasel_write(short_one, 3, NULL, 0).refusal, BANTAMEASEL_REFUSED_TABLE_LENGTH);
     expect_refusal("a long table", bantameasel_write(long_one, 5, NULL, 0).refusal, BANTAMEASEL_REFUSED_TABLE_LENGTH);
     expect_refusal("a count over its limit", bantameasel_write(many, 4, NULL, 0).refusal, BANTAMEASEL_REFUSED_TOO_MANY);
+    expect_refusal("17 X lines", bantameasel_write(excepted, 4, NULL, 0).refusal, BANTAMEASEL_REFUSED_TOO_MANY);
     expect_refusal("no room for the text", bantameasel_write(good, 4, NULL, 0).refusal, BANTAMEASEL_REFUSED_BUFFER_SHORT);
 }
 

@@ -142,11 +142,12 @@ static size_t test_dead_ends(book *b) {
     return test_deep(b, (bantameasel_pair){0, 0, 0});
 }
 
-/* All twelve exceptions are needed, beside 36 choices. */
+/* All exceptions that a book may have are needed, beside choices. */
 static size_t test_needed(book *b) {
-    choices(b, 48, 36);
-    for (int i = 37; i <= 48; i++) add(b, 'R', (row){.head = 0, .barred = {-i}});
-    for (int i = 37; i <= 48; i++) add(b, 'X', (row){.head = -i});
+    const int last = BANTAMEASEL_MOST_STATEMENTS, free = last - BANTAMEASEL_MOST_EXCEPTIONS;
+    choices(b, last, free);
+    for (int i = free + 1; i <= last; i++) add(b, 'R', (row){.head = 0, .barred = {-i}});
+    for (int i = free + 1; i <= last; i++) add(b, 'X', (row){.head = -i});
     return test_deep(b, (bantameasel_pair){0, 0, 0});
 }
 
