@@ -1,4 +1,4 @@
-/* Times the engine's Read and Write against the plain C reader and writer on a full book of 8,392 bytes.
+/* Times the engine's Read and Write against the plain C reader and writer on a full book of 8,544 bytes.
  *
  *     read_bench [LOOPS]
  *
