@@ -54,8 +54,8 @@ static bool load(const char *name, book *b)
     return good || fail(name, "it could not be read");
 }
 
-/* Has the engine read the text, and keeps the number of statements. As a number takes 4 bytes, a fourth of the text's
-   length is room enough for its table. */
+/* Has the engine read the text, and keeps the numbers of statements and exceptions. As a number takes 4 bytes, a fourth
+   of the text's length is room enough for its table. */
 static bool measure(book *b)
 {
     size_t room = b->length / FIELD + 1;
@@ -71,6 +71,7 @@ static bool measure(book *b)
         return false;
     }
     b->statements = answer.statements;
+    b->exceptions = answer.exceptions;
     return true;
 }
 
@@ -86,9 +87,19 @@ void close_book(book *b)
 
 /* ---- lines ---- */
 
+size_t taken_fields(const book *b)
+{
+    return b->exceptions <= SHORT_FIELDS ? SHORT_FIELDS : LONG_FIELDS;
+}
+
+size_t marks_after(size_t fields)
+{
+    return 1 + FIELD * (1 + fields);
+}
+
 size_t line_length(const book *b)
 {
-    return (size_t)MARKS + b->statements + 1;
+    return marks_after(taken_fields(b)) + b->statements + 1;
 }
 
 bool write_line(const book *b, pair p, uint8_t *line)

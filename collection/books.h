@@ -9,17 +9,18 @@
 #include "bantameasel.h"
 
 enum {
-    FIELD = 4,           /* columns of a field */
-    TAKEN_FIELDS = BANTAMEASEL_MOST_EXCEPTIONS, /* fields of an A line for the exceptions taken */
-    MARKS = 1 + FIELD * (1 + TAKEN_FIELDS) /* the byte of an A line at which the statements' marks begin */
+    FIELD = 4,         /* columns of a field */
+    SHORT_FIELDS = 12, /* fields of an A line for the exceptions taken, in a book that has no more exceptions than this */
+    LONG_FIELDS = 16   /* the same in any other book */
 };
 
-/* A book: its file's name, its text, and the number of its statements. */
+/* A book: its file's name, its text, and the numbers of its statements and its exceptions. */
 typedef struct {
     const char *name;
     uint8_t *text;
     size_t length;
     uint64_t statements;
+    uint64_t exceptions;
 } book;
 
 /* A pair: number i is worth 2^(i-1) in each. */
@@ -38,7 +39,10 @@ bool fail(const char *thing, const char *words);
 bool open_book(const char *name, book *b);
 void close_book(book *b);
 
-/* The bytes of an A line of the book, its line feed included. */
+/* How many fields for the exceptions taken the A lines of the book have; the byte at which the statements' marks begin
+   in a line of so many; the bytes of an A line of the book, its line feed included. */
+size_t taken_fields(const book *b);
+size_t marks_after(size_t fields);
 size_t line_length(const book *b);
 
 /* Has the engine write the A line of a pair into a buffer of line_length bytes. */

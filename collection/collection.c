@@ -160,7 +160,7 @@ static bool pick(const book *b, uint64_t place)
     if (!print_line(b, p)) {
         return false;
     }
-    print_set("Exceptions taken", p.taken, TAKEN_FIELDS);
+    print_set("Exceptions taken", p.taken, b->exceptions);
     print_set("Statements held", p.held, b->statements);
     print_set("Statements denied", p.denied, b->statements);
     print_set("Statements left open", ~(p.held | p.denied), b->statements);
@@ -178,10 +178,10 @@ static bool read_field(const char *field, uint64_t *number)
     return read_number(&at, number) && *at == '\0';
 }
 
-/* Adds the exceptions of an A line's fields to the pair. */
-static bool read_taken(const char *line, pair *p)
+/* Adds the exceptions of an A line's fields, so many of them after the count, to the pair. */
+static bool read_taken(const char *line, size_t fields, pair *p)
 {
-    for (int k = 0; k <= TAKEN_FIELDS; k++) {
+    for (size_t k = 0; k <= fields; k++) {
         uint64_t number;
         if (!read_field(line + 1 + FIELD * k, &number) || number > 64) {
             return false;
@@ -208,22 +208,37 @@ static bool read_marks(const char *marks, uint64_t statements, pair *p)
     return true;
 }
 
+/* Says that a pasted line has another length than the book's lines; and if it has as many fields as those of a book with
+   fewer or more exceptions, that too. */
+static bool wrong_length(const book *b, size_t length)
+{
+    size_t fields = taken_fields(b), others = SHORT_FIELDS + LONG_FIELDS - fields;
+    fprintf(stderr, "collection: the pasted line has %zu bytes; an A line of this book has %zu.\n", length,
+            line_length(b) - 1);
+    if (length == marks_after(others) + b->statements) {
+        fprintf(stderr, "    It has %zu fields for exceptions; the lines of a book with %" PRIu64 " X lines have %zu.\n"
+                "    It is of another book, or of this one as it was before.\n", others, b->exceptions, fields);
+    }
+    return false;
+}
+
 /* The pair of a pasted A line, without its line feed. */
 static bool read_a_line(const book *b, const char *line, size_t length, pair *p)
 {
+    size_t fields = taken_fields(b);
     memset(p, 0, sizeof *p);
     if (length != line_length(b) - 1) {
-        fprintf(stderr, "collection: the pasted line has %zu bytes; an A line of this book has %zu.\n", length,
-                line_length(b) - 1);
-        return false;
+        return wrong_length(b, length);
     }
     if (line[0] != 'A') {
         return fail("the pasted line", "it does not begin with the letter A");
     }
-    if (!read_taken(line, p)) {
-        return fail("the pasted line", "after the letter stand 13 fields of 4 columns, each a whole number of 0 to 64");
+    if (!read_taken(line, fields, p)) {
+        fprintf(stderr, "collection: the pasted line: after the letter stand %zu fields of 4 columns, each a whole number "
+                "of 0 to 64.\n", fields + 1);
+        return false;
     }
-    if (!read_marks(line + MARKS, b->statements, p)) {
+    if (!read_marks(line + marks_after(fields), b->statements, p)) {
         return fail("the pasted line", "each statement's mark is '.', '+' or '-'");
     }
     return true;

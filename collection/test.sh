@@ -290,6 +290,7 @@ judged gown-ranked "A   2   4   5   0   0$z8.+..++" 2
 judged chasuble "A   2   1   2   0   0$z8++-+.+.+" 3
 judged gown-ranked "A   1   4   0   0   0$z8.+...+" 4
 judged k7 "A   2   1   2   0   0$z8+++" 5
+judged vestments "A   0   0   0   0   0   0   0   0   0$z8++++++++++++++" 1
 echo "judged a line for each verdict 1 to 5"
 
 run 1 "$work/k7.book" judge "A   1   3   0   0   0$z8+.+"
@@ -306,6 +307,15 @@ run 1 "$work/k7.book" judge "B   1   1   0   0   0$z8+.+"
 said 'the letter A'
 run 1 "$work/k7.book" judge "A   1   a   0   0   0$z8+.+"
 said '13 fields'
+run 1 "$work/vestments.book" judge "A   1  15   0   0   0   0   0   0   0$z8++++++++++++++"
+said 'refusal 12: '
+run 1 "$work/vestments.book" judge "A   a   0   0   0   0   0   0   0   0$z8++++++++++++++"
+said '17 fields'
+run 1 "$work/vestments.book" judge "A   0   0   0   0   0$z8++++++++++++++"
+said 'has 67 bytes; an A line of this book has 83'
+said 'It has 12 fields for exceptions; the lines of a book with 14 X lines have 16.'
+run 1 "$work/k7.book" judge "A   1   1   0   0   0   0   0   0   0$z8+.+"
+said 'It has 16 fields for exceptions; the lines of a book with 2 X lines have 12.'
 run 1 "$work/k7.book" judge ''
 run 2 "$work/k7.book" next 0
 run 2 "$work/k7.book" next 2x
@@ -349,7 +359,7 @@ refusals=0
 
 # The text as a whole: 1 and 2.
 dd if=/dev/zero of="$work/zeros" bs=1000 count=70 2>/dev/null
-damaged zeros 'refusal 1: ' 'A book has at most 8392 bytes.'
+damaged zeros 'refusal 1: ' 'A book has at most 8544 bytes.'
 printf 'PK\003\004' | cat - "$work/zeros" >"$work/archive"
 damaged archive 'refusal 1: ' "a spreadsheet's or a word processor's own"
 : >"$work/empty"
@@ -439,9 +449,11 @@ pointed 5 34 4
 sed '1s/ 5/49/' "$gown" >"$work/statements"
 damaged statements 'refusal 6 at line 1: ' 'Near column 6: the number of statements is 49; it has to be from 1 to 48.'
 sed '15s/ 1/13/' "$ranked" >"$work/thirteen"
-damaged thirteen 'refusal 6 at line 15: ' 'the exception that outranks is 13; it has to be from 1 to 12.'
-sed '$s/ 20/245/' "$gown" >"$work/total"
-damaged total 'refusal 6 at line 22: ' 'Near column 2: the number of R, X and P lines is 245; it has to be from 0 to 244.'
+damaged thirteen 'refusal 10 at line 15: ' 'the exception that outranks is 13; the number of X lines is 5.'
+sed '15s/ 1/17/' "$ranked" >"$work/seventeen"
+damaged seventeen 'refusal 6 at line 15: ' 'the exception that outranks is 17; it has to be from 1 to 16.'
+sed '$s/ 20/249/' "$gown" >"$work/total"
+damaged total 'refusal 6 at line 22: ' 'Near column 2: the number of R, X and P lines is 249; it has to be from 0 to 248.'
 sed '1s/1/2/' "$gown" >"$work/edition"
 damaged edition 'refusal 7 at line 1: ' 'Near column 2: the edition is 2; it has to be 1.'
 pointed 1 2 4
@@ -456,8 +468,8 @@ damaged count 'refusal 11 at line 22: ' 'Near column 2: the number of R, X and P
 pointed 22 2 4
 awk 'NR == 16 { for (k = 0; k < 186; k++) print } { print }' "$gown" >"$work/rules"
 damaged rules 'refusal 8 at line 202: ' 'This is R line 201; a book has at most 200.'
-sed '21{p;p;p;p;p;p;p;p;}' "$gown" >"$work/many"
-damaged many 'refusal 8 at line 29: ' 'This is X line 13; a book has at most 12.'
+sed '21{p;p;p;p;p;p;p;p;p;p;p;p;}' "$gown" >"$work/many"
+damaged many 'refusal 8 at line 33: ' 'This is X line 17; a book has at most 16.'
 awk 'NR == 15 { for (k = 0; k < 29; k++) print } { print }' "$ranked" >"$work/preferences"
 damaged preferences 'refusal 8 at line 47: ' 'This is P line 33; a book has at most 32.'
 echo "refused $refusals damaged books under valgrind, showed the line, pointed at the column and said the cause"
@@ -479,6 +491,9 @@ for words in 'next 1' 'next 1' 'next 2' 'next' 'next 1' 'pick 2' 'from-start' 'n
     watched 0 -p "$work/vpoint" "$work/gown.book" $words
 done
 watched 0 "$work/gloves.book" next 1
+watched 0 -p "$work/wpoint" "$work/vestments.book" next 2
+watched 0 "$work/vestments.book" pick 12
+printed 'Exceptions taken: 2 3 5 6 8 9 10 12 14'
 watched 1 -p "$work/vpoint" "$work/k7.book" next 1
 said 'the point was written down for another book'
 watched 0 "$work/k7.book" judge "A   2   1   2   0   0$z8+++"
