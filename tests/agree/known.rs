@@ -4,7 +4,7 @@
 use crate::book::*;
 use crate::large::{claims_of, draw_form, put_fields};
 use crate::maker::Maker;
-use crate::meaning::{closure, Conclusions};
+use crate::meaning::{closure, members, Conclusions};
 use crate::random::Random;
 use crate::solved::Solved;
 use crate::wide::many;
@@ -79,55 +79,70 @@ fn so_many(random: &mut Random) -> Solved {
 /// Statements that say how many are taken of some exceptions: the first for at least 1, the second for at least 2, ..
 type Counters = Vec<i32>;
 
+/// Statements that no rule concludes yet.
+type Fresh = std::ops::Range<i32>;
+
 /// Adds exceptions that hold one statement each, counts how many are taken in four parts and in two halves, and asks
 /// for so many of them.
 fn put_counting(maker: &mut Maker, count: i32, wanted: i32) {
-    (1..=count).for_each(|number| maker.exception(number, &[], &[]));
     let numbers: Vec<i32> = (1..=count).collect();
     let goal = maker.n();
     let mut fresh = count + 1..goal;
-    let mut parts: Vec<Counters> = Vec::new();
-    for part in numbers.chunks(PART) {
-        let counters: Counters = fresh.by_ref().take(part.len()).collect();
-        for set in 1u32..1 << part.len() {
-            let members: Vec<i32> =
-                (0..part.len()).filter(|place| set >> place & 1 == 1).map(|place| part[place]).collect();
-            maker.plain(counters[members.len() - 1], &members, &[]);
-        }
-        parts.push(counters);
-    }
+    numbers.iter().for_each(|number| maker.exception(*number, &[], &[]));
+    let mut parts: Vec<Counters> = numbers.chunks(PART).map(|part| put_part(maker, part, &mut fresh)).collect();
     parts.resize(PARTS, Vec::new());
-    let halves = [put_sum(maker, &parts[0], &parts[1], &mut fresh), put_sum(maker, &parts[2], &parts[3], &mut fresh)];
-    let most = [parts[0].len() + parts[1].len(), parts[2].len() + parts[3].len()];
+    let sides: Vec<Half> = parts.chunks(2).map(|two| Half::put(maker, two, &mut fresh)).collect();
     for one in 0..=wanted as usize {
-        let other = wanted as usize - one;
-        if one <= most[0] && other <= most[1] {
-            let needed = [at_least(one, &halves[0], &parts[..2]), at_least(other, &halves[1], &parts[2..])].concat();
-            maker.plain(goal, &needed, &[]);
+        let both = [sides[0].at_least(one), sides[1].at_least(wanted as usize - one)];
+        if let [Some(first), Some(second)] = both {
+            maker.plain(goal, &[first, second].concat(), &[]);
         }
     }
     maker.constraint(&[], &[goal]);
 }
 
-/// Counts two parts together; that all of both are taken needs no statement of its own.
-fn put_sum(maker: &mut Maker, one: &Counters, other: &Counters, fresh: &mut std::ops::Range<i32>) -> Counters {
-    let sums: Counters = fresh.take((one.len() + other.len()).saturating_sub(1)).collect();
-    for first in 0..=one.len() {
-        for second in 0..=other.len() {
-            if (1..=sums.len()).contains(&(first + second)) {
-                let needed = [at_least(first, one, &[]), at_least(second, other, &[])].concat();
-                maker.plain(sums[first + second - 1], &needed, &[]);
-            }
-        }
+/// Counts the exceptions of a part.
+fn put_part(maker: &mut Maker, part: &[i32], fresh: &mut Fresh) -> Counters {
+    let counters: Counters = fresh.take(part.len()).collect();
+    for set in 1u64..1 << part.len() {
+        let taken: Vec<i32> = members(set).map(|place| part[place]).collect();
+        maker.plain(counters[taken.len() - 1], &taken, &[]);
     }
-    sums
+    counters
 }
 
-/// What must be held where at least so many are taken; where there is no counter for it, all of the parts are.
-fn at_least(count: usize, counters: &Counters, parts: &[Counters]) -> Vec<i32> {
-    match count {
-        0 => Vec::new(),
-        _ if count <= counters.len() => vec![counters[count - 1]],
-        _ => parts.iter().filter_map(|part| part.last().copied()).collect(),
+/// Two parts counted together: what must be held where at least 1, 2, .. are taken.
+struct Half {
+    needed: Vec<Vec<i32>>,
+}
+
+impl Half {
+    /// Counts two parts together; that all of both are taken needs no statement of its own.
+    fn put(maker: &mut Maker, parts: &[Counters], fresh: &mut Fresh) -> Half {
+        let all = parts[0].len() + parts[1].len();
+        let mut needed: Vec<Vec<i32>> = fresh.take(all.saturating_sub(1)).map(|counter| vec![counter]).collect();
+        for first in 0..=parts[0].len() {
+            for second in (0..=parts[1].len()).filter(|second| (1..=all).contains(&(first + second))) {
+                let both = [last_of(&parts[0][..first]), last_of(&parts[1][..second])].concat();
+                match needed.get(first + second - 1) {
+                    Some(counter) => maker.plain(counter[0], &both, &[]),
+                    None => needed.push(both),
+                }
+            }
+        }
+        Half { needed }
     }
+
+    /// What must be held where at least so many are taken; none where there are not so many.
+    fn at_least(&self, count: usize) -> Option<Vec<i32>> {
+        match count {
+            0 => Some(Vec::new()),
+            _ => self.needed.get(count - 1).cloned(),
+        }
+    }
+}
+
+/// The last of the counters, if there is one.
+fn last_of(counters: &[i32]) -> Vec<i32> {
+    counters.last().copied().into_iter().collect()
 }

@@ -79,7 +79,7 @@ impl Counts {
         Counts {
             tiny: count,
             small: count,
-            wide: part(20),
+            wide: part(50).max(30),
             blocks: part(20),
             free: part(500),
             full_texts: part(50_000),
