@@ -10,7 +10,7 @@
 
 enum {
     FIELD = 4,         /* columns of a field */
-    SHORT_FIELDS = 12, /* fields of an A line for the exceptions taken, in a book that has no more exceptions than this */
+    SHORT_FIELDS = 12, /* fields of an A line for the exceptions taken, in a book that has no more exceptions */
     LONG_FIELDS = 16   /* the same in any other book */
 };
 

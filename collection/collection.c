@@ -208,8 +208,8 @@ static bool read_marks(const char *marks, uint64_t statements, pair *p)
     return true;
 }
 
-/* Says that a pasted line has another length than the book's lines; and if it has as many fields as those of a book with
-   fewer or more exceptions, that too. */
+/* Says that a pasted line has another length than the book's lines; and if it has as many fields as those of a book
+   with fewer or more exceptions, that too. */
 static bool wrong_length(const book *b, size_t length)
 {
     size_t fields = taken_fields(b), others = SHORT_FIELDS + LONG_FIELDS - fields;
@@ -234,8 +234,8 @@ static bool read_a_line(const book *b, const char *line, size_t length, pair *p)
         return fail("the pasted line", "it does not begin with the letter A");
     }
     if (!read_taken(line, fields, p)) {
-        fprintf(stderr, "collection: the pasted line: after the letter stand %zu fields of 4 columns, each a whole number "
-                "of 0 to 64.\n", fields + 1);
+        fprintf(stderr, "collection: the pasted line: after the letter stand %zu fields of 4 columns, "
+                "each a whole number of 0 to 64.\n", fields + 1);
         return false;
     }
     if (!read_marks(line + marks_after(fields), b->statements, p)) {

@@ -28,13 +28,13 @@
  * - Refusals and verdicts keep their numbers. Later versions have more refusals: take any number but 0 for a refusal.
  * - Structs keep their size, and every field its place. A reserved field is 0 in this version; do not use it, since a
  *   later version may give it a name and a meaning.
- * - Limits may grow, but not BANTAMEASEL_MOST_STACK. A program that was built with an earlier header then gets 15 where a
- *   buffer of the earlier length is too short. The number table may get more numbers before its rows and in them: keep
+ * - Limits may grow, but not BANTAMEASEL_MOST_STACK. A program that was built with an earlier header then gets 15 where
+ *   a buffer of the earlier length is too short. The number table may get more numbers before its rows and in them: keep
  *   a book as its text, not as its table. A pair that was noted for a book goes on to the same resolutions.
  * - BANTAMEASEL_VERSION is the version of this header, bantameasel_version() that of the library linked. Where the two
  *   are not the same, the limits below may not be those of the library.
- * - From 2.0 to 2.1: a book may have 16 exceptions (12 in 2.0), so the longest text, table and line are longer. The line
- *   of a book of at most 12 exceptions is as it was.
+ * - From 2.0 to 2.1: a book may have 16 exceptions (12 in 2.0), so the longest text, table and line are longer. The
+ *   lines of a book of at most 12 exceptions are as they were.
  *
  * THE REFUSALS, IN THE ORDER IN WHICH THEY ARE LOOKED FOR; the first that applies is given. The names are below.
  *

@@ -1,5 +1,6 @@
 //! Books of 12 to 16 exceptions whose views are known without any search: so many of the exceptions are needed, or
-//! each of some fields takes one claim. Nothing is barred but a claim's own denial, so a set of exceptions has one view.
+//! each of some fields takes one claim. Nothing is barred but a claim's own denial, so a set of exceptions has one
+//! view.
 
 use crate::book::*;
 use crate::large::{claims_of, draw_form, put_fields};

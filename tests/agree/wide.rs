@@ -38,7 +38,8 @@ pub fn wide_book(random: &mut Random, kind: usize) -> Book {
     }
 }
 
-/// Statements that must be held, at most four of them, and exceptions that hold them in turn. Answers how many they are.
+/// Statements that must be held, at most four of them, and exceptions that hold them in turn. Answers how many goals
+/// there are.
 fn put_goals(maker: &mut Maker) -> i32 {
     let goals = maker.random.between(1, maker.n().min(4));
     for number in 0..maker.room as i32 {

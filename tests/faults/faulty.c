@@ -23,7 +23,8 @@
 #undef bantameasel_first_page
 #undef bantameasel_page_after
 
-enum { MOST_TEXT = BANTAMEASEL_MOST_TEXT, MOST_TABLE = BANTAMEASEL_MOST_TABLE, MOST_LINE = BANTAMEASEL_MOST_LINE, ROW = 9 };
+enum { MOST_TEXT = BANTAMEASEL_MOST_TEXT, MOST_TABLE = BANTAMEASEL_MOST_TABLE, ROW = 9 };
+enum { MOST_LINE = BANTAMEASEL_MOST_LINE };
 
 /* The limits before there were sixteen exceptions. */
 enum { TWELVE = 12, SHORTER_TEXT = 8392 };
