@@ -94,25 +94,24 @@ fn chains(maker: &mut Maker) {
     }
 }
 
-/// Pairs of goals of which one is wanted, with several exceptions for each. In a pair the first exception of one goal
-/// outranks that of the other; across pairs goals exclude each other, as in K9.
+/// Pairs of goals of which one is wanted, with several exceptions for each. In a pair most exceptions of one goal outrank
+/// one of the other; across pairs goals exclude each other, as in K9.
 fn mutual(maker: &mut Maker) {
     let goals = maker.n() / 2 * 2;
-    for number in 0..maker.room as i32 {
-        maker.exception(number % goals + 1, &[], &[]);
+    for number in 1..=maker.room as i32 {
+        maker.exception((number - 1) % goals + 1, &[], &[]);
     }
-    for one in (1..goals).step_by(2) {
-        let next = one + 2;
-        maker.constraint(&[], &[one, one + 1]);
-        maker.prefer(one, one + 1);
-        if next <= goals && !maker.random.one_in(4) {
-            maker.constraint(&[one, next], &[]);
-            maker.constraint(&[one + 1, next + 1], &[]);
+    for number in (1..maker.room as i32).step_by(2) {
+        if !maker.random.one_in(12) {
+            maker.prefer(number, number + 1);
         }
     }
-    let last = maker.room as i32;
-    if maker.random.one_in(2) {
-        maker.prefer(last - 1, last);
+    for one in (1..goals).step_by(2) {
+        maker.constraint(&[], &[one, one + 1]);
+        if one + 2 < goals && !maker.random.one_in(4) {
+            maker.constraint(&[one, one + 2], &[]);
+            maker.constraint(&[one + 1, one + 3], &[]);
+        }
     }
 }
 
