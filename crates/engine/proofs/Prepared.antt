@@ -8,10 +8,13 @@ use native.Mathlib.Nat.{le-refl, div-mul-le-self}
 use native.Mathlib.Omega.{arith}
 use lib.IntN.{ℤ}
 use lib.ListN.{length, take, length-take}
-use lib.Seq.{sets}
+use lib.Seq.{sets, getD-take, length-take-le}
 use Rattle.sets.specs.declared.Pair.{Pair}
 use Rattle.sets.specs.Pairs.{flat}
 use Rattle.book.specs.declared.Shape.{Shape}
+use Rattle.book.specs.Limits as limit
+use Rattle.book.specs.Counts.{InLimits}
+use Rattle.book.proofs.Counts.{exceptions-in}
 use Rattle.text.specs.Reading.{over}
 use Rattle.text.proofs.Lent.{over-sets}
 use Rattle.masks.specs.declared.Bounds.{Bounds}
@@ -31,6 +34,33 @@ use Rattle.resolution.proofs.Resolutions.{rooted}
 use Rattle.judge.specs.Judged.{Judged}
 use Rattle.walk.specs.Walks.{Serves, beginning, Paged}
 use Rattle.engine.specs.Loaded.{Loaded, RootIs, VerdictIs, PageIs}
+
+-- The ranks of the book's own exceptions are ranks of the book, so what is answered by them is answered by all.
+module _ (s : Shape) (ranks own : List ℕ) (e : own ≡ take (s .exceptions) ranks) (limits : InLimits s) (long : length ranks ≡ limit.exceptions) where
+  own-long : length own ≡ s .exceptions
+  own-long = rw e (length-take-le (s .exceptions) ranks (rw long (exceptions-in s limits)))
+
+  pub own-short : length own ≤ 64
+  own-short = omega (arith, own-long, exceptions-in s limits)
+
+  module _ (ws : List ℕ) where
+    own-loaded : (rows : List ℤ) → Loaded s rows ws ranks → Loaded s rows ws own
+    unfolding bookOf
+    own-loaded rows l = record {
+      packs = l .packs;
+      ranked = record {
+        each = rw (own-long, exceptions-count s rows) (le-refl (s .exceptions));
+        named = l .ranked .named;
+        outranked = λ a c h. let k = rw own-long at h in rw (e, getD-take (s .exceptions) ranks a 0 k) (l .ranked .outranked a c (omega (arith, long, exceptions-in s limits)));
+      };
+      limits = l .limits;
+    }
+
+    pub own-verdict : (p : Pair) (r : ℕ) → VerdictIs s ws own p r → VerdictIs s ws ranks p r
+    own-verdict p r f = record { is = λ rows l. f .is rows (own-loaded rows l) }
+
+    pub own-page : (from : Point) (o o′ : List ℕ) (r : ℕ) → PageIs s ws own from o o′ r → PageIs s ws ranks from o o′ r
+    own-page from o o′ r f = record { count = λ rows l. f .count rows (own-loaded rows l); filled = λ rows l. f .filled rows (own-loaded rows l) }
 
 pub root-is : (s : Shape) (ws ranks : List ℕ) (b o : Bounds) → ((t : List ℤ) → b ≡ rootOf (bookOf s t)) → Propagated ws (ruleCount s) ranks b o → RootIs s ws ranks o
 root-is s ws ranks b o e p = record { rooted = λ rows l. rooted (bookOf s rows) ws (ruleCount s) ranks o (l .packs) (l .ranked) (rw (e rows) at p) }

@@ -1,5 +1,7 @@
 // A prepared book: the verdict on a pair, and the pages of its resolutions.
-ghost use Prim.Native.Nat.{_+_, _^_, _<_};
+ghost use Prim.Native.Nat.{_+_, _^_, _<_, _≤_};
+ghost use lib.ListN.{length, take};
+ghost use mathlib.Core.Path.{_≡_};
 ghost use Rattle.book.specs.Counts.{InLimits};
 ghost use Rattle.meaning.specs.Order.{start, at as atPair};
 ghost use Rattle.queue.specs.Chains.{Chains};
@@ -13,14 +15,22 @@ use queue::index::Index;
 use queue::waiting;
 use sets::Pair;
 
-// The words of a book's rules, and those of its ranks.
+// The words of a book's rules, and those of its ranks. Of the ranks the search is lent those of the book's own exceptions.
 pub type Words = [u64; Book::RULES * 8];
 
 pub type Ranks = [u64; Book::EXCEPTIONS];
 
+// The ranks of the first x exceptions: those that a book of x exceptions has.
+fn own<'a>(ranks: &'a [u64], x: usize) -> &'a [u64]
+    requires { ⌜ x ≤ length (now ranks) ⌝ }
+    ensures { λ r. ⌜ now r ≡ take x (now (ranks .entry)) ⌝ }
+{
+    &ranks[..x]
+}
+
 // The bounds of the book's views, where every search begins.
-pub fn root_of(words: &Words, ranks: &Ranks, index: &Index, s: Shape) -> Bounds
-    requires { ⌜ InLimits s × Chains (now words) (s .plain + s .exceptions) (now index) ⌝ }
+pub fn root_of(words: &Words, ranks: &[u64], index: &Index, s: Shape) -> Bounds
+    requires { ⌜ InLimits s × (length (now ranks) ≤ 64) × Chains (now words) (s .plain + s .exceptions) (now index) ⌝ }
     ensures { λ r. ⌜ RootIs s (now (words .entry)) (now (ranks .entry)) r ⌝ }
 {
     let n = s.plain + s.exceptions;
@@ -37,8 +47,9 @@ pub fn verdict_in(words: &Words, ranks: &Ranks, s: Shape, p: Pair) -> u32
     let n = s.plain + s.exceptions;
     let mut index = [0u64; index::LENGTH];
     index::fill(words, n, &mut index);
-    let root = root_of(words, ranks, &index, s);
-    judge::verdict(words, n, ranks, &index, root, p)
+    let own = own(ranks, s.exceptions);
+    let root = root_of(words, own, &index, s);
+    judge::verdict(words, n, own, &index, root, p)
 }
 
 // The first resolutions of a prepared book, as many as the lent slice has room for.
@@ -49,7 +60,8 @@ pub fn first_in(words: &Words, ranks: &Ranks, s: Shape, out: &mut [u64]) -> usiz
     let rules = s.plain + s.exceptions;
     let mut index = [0u64; index::LENGTH];
     index::fill(words, rules, &mut index);
-    let root = root_of(words, ranks, &index, s);
+    let own = own(ranks, s.exceptions);
+    let root = root_of(words, own, &index, s);
     let task = Task {
         rules,
         statements: s.statements as u64,
@@ -60,7 +72,7 @@ pub fn first_in(words: &Words, ranks: &Ranks, s: Shape, out: &mut [u64]) -> usiz
             denied: 0,
         },
     };
-    walk::page(words, ranks, &index, root, s.exceptions, task, false, out)
+    walk::page(words, own, &index, root, s.exceptions, task, false, out)
 }
 
 // The first resolutions later than a pair that is lawful in the prepared book.
@@ -71,12 +83,13 @@ pub fn after_in(words: &Words, ranks: &Ranks, s: Shape, p: Pair, out: &mut [u64]
     let rules = s.plain + s.exceptions;
     let mut index = [0u64; index::LENGTH];
     index::fill(words, rules, &mut index);
-    let root = root_of(words, ranks, &index, s);
+    let own = own(ranks, s.exceptions);
+    let root = root_of(words, own, &index, s);
     let task = Task {
         rules,
         statements: s.statements as u64,
         room: out.len() / 3,
         point: p,
     };
-    walk::page(words, ranks, &index, root, s.exceptions, task, true, out)
+    walk::page(words, own, &index, root, s.exceptions, task, true, out)
 }

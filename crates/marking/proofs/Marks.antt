@@ -4,13 +4,14 @@ use mathlib.Core.Path.{_≡_, refl, sym, ap, _∙_}
 use mathlib.Core.Bool.{true}
 use mathlib.Core.List.{List}
 use mathlib.Core.Logic.{_⊎_, inl, inr, ⊎-elim}
-use Prim.Native.Nat.{ℕ, suc, _+_, _*_, _/_, _%_, _^_, _<_, _≤_}
+use Prim.Native.Nat.{ℕ, suc, _+_, _-_, _*_, _/_, _%_, _^_, _<_, _≤_}
 use native.Mathlib.Nat.{le-refl, le-trans, mod-lt}
 use native.Mathlib.Omega.{arith}
 use lib.Bits.{bitAnd, bitOr}
 use lib.Dec.{eqb}
-use lib.ListN.{length, getD, set, replicate, length-set, getD-replicate, List·getD-eq-default, length-replicate}
-use lib.Seq.{getD-set-same, getD-set-other}
+use lib.ListN.{length, getD, set, take, replicate, length-take, length-set, getD-replicate, List·getD-eq-default, length-replicate}
+use lib.Seq.{getD-set-same, getD-set-other, getD-take, length-take-le}
+use lib.Pow.{pow-add}
 use borrow.Author.Tests.{eqb-true, eq-eqb}
 use Rattle.logic.specs.Tests.{Decides}
 use Rattle.logic.proofs.Decide.{decided, reworded, holds-or-not, decides-eq}
@@ -20,7 +21,7 @@ use Rattle.sets.proofs.Digits.{bit-and, bit-or, bit-without, bit-single, bit-lt
 use Rattle.sets.proofs.Words.{minus-off, and-none, none-and, off-is, off-sub, or-l, or-r, and-r, sub-or, sub-le, zero-minus, none-off}
 use Rattle.meaning.specs.Books.{Book}
 use Rattle.marking.specs.declared.Strike.{Strike}
-use Rattle.marking.specs.Marks.{marksIn, IsMarked, shut-out, noted, InRange, Struck, shares, between, Marked, Digit, Fits, Chosen, Pattern, Spans, Next, allOnes, Clear, NoneAt, RightMarks, Outranked, WithRank}
+use Rattle.marking.specs.Marks.{marksIn, IsMarked, shut-out, bit-on, InRange, Struck, shares, between, Marked, Digit, DigitBetween, Selected, Pattern, Spans, Next, allOnes, Clear, NoneAt, RightMarks, Outranked, WithRank}
 use Rattle.marking.proofs.Steps.{outside, outside-lt, outside-parts, room, later, next-in, bit-number, words-within, within-words, ones-at}
 
 -- ---- one look
@@ -29,22 +30,50 @@ module _ (m : List ℕ) (t : ℕ) where
   look-shut n = decided (λ e. shut-out (λ a. n (none-and t (getD m 0 0) (λ k. let q = a k in omega arith)))) (λ k. refl)
 
   pub look-noted : bitAnd t (getD m 0 0) ≡ 0 → Decides (eqb (bitOf (getD m (t / 64 + 1) 0) (t % 64)) 1) (IsMarked m t)
-  look-noted z = reworded (decides-eq _ 1) (λ e. noted e) only
+  look-noted z = reworded (decides-eq _ 1) (λ e. bit-on e) only
     where
       only : IsMarked m t → bitOf (getD m (t / 64 + 1) 0) (t % 64) ≡ 1
       only (shut-out d) = absurd (d (λ k. let q = and-none t (getD m 0 0) z k in omega arith))
-      only (noted e) = e
+      only (bit-on e) = e
 
--- Words of zeros mark nothing.
-pub zeros-clear : (k : ℕ) → Clear (replicate k 0)
-zeros-clear k = record { none = none }
-  where
-    zero-at : (i : ℕ) → _≡_ {A = ℕ} (getD (replicate k 0) i 0) 0
-    zero-at i = ⊎-elim (λ h. getD-replicate k i 0 0 h) (λ h. List·getD-eq-default (replicate k 0) 0 (rw (length-replicate {A = ℕ} k 0) h)) (lt-or-le i k)
+-- Words of zeros mark nothing, nor does a part of them.
+module _ (n k : ℕ) where
+  abbrev zeros : List ℕ
+  zeros = take n (replicate k 0)
 
-    none : (t : ℕ) → IsMarked (replicate k 0) t → ⊥
-    none t (shut-out d) = d (rw (zero-at 0) (none-off t))
-    none t (noted e) = let x = rw (zero-at (t / 64 + 1)) at e in let y = bit-zero (t % 64) in omega arith
+  zero-at : (i : ℕ) → _≡_ {A = ℕ} (getD (replicate k 0) i 0) 0
+  zero-at i = ⊎-elim (λ h. getD-replicate k i 0 0 h) (λ h. List·getD-eq-default (replicate k 0) 0 (rw (length-replicate {A = ℕ} k 0) h)) (lt-or-le i k)
+
+  zero-in : (i : ℕ) → getD zeros i 0 ≡ 0
+  zero-in i =
+      ⊎-elim (λ h. getD-take n (replicate k 0) i 0 h ∙ zero-at i) (λ h. List·getD-eq-default zeros 0 (let l = length-take n (replicate {A = ℕ} k 0) in omega arith)) (lt-or-le i n)
+
+  pub zeros-clear : Clear zeros
+  zeros-clear = record { none = none }
+    where
+      none : (t : ℕ) → IsMarked zeros t → ⊥
+      none t (shut-out d) = d (rw (zero-in 0) (none-off t))
+      none t (bit-on e) = let x = rw (zero-in (t / 64 + 1)) at e in let y = bit-zero (t % 64) in omega arith
+
+-- The sets of x exceptions fill their words.
+pub words-full : (x : ℕ) → 6 ≤ x → 64 * (2 ^ x / 64) ≡ 2 ^ x
+words-full x h =
+    let e : x ≡ 6 + (x - 6) = omega arith in
+    let p : 2 ^ x ≡ 64 * 2 ^ (x - 6) = ap (λ (m : ℕ). 2 ^ m) e ∙ pow-add 2 6 (x - 6) in
+    omega arith
+
+module _ (x k : ℕ) (h : 6 ≤ x) (l : 2 ^ x ≤ 64 * k) (n : ℕ) (e : n ≡ 2 ^ x / 64 + 1) where
+  pub words-in : n ≤ k + 1
+  words-in = omega arith
+
+  words-long : length (zeros n (k + 1)) ≡ n
+  words-long = length-take-le n (replicate (k + 1) 0) (rw (length-replicate {A = ℕ} (k + 1) 0) words-in)
+
+  pub words-count : n ≡ length (zeros n (k + 1))
+  words-count = sym words-long
+
+  pub words-enough : 2 ^ x ≤ marksIn (zeros n (k + 1))
+  words-enough = rw words-long (let f = words-full x h in omega arith)
 
 -- ---- the numbers of a word
 -- A word of numbers with a digit, found by looking at all 64.
@@ -53,20 +82,20 @@ digit-is i d e = record { is = λ k h. eqb-true _ _ (all-at (λ k. eqb (bitOf d 
 
 module _ (p i d lo hi : ℕ) (g : Digit i d) (sub : Within lo hi) where
   -- lo has the digit; hi has it not; it may be either.
-  pub chosen-with : bitOf lo i ≡ 1 → Chosen p (λ k. Fits lo hi k i) (bitAnd p d)
-  chosen-with e = record {
+  pub selected-with : bitOf lo i ≡ 1 → Selected p (λ k. DigitBetween lo hi k i) (bitAnd p d)
+  selected-with e = record {
     from = λ k h x. let a = bit-and p d k in let b = g .is k h in let c = sub i in let u = bit-lt p k in let v = bit-lt d k in let w = bit-lt hi i in (omega arith, (omega arith, omega arith));
     all = λ k h x f. let a = bit-and p d k in let b = g .is k h in let c = f .0 in let v = bit-lt d k in omega arith;
   }
 
-  pub chosen-without : bitOf hi i ≡ 0 → Chosen p (λ k. Fits lo hi k i) (without p d)
-  chosen-without e = record {
+  pub selected-without : bitOf hi i ≡ 0 → Selected p (λ k. DigitBetween lo hi k i) (without p d)
+  selected-without e = record {
     from = λ k h x. let a = bit-without p d k in let b = g .is k h in let c = sub i in let u = bit-lt p k in (omega arith, (omega arith, omega arith));
     all = λ k h x f. let a = bit-without p d k in let b = g .is k h in let c = f .1 in omega arith;
   }
 
-  pub chosen-all : (bitOf lo i ≡ 1 → ⊥) → (bitOf hi i ≡ 0 → ⊥) → Chosen p (λ k. Fits lo hi k i) p
-  chosen-all n o = record {
+  pub selected-all : (bitOf lo i ≡ 1 → ⊥) → (bitOf hi i ≡ 0 → ⊥) → Selected p (λ k. DigitBetween lo hi k i) p
+  selected-all n o = record {
     from = λ k h x. let u = bit-lt lo i in let v = bit-lt hi i in let w = bit-lt k i in (x, (omega arith, omega arith));
     all = λ k h x f. x;
   }
@@ -75,7 +104,7 @@ module _ (lo hi : ℕ) where
   pub pattern-none : Pattern 0 lo hi allOnes
   pattern-none = record { from = λ k h x i l. absurd (omega arith); all = λ k h f. ones-at k h }
 
-  pub pattern-more : (m p r : ℕ) → Pattern m lo hi p → Chosen p (λ k. Fits lo hi k m) r → Pattern (suc m) lo hi r
+  pub pattern-more : (m p r : ℕ) → Pattern m lo hi p → Selected p (λ k. DigitBetween lo hi k m) r → Pattern (suc m) lo hi r
   pattern-more m p r f c = record {
     from = λ k h x i l. ⊎-elim (λ a. f .from k h (c .from k h x .0) i a) (λ a. let e : i ≡ m = omega arith in rw e (c .from k h x .1)) (lt-or-le i m);
     all = λ k h g. c .all k h (f .all k h (λ i l. g i (omega arith))) (g m (omega arith));
@@ -83,10 +112,10 @@ module _ (lo hi : ℕ) where
 
 -- The word that has the set left out, and the others.
 module _ (p but w : ℕ) where
-  pub other-word : (but / 64 ≡ w → ⊥) → Chosen p (λ k. w * 64 + k ≡ but → ⊥) p
+  pub other-word : (but / 64 ≡ w → ⊥) → Selected p (λ k. w * 64 + k ≡ but → ⊥) p
   other-word n = record { from = λ k h x. (x, λ e. n (omega arith)); all = λ k h x o. x }
 
-  pub own-word : but / 64 ≡ w → Chosen p (λ k. w * 64 + k ≡ but → ⊥) (without p (1 * 2 ^ (but % 64) % 2 ^ 64))
+  pub own-word : but / 64 ≡ w → Selected p (λ k. w * 64 + k ≡ but → ⊥) (without p (1 * 2 ^ (but % 64) % 2 ^ 64))
   own-word e = rw (shifted (but % 64) (omega (arith, mod-lt but {m = 64} (omega arith)))) record {
     from = λ k h x.
         let a = bit-without p (2 ^ (but % 64)) k in
@@ -139,11 +168,11 @@ module _ (m : List ℕ) where
       where
         only : (t : ℕ) → IsMarked shut t → IsMarked m t ⊎ (Apart any t → ⊥)
         only t (shut-out d) = ⊎-elim (λ a. inr (λ b. rw shut-first at d (either-off t a b))) (λ n. inl (shut-out n)) (holds-or-not (off-is first t))
-        only t (noted e) = inl (noted (sym (ap (λ (x : ℕ). bitOf x (t % 64)) (shut-other t)) ∙ e))
+        only t (bit-on e) = inl (bit-on (sym (ap (λ (x : ℕ). bitOf x (t % 64)) (shut-other t)) ∙ e))
 
         stays : (t : ℕ) → IsMarked m t → IsMarked shut t
         stays t (shut-out d) = shut-out (rw shut-first (λ a. d (off-sub first (bitOr first any) t t (or-l first any) (λ i. le-refl _) a)))
-        stays t (noted e) = noted (ap (λ (x : ℕ). bitOf x (t % 64)) (shut-other t) ∙ e)
+        stays t (bit-on e) = bit-on (ap (λ (x : ℕ). bitOf x (t % 64)) (shut-other t) ∙ e)
 
   module _ (w new : ℕ) (room : w + 1 < length m) where
     abbrev word : ℕ
@@ -162,7 +191,7 @@ module _ (m : List ℕ) where
     more-other t n = getD-set-other m (w + 1) (t / 64 + 1) (bitOr word new) 0 (λ e. n (omega arith))
 
     pub marked-word : Marked m (λ t. (t / 64 ≡ w) × (bitOf new (t % 64) ≡ 1)) more
-    marked-word = record { only = only; stays = stays; same = length-set m (w + 1) (bitOr word new); all = λ t h x. noted (rw (more-there t (x .0)) (new-at t (x .1))) }
+    marked-word = record { only = only; stays = stays; same = length-set m (w + 1) (bitOr word new); all = λ t h x. bit-on (rw (more-there t (x .0)) (new-at t (x .1))) }
       where
         new-at : (t : ℕ) → bitOf new (t % 64) ≡ 1 → bitOf (bitOr word new) (t % 64) ≡ 1
         new-at t x = let o = bit-or word new (t % 64) in let l = bit-lt word (t % 64) in omega arith
@@ -175,16 +204,16 @@ module _ (m : List ℕ) where
 
         only : (t : ℕ) → IsMarked more t → IsMarked m t ⊎ ((t / 64 ≡ w) × (bitOf new (t % 64) ≡ 1))
         only t (shut-out d) = inl (shut-out (rw more-first at d))
-        only t (noted x) =
+        only t (bit-on x) =
             ⊎-elim
-            (λ e. ⊎-elim (λ y. inr (e, y)) (λ n. inl (noted (rw e (one-of t (rw (more-there t e) at x) n)))) (holds-or-not (decides-eq (bitOf new (t % 64)) 1)))
-            (λ n. inl (noted (rw (more-other t n) at x)))
+            (λ e. ⊎-elim (λ y. inr (e, y)) (λ n. inl (bit-on (rw e (one-of t (rw (more-there t e) at x) n)))) (holds-or-not (decides-eq (bitOf new (t % 64)) 1)))
+            (λ n. inl (bit-on (rw (more-other t n) at x)))
             (holds-or-not (decides-eq (t / 64) w))
 
         stays : (t : ℕ) → IsMarked m t → IsMarked more t
         stays t (shut-out d) = shut-out (rw more-first d)
-        stays t (noted x) =
-            ⊎-elim (λ e. noted (rw (more-there t e) (old-at t (rw e at x)))) (λ n. noted (rw (more-other t n) x)) (holds-or-not (decides-eq (t / 64) w))
+        stays t (bit-on x) =
+            ⊎-elim (λ e. bit-on (rw (more-there t e) (old-at t (rw e at x)))) (λ n. bit-on (rw (more-other t n) x)) (holds-or-not (decides-eq (t / 64) w))
 
 -- ---- the words of a range
 module _ (lo hi : ℕ) where
@@ -235,7 +264,7 @@ module _ (s : Strike) where
   pub range-none : (m : List ℕ) → Marked m (Reached s low) m
   range-none m = marked-none m (Reached s low) (λ t x. let y = sub-le low (t / 64) (in-words t (x .in-range) .above) in let z = x .before in omega arith)
 
-  module _ (p w new : ℕ) (f : Pattern 6 (s .lo) (s .hi) p) (c : Chosen p (λ k. w * 64 + k ≡ s .but → ⊥) new) (x : Spans low high w) where
+  module _ (p w new : ℕ) (f : Pattern 6 (s .lo) (s .hi) p) (c : Selected p (λ k. w * 64 + k ≡ s .but → ⊥) new) (x : Spans low high w) where
     -- The new marks of a word are those of its sets in the range.
     word-in : (t : ℕ) → (t / 64 ≡ w) × (bitOf new (t % 64) ≡ 1) → InRange s t
     word-in t e =

@@ -18,7 +18,7 @@ marksIn marks = 64 * (length marks - 1)
 -- The set t is marked: it has an exception of the first word, or its bit is set.
 pub data IsMarked (marks : List ℕ) (t : ℕ) : Type 0 where
   shut-out : (Apart (getD marks 0 0) t → ⊥) → IsMarked marks t
-  noted : bitOf (getD marks (t / 64 + 1) 0) (t % 64) ≡ 1 → IsMarked marks t
+  bit-on : bitOf (getD marks (t / 64 + 1) 0) (t % 64) ≡ 1 → IsMarked marks t
 
 -- The set t lies from lo to hi and is not the one left out.
 pub record InRange (s : Strike) (t : ℕ) : Type 0 where
@@ -44,18 +44,18 @@ pub record Digit (i d : ℕ) : Type 0 where
   pub is : (k : ℕ) → k < 64 → bitOf d k ≡ bitOf k i
 
 -- The digit i of k lies from that of lo to that of hi.
-abbrev pub Fits : ℕ → ℕ → ℕ → ℕ → Type 0
-Fits lo hi k i = (bitOf lo i ≤ bitOf k i) × (bitOf k i ≤ bitOf hi i)
+abbrev pub DigitBetween : ℕ → ℕ → ℕ → ℕ → Type 0
+DigitBetween lo hi k i = (bitOf lo i ≤ bitOf k i) × (bitOf k i ≤ bitOf hi i)
 
 -- Of the numbers below 64 that p has, r has those that P holds of.
-pub record Chosen (p : ℕ) (P : ℕ → Type 0) (r : ℕ) : Type 0 where
+pub record Selected (p : ℕ) (P : ℕ → Type 0) (r : ℕ) : Type 0 where
   pub from : (k : ℕ) → k < 64 → bitOf r k ≡ 1 → (bitOf p k ≡ 1) × P k
   pub all : (k : ℕ) → k < 64 → bitOf p k ≡ 1 → P k → bitOf r k ≡ 1
 
 -- Of the numbers below 64, r has those whose first m digits lie from those of lo to those of hi.
 pub record Pattern (m lo hi r : ℕ) : Type 0 where
-  pub from : (k : ℕ) → k < 64 → bitOf r k ≡ 1 → (i : ℕ) → i < m → Fits lo hi k i
-  pub all : (k : ℕ) → k < 64 → ((i : ℕ) → i < m → Fits lo hi k i) → bitOf r k ≡ 1
+  pub from : (k : ℕ) → k < 64 → bitOf r k ≡ 1 → (i : ℕ) → i < m → DigitBetween lo hi k i
+  pub all : (k : ℕ) → k < 64 → ((i : ℕ) → i < m → DigitBetween lo hi k i) → bitOf r k ≡ 1
 
 -- The word w has sets of the range from lo to hi, words both.
 pub record Spans (lo hi w : ℕ) : Type 0 where

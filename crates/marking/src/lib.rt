@@ -6,7 +6,7 @@ ghost use lib.Bits.{bitOr};
 ghost use lib.ListN.{length, getD, set};
 ghost use Rattle.logic.specs.Tests.{Decides};
 ghost use Rattle.sets.specs.Sets.{Within};
-ghost use Rattle.marking.specs.Marks.{marksIn, IsMarked, InRange, Struck, Marked, Digit, Fits, Chosen, Pattern, Spans, Next, Outranked, WithRank, Surpassed};
+ghost use Rattle.marking.specs.Marks.{marksIn, IsMarked, InRange, Struck, Marked, Digit, DigitBetween, Selected, Pattern, Spans, Next, Outranked, WithRank, Surpassed};
 
 // Which sets to mark: those that have a member of `any`, and those from lo to hi but one.
 pub struct Strike {
@@ -31,9 +31,9 @@ pub fn is_marked(marks: &[u64], t: u64) -> bool
 }
 
 // Of the numbers in p those whose digit i lies from that of lo to that of hi. The word `digit` has the numbers with that digit.
-pub fn narrowed(p: u64, i: u64, digit: u64, lo: u64, hi: u64) -> u64
+pub fn with_digit(p: u64, i: u64, digit: u64, lo: u64, hi: u64) -> u64
     requires { ⌜ (i < 64) × Digit i digit × Within lo hi ⌝ }
-    ensures { λ r. ⌜ Chosen p (λ k. Fits lo hi k i) r ⌝ }
+    ensures { λ r. ⌜ Selected p (λ k. DigitBetween lo hi k i) r ⌝ }
 {
     if (lo >> i) % 2 == 1 {
         return p & digit;
@@ -49,17 +49,17 @@ pub fn pattern(lo: u64, hi: u64) -> u64
     requires { ⌜ Within lo hi ⌝ }
     ensures { λ r. ⌜ Pattern 6 lo hi r ⌝ }
 {
-    let a = narrowed(ALL, 0, 0xaaaa_aaaa_aaaa_aaaa, lo, hi);
-    let b = narrowed(a, 1, 0xcccc_cccc_cccc_cccc, lo, hi);
-    let c = narrowed(b, 2, 0xf0f0_f0f0_f0f0_f0f0, lo, hi);
-    let d = narrowed(c, 3, 0xff00_ff00_ff00_ff00, lo, hi);
-    let e = narrowed(d, 4, 0xffff_0000_ffff_0000, lo, hi);
-    narrowed(e, 5, 0xffff_ffff_0000_0000, lo, hi)
+    let a = with_digit(ALL, 0, 0xaaaa_aaaa_aaaa_aaaa, lo, hi);
+    let b = with_digit(a, 1, 0xcccc_cccc_cccc_cccc, lo, hi);
+    let c = with_digit(b, 2, 0xf0f0_f0f0_f0f0_f0f0, lo, hi);
+    let d = with_digit(c, 3, 0xff00_ff00_ff00_ff00, lo, hi);
+    let e = with_digit(d, 4, 0xffff_0000_ffff_0000, lo, hi);
+    with_digit(e, 5, 0xffff_ffff_0000_0000, lo, hi)
 }
 
 // Of the sets of word w that p has, all but the one left out.
 pub fn but_one(p: u64, but: u64, w: u64) -> u64
-    ensures { λ r. ⌜ Chosen p (λ k. w * 64 + k ≡ but → ⊥) r ⌝ }
+    ensures { λ r. ⌜ Selected p (λ k. w * 64 + k ≡ but → ⊥) r ⌝ }
 {
     if but / 64 != w {
         return p;
@@ -67,7 +67,7 @@ pub fn but_one(p: u64, but: u64, w: u64) -> u64
     p ^ (p & (1 << (but % 64)))
 }
 
-// Adds the sets of a word to the marks there. The result is how many are newly marked.
+// Sets bits of a word of marks. The result is how many are newly set.
 pub fn mark_word(marks: &mut [u64], w: usize, new: u64) -> u64
     requires { ⌜ w < length (now marks) ⌝ }
     ensures { λ _. ⌜ now (marks .exit) ≡ set (now (marks .entry)) w (bitOr (getD (now (marks .entry)) w 0) new) ⌝ }
@@ -91,7 +91,7 @@ pub fn next_word(lo: usize, hi: usize, w: usize, end: usize) -> usize
     (u & hi) | lo
 }
 
-// Marks the sets from lo to hi but one, word by word. The result is how many are newly marked.
+// Marks the sets from lo to hi but one, word by word. The result is how many bits are newly set.
 pub fn mark_range(marks: &mut [u64], s: Strike) -> u64
     requires { ⌜ (0 < length (now marks)) × Within (s .lo) (s .hi) ⌝ }
     ensures { λ _. ⌜ Marked (now (marks .entry)) (InRange s) (now (marks .exit)) ⌝ }
@@ -110,7 +110,7 @@ pub fn mark_range(marks: &mut [u64], s: Strike) -> u64
     count
 }
 
-// Marks every set that is one to mark. The result is how many sets of the range are newly marked.
+// Marks every set that is one to mark. The result is how many bits of the range are newly set: also of sets that the first word marks already.
 pub fn mark(marks: &mut [u64], s: Strike) -> u64
     requires { ⌜ 0 < length (now marks) ⌝ }
     ensures { λ _. ⌜ Marked (now (marks .entry)) (Struck s) (now (marks .exit)) ⌝ }

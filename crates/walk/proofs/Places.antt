@@ -39,7 +39,7 @@ subset-earlier a b f n =
     ⊎-elim (λ l. fewer l) (λ l. smaller (omega arith) (omega arith)) (lt-or-le (sizeTo 64 a) (sizeTo 64 b))
 
 -- A pair with an earlier set comes before.
-earlier-before : (p q : Pair) → Earlier (p .taken) (q .taken) → Before p q
+pub earlier-before : (p q : Pair) → Earlier (p .taken) (q .taken) → Before p q
 earlier-before p q (fewer l) = order.fewer l
 earlier-before p q (smaller e l) = order.smaller e l
 

@@ -2,7 +2,7 @@
 ghost use mathlib.Core.Path.{_≡_};
 ghost use mathlib.Core.Bool.{true, false};
 ghost use mathlib.Core.Logic.{_⊎_};
-ghost use Prim.Native.Nat.{_*_, _^_, _<_, _≤_};
+ghost use Prim.Native.Nat.{_+_, _*_, _/_, _^_, _<_, _≤_};
 ghost use lib.ListN.{length};
 ghost use Rattle.logic.specs.Tests.{Decides};
 ghost use Rattle.book.specs.Limits.{exceptions};
@@ -492,8 +492,15 @@ const FEW: usize = 6;
 
 const MANY: usize = 12;
 
-// The page, with no more marks cleared than a book of so many exceptions may need: one word, 64 words or as many as the limit asks for, and one before
-// them.
+// The words of marks for the sets of x exceptions, and the one before them.
+fn words_for(x: usize) -> usize
+    requires { ⌜ (6 ≤ x) × (x ≤ exceptions) ⌝ }
+    ensures { λ r. ⌜ r ≡ 2 ^ x / 64 + 1 ⌝ }
+{
+    (1 << x) / 64 + 1
+}
+
+// The page, with marks for the book's own sets. They are cut from one of three arrays, of which the smallest that has them all is cleared.
 pub fn page(
     words: &[u64],
     ranks: &[u64],
@@ -508,13 +515,44 @@ pub fn page(
     ensures { λ r. ⌜ Paged (now (words .entry)) (now (ranks .entry)) root task x after (now (out .entry)) (now (out .exit)) r ⌝ }
 {
     if x <= FEW {
-        let mut marks = [0u64; 2];
-        return page_with(words, ranks, index, root, x, task, after, &mut marks, out);
+        let mut marks = [0u64; (1 << FEW) / 64 + 1];
+        return page_with(
+            words,
+            ranks,
+            index,
+            root,
+            x,
+            task,
+            after,
+            &mut marks[..2],
+            out,
+        );
     }
+    let k = words_for(x);
     if x <= MANY {
-        let mut marks = [0u64; 65];
-        return page_with(words, ranks, index, root, x, task, after, &mut marks, out);
+        let mut marks = [0u64; (1 << MANY) / 64 + 1];
+        return page_with(
+            words,
+            ranks,
+            index,
+            root,
+            x,
+            task,
+            after,
+            &mut marks[..k],
+            out,
+        );
     }
     let mut marks = [0u64; Book::SETS / 64 + 1];
-    page_with(words, ranks, index, root, x, task, after, &mut marks, out)
+    page_with(
+        words,
+        ranks,
+        index,
+        root,
+        x,
+        task,
+        after,
+        &mut marks[..k],
+        out,
+    )
 }

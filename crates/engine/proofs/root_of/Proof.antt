@@ -5,10 +5,10 @@ use Rattle.engine.proofs.root_of.Statement.{statement}
 use Rattle.engine.proofs.root_of.Tie as tie
 
 add-n : tie.Need-add-n
-add-n c = let p = plain-in _ (c .before .pre .0) in let x = exceptions-in _ (c .before .pre .0) in let s = c .before .pre .0 .statements in search needs
+add-n c = let p = plain-in _ (c .before .before .pre .0) in let x = exceptions-in _ (c .before .before .pre .0) in let s = c .before .before .pre .0 .statements in search needs
 
 root-requires : tie.Need-root-requires
-root-requires c κs = let p = plain-in _ (c .before .pre .0) in let x = exceptions-in _ (c .before .pre .0) in let s = c .before .pre .0 .statements in search needs
+root-requires c κs = let p = plain-in _ (c .before .before .pre .0) in let x = exceptions-in _ (c .before .before .pre .0) in let s = c .before .before .pre .0 .statements in search needs
 
 all-requires : tie.Need-all-requires
 all-requires c κs = search needs
@@ -17,8 +17,7 @@ propagate-requires : tie.Need-propagate-requires
 propagate-requires c κs = let p = plain-in _ (c .before .before .before .before .before .pre .0) in let x = exceptions-in _ (c .before .before .before .before .before .pre .0) in let s = c .before .before .before .before .before .pre .0 .statements in search needs
 
 returns : tie.Need-returns
-returns c = root-is _ _ _ _ _ (c .before .before .before .before .before .root .ensures) (c .before .propagate .ensures)
+returns c = root-is _ _ _ _ _ (c .before .before .before .before .root .ensures) (c .before .propagate .ensures)
 
 pub root-of-spec : {M : Type 1} → statement M
-root-of-spec =
-    tie.close (tie.spec add-n root-requires all-requires propagate-requires returns)
+root-of-spec = tie.close (tie.spec add-n root-requires all-requires propagate-requires returns)

@@ -1,5 +1,5 @@
 use Rattle.book.proofs.Counts.{plain-in, exceptions-in}
-use Rattle.engine.proofs.Prepared.{verdict-is}
+use Rattle.engine.proofs.Prepared.{own-short, own-verdict, verdict-is}
 use borrow.Author.Needs.{needs}
 use Rattle.engine.proofs.verdict_in.Statement.{statement}
 use Rattle.engine.proofs.verdict_in.Tie as tie
@@ -10,15 +10,18 @@ add-n c = let p = plain-in _ (c .before .pre) in let x = exceptions-in _ (c .bef
 fill-requires : tie.Need-fill-requires
 fill-requires c κs = let p = plain-in _ (c .before .before .before .pre) in let x = exceptions-in _ (c .before .before .before .pre) in let s = c .before .before .before .pre .statements in search needs
 
+own-requires : tie.Need-own-requires
+own-requires c κs = let x = exceptions-in _ (c .before .before .before .before .before .pre) in search needs
+
 root-of-requires : tie.Need-root-of-requires
-root-of-requires c κs = let p = plain-in _ (c .before .before .before .before .before .pre) in let x = exceptions-in _ (c .before .before .before .before .before .pre) in let s = c .before .before .before .before .before .pre .statements in search needs
+root-of-requires c κs = (c .before .before .before .before .before .before .before .pre, own-short _ _ _ (c .before .own .ensures) (c .before .before .before .before .before .before .before .pre) (search needs), c .before .before .before .fill .ensures)
 
 verdict-requires : tie.Need-verdict-requires
-verdict-requires c κs = let p = plain-in _ (c .before .before .before .before .before .before .before .before .before .pre) in let x = exceptions-in _ (c .before .before .before .before .before .before .before .before .before .pre) in let s = c .before .before .before .before .before .before .before .before .before .pre .statements in search needs
+verdict-requires c κs = let q = own-short _ _ _ (c .before .before .before .before .own .ensures) (c .before .before .before .before .before .before .before .before .before .before .pre) (search needs) in let p = plain-in _ (c .before .before .before .before .before .before .before .before .before .before .pre) in let x = exceptions-in _ (c .before .before .before .before .before .before .before .before .before .before .pre) in (search needs, q, c .before .before .before .before .before .before .fill .ensures)
 
 returns : tie.Need-returns
-returns c = verdict-is _ _ _ _ _ _ (c .before .before .before .before .root-of .ensures) (c .verdict .ensures)
+returns c = own-verdict _ _ _ (c .before .before .before .before .before .own .ensures) (c .before .before .before .before .before .before .before .before .before .before .before .pre) (search needs) _ _ _ (verdict-is _ _ _ _ _ _ (c .before .before .before .root-of .ensures) (c .verdict .ensures))
 
 pub verdict-in-spec : {M : Type 1} → statement M
 verdict-in-spec =
-    tie.close (tie.spec add-n fill-requires root-of-requires verdict-requires returns)
+    tie.close (tie.spec add-n fill-requires own-requires root-of-requires verdict-requires returns)
