@@ -1,10 +1,10 @@
 -- "A point noted before the change goes on to the same resolutions" (document 02, (c)). Any table of sets that meets document 01's rule gives the one
--- order of pairs: `all-later-by`. So the table of 4,096 sets and that of 65,536 list a book of at most 12 exceptions alike, `noted-point`, and the
--- engine hands out that list, `goes-on`. Such a book keeps document 01's limits, `keeps-limits`.
-use mathlib.Core.Path.{_≡_, sym, _∙_}
+-- order of pairs: `all-later-by`. So the table of 4,096 sets and that of 65,536 list a book of at most 12 exceptions alike, `noted-point`; the engine
+-- hands out that list, `goes-on`, in lines of the same bytes, `keeps-fields`. Such a book keeps document 01's limits, `keeps-limits`.
+use mathlib.Core.Path.{_≡_, sym, ap, _∙_}
 use mathlib.Core.List.{List, [], _∷_}
 use mathlib.Core.Logic.{_↔_}
-use Prim.Native.Nat.{ℕ, _^_, _<_, _≤_}
+use Prim.Native.Nat.{ℕ, _+_, _^_, _<_, _≤_}
 use native.Mathlib.Omega.{arith}
 use lib.IntN.{ℤ}
 use lib.ListN.{length, take, replicate}
@@ -21,6 +21,7 @@ use Rattle.book.proofs.Counts.{plain-in, preferences-in}
 use Rattle.text.specs.Reading.{readText}
 use Rattle.text.specs.Reading.Outcome.{accepted}
 use Rattle.text.specs.Accepted.{Accepted}
+use Rattle.text.specs.ALines.{aLine}
 use Rattle.text.proofs.Facts.{accepted-facts, text-length}
 use Rattle.order.specs.Order.{Earlier, fewer as fewer-set, smaller as smaller-set, Ordered}
 use Rattle.order.specs.Formula.{placeOf, setAt}
@@ -33,26 +34,24 @@ use Rattle.meaning.specs.Listings.{goOn, listing}
 use Rattle.meaning.proofs.Meant.{exceptions-count}
 use Rattle.meaning.proofs.Pages.{page-is}
 use Rattle.meaning.proofs.Sorted.{all-later}
-use Rattle.answers.specs.Operations.{asks}
+use Rattle.answers.specs.Operations.{lineIn, asks}
 use Rattle.answers.proofs.Listed.{handed-page}
 use Rattle.bridge.specs.Ranks.{Names}
 use Rattle.bridge.proofs.Rows.{rows-named}
-use Rattle.line.proofs.PutLaws.{line-54}
+use Rattle.line.proofs.PutLaws.{fields-short, line-54}
+use Rattle.walk.proofs.Places.{earlier-before}
 use Rattle.operations.proofs.Loading.{lawful-rows}
-use Rattle.promises.specs.Noted.{BeforeBy, earlier, differs as differs-by, LaterBy, AscendingBy, AllLaterBy, KeepsLimits}
+use Rattle.promises.specs.Noted.{BeforeBy, earlier, differs as differs-by, LaterBy, AscendingBy, AllLaterBy, exceptionsBefore, KeepsLimits}
 
 -- ---- two pairs
 -- Pairs with different sets stand in the order of their sets.
-earlier-before : (p q : Pair) → Earlier (p .taken) (q .taken) → Before p q
-earlier-before p q (fewer-set l) = fewer l
-earlier-before p q (smaller-set e l) = smaller e l
-
 before-earlier : (p q : Pair) → (p .taken ≡ q .taken → ⊥) → Before p q → Earlier (p .taken) (q .taken)
 before-earlier p q n (fewer l) = fewer-set l
 before-earlier p q n (smaller e l) = smaller-set e l
 before-earlier p q n (differs e i h s l) = absurd (n e)
 
--- The order of pairs with different sets is that of their places in the order of the sets of w exceptions, for every w that has both.
+-- The order of pairs with different sets is that of their places in the order of the sets of w exceptions, for every w that has both: document 01's
+-- rule and the engine's formula for places are one order.
 module _ (w : ℕ) (small : w ≤ 64) (p q : Pair) (hp : p .taken < 2 ^ w) (hq : q .taken < 2 ^ w) where
   pub place-before : (p .taken ≡ q .taken → ⊥) → Before p q ↔ (placeOf w (p .taken) < placeOf w (q .taken))
   place-before n =
@@ -63,7 +62,8 @@ module _ (w : ℕ) (small : w ≤ 64) (p q : Pair) (hp : p .taken < 2 ^ w) (hq :
         λ l. earlier-before p q (rw (x .1, y .1) at (rule .rises (placeOf w (p .taken)) (placeOf w (q .taken)) l (y .0))),
       )
 
--- So two sets stand in one order, whatever the number of exceptions.
+-- So two sets stand in one order, whatever the number of exceptions: by the engine's formula the places of sets of 12 exceptions keep their order
+-- among those of 16.
 pub places-agree : (w v : ℕ) → w ≤ 64 → v ≤ 64 → (s t : ℕ) → s < 2 ^ w → t < 2 ^ w → s < 2 ^ v → t < 2 ^ v → (placeOf w s < placeOf w t) ↔ (placeOf v s < placeOf v t)
 places-agree w v hw hv s t sw tw sv tv = (go w v hw hv sw tw sv tv, go v w hv hw sv tv sw tw)
   where
@@ -133,28 +133,45 @@ module _ (w : ℕ) (f : ℕ → ℕ) (rule : Ordered w f) where
       },
     )
 
+    -- There is such a list.
+    pub some-later-by : (from : Point) → LawfulPoint b from → (ps : List Pair) × AllLaterBy w f b from ps
+    some-later-by from h = let a = all-later b from h in (a .0, all-later-by from h (a .0) .1 (a .1))
+
 -- ---- before the change and after it
 -- In a book of at most 12 exceptions the resolutions later than a point are listed alike by any table of the sets of 12 and any of the sets of 16.
-pub noted-point : (old new : ℕ → ℕ) → Ordered limit.shortLine old → Ordered limit.exceptions new → (b : Book) → length (b .exceptions) ≤ limit.shortLine
-    → (from : Point) → LawfulPoint b from → (ps : List Pair) → AllLaterBy limit.shortLine old b from ps ↔ AllLaterBy limit.exceptions new b from ps
+pub noted-point : (old new : ℕ → ℕ) → Ordered exceptionsBefore old → Ordered limit.exceptions new → (b : Book) → length (b .exceptions) ≤ exceptionsBefore
+    → (from : Point) → LawfulPoint b from → (ps : List Pair) → AllLaterBy exceptionsBefore old b from ps ↔ AllLaterBy limit.exceptions new b from ps
 noted-point old new ro rn b few from h ps =
-    let x = all-later-by limit.shortLine old ro b few from h ps in
+    let x = all-later-by exceptionsBefore old ro b few from h ps in
     let y = all-later-by limit.exceptions new rn b (omega arith) from h ps in
     (λ a. y .1 (x .0 a), λ a. x .1 (y .0 a))
 
-module _ (bs : List ℕ) (s : Shape) (ws : List ℤ) (e : readText bs ≡ accepted s ws) (few : s .exceptions ≤ limit.shortLine) where
+module _ (bs : List ℕ) (s : Shape) (ws : List ℤ) (e : readText bs ≡ accepted s ws) (few : s .exceptions ≤ exceptionsBefore) where
   facts : Accepted s ws
   facts = accepted-facts bs s ws e
 
-  -- From a point in such a book the calls that go on hand out the later resolutions in document 01's order, each once, and nothing after them.
-  pub goes-on : (old : ℕ → ℕ) → Ordered limit.shortLine old → (from : Point) → LawfulPoint (bookOf s ws) from
-      → (ps : List Pair) × AllLaterBy limit.shortLine old (bookOf s ws) from ps × ((k : ℕ) → listing (asks bs) (replicate k (goOn 0)) from ≡ take k ps)
-  goes-on old rule from h =
-      let a = all-later (bookOf s ws) from h in (
-        a .0,
-        all-later-by limit.shortLine old rule (bookOf s ws) (rw (exceptions-count s ws) few) from h (a .0) .1 (a .1),
-        λ k. sym (handed-page bs s ws e k from h) ∙ page-is (bookOf s ws) k from (a .0) h (a .1),
-      )
+  few-exceptions : length (bookOf s ws .exceptions) ≤ exceptionsBefore
+  few-exceptions = rw (exceptions-count s ws) few
+
+  -- Document 01's list of the resolutions later than a point in such a book, by any table that meets its rule: there is one, and the calls that go
+  -- on from the point hand out this list and nothing else, each resolution once and nothing after the last.
+  module _ (old : ℕ → ℕ) (rule : Ordered exceptionsBefore old) (from : Point) (lawful : LawfulPoint (bookOf s ws) from) where
+    pub old-list : (ps : List Pair) × AllLaterBy exceptionsBefore old (bookOf s ws) from ps
+    old-list = some-later-by exceptionsBefore old rule (bookOf s ws) few-exceptions from lawful
+
+    pub goes-on : (ps : List Pair) → AllLaterBy exceptionsBefore old (bookOf s ws) from ps → (k : ℕ) → listing (asks bs) (replicate k (goOn 0)) from ≡ take k ps
+    goes-on ps a k =
+        let later = all-later-by exceptionsBefore old rule (bookOf s ws) few-exceptions from lawful ps .0 a in
+        sym (handed-page bs s ws e k from lawful) ∙ page-is (bookOf s ws) k from ps lawful later
+
+  -- The lines of such a book have document 01's 12 fields for exceptions: Line's bytes are those of document 01, 54 + n of them.
+  pub keeps-fields : (p : Pair) → lineIn (bookOf s ws) p ≡ aLine 12 (s .statements) p
+  unfolding bookOf
+  keeps-fields p = ap (λ w. aLine w (s .statements) p) (fields-short (length (bookOf s ws .exceptions)) few-exceptions)
+
+  pub keeps-length : (p : Pair) → length (lineIn (bookOf s ws) p) ≡ 54 + s .statements
+  unfolding bookOf
+  keeps-length p = line-54 (length (bookOf s ws .exceptions)) (s .statements) p few-exceptions
 
   -- ---- document 01's limits
   few-bytes : textBytes s ≤ 8392
@@ -165,7 +182,7 @@ module _ (bs : List ℕ) (s : Shape) (ws : List ℤ) (e : readText bs ≡ accept
   unfolding sumTo countAt allCounts countsOf kind kinds rowOnce pick
   few-rows = omega (arith, plain-in s (facts .limits), preferences-in s (facts .limits))
 
-  names-few : (i : ℕ) → Names (length (bookOf s ws .exceptions)) i → Names limit.shortLine i
+  names-few : (i : ℕ) → Names (length (bookOf s ws .exceptions)) i → Names exceptionsBefore i
   names-few i n = record { from-one = n .from-one; most = omega (arith, n .most, exceptions-count s ws) }
 
   -- A text that is accepted now and has no more X lines than document 01 allows keeps all its limits.
@@ -173,7 +190,10 @@ module _ (bs : List ℕ) (s : Shape) (ws : List ℤ) (e : readText bs ≡ accept
   unfolding bookOf
   keeps-limits = record {
     text = omega (arith, text-length bs s ws e, few-bytes);
+    statements = (facts .limits .some-statement, facts .limits .statements);
+    plain = plain-in s (facts .limits);
+    exceptions = few;
+    preferences = preferences-in s (facts .limits);
     total = few-rows;
-    preferences = every-map (λ (l : ℕ × ℕ) n. (names-few (l .0) (n .0), names-few (l .1) (n .1))) (bookOf s ws .preferences) (rows-named s ws (lawful-rows s ws facts));
-    line = λ p. line-54 (length (bookOf s ws .exceptions)) (s .statements) p (rw (exceptions-count s ws) few);
+    named = every-map (λ (l : ℕ × ℕ) n. (names-few (l .0) (n .0), names-few (l .1) (n .1))) (bookOf s ws .preferences) (rows-named s ws (lawful-rows s ws facts));
   }

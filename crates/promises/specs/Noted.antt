@@ -1,6 +1,8 @@
 -- What was noted before request (c) of document 02, and the books of that time: the order of pairs as document 01 lays it down, by a table of the
--- sets of taken exceptions, and document 01's limits.
-use Prim.Native.Nat.{ℕ, _+_, _^_, _<_, _≤_}
+-- sets of taken exceptions, and document 01's limits. A text was accepted before if document 01 accepts it. That such a text is accepted now, with
+-- the same book, rests on the limits having only grown (each range and limit of document 01 lies within that of document 02); it is not stated as a
+-- theorem here. What is proved is that a text accepted now with at most 12 X lines keeps every limit of document 01.
+use Prim.Native.Nat.{ℕ, _^_, _<_, _≤_}
 use mathlib.Core.Path.{_≡_}
 use mathlib.Core.List.{List, [], _∷_}
 use lib.IntN.{ℤ}
@@ -8,13 +10,11 @@ use lib.ListN.{length}
 use Rattle.logic.specs.Lists.{Every, Among}
 use Rattle.sets.specs.declared.Pair.{Pair}
 use Rattle.book.specs.declared.Shape.{Shape}
-use Rattle.book.specs.Limits as limit
 use Rattle.book.specs.Counts.{total as rowsIn}
 use Rattle.meaning.specs.Books.{Book}
 use Rattle.meaning.specs.Meant.{bookOf}
 use Rattle.meaning.specs.Order.{value, Point, start, at}
 use Rattle.meaning.specs.Resolutions.{Resolution}
-use Rattle.answers.specs.Operations.{lineIn}
 use Rattle.bridge.specs.Ranks.{Names}
 
 -- ---- by a table f of the sets of w exceptions, which has 2^w places
@@ -41,10 +41,17 @@ pub record AllLaterBy (w : ℕ) (f : ℕ → ℕ) (b : Book) (from : Point) (ps 
   pub ascending : AscendingBy w f ps
 
 -- ---- the limits of document 01
--- A text and its book keep the limits of document 01: the bytes of the text, the number of Z, the fields of the P lines; and the lines of Line
--- have the bytes that document 01 gives them.
+-- The most X lines before request (c).
+abbrev pub exceptionsBefore : ℕ
+exceptionsBefore = 12
+
+-- A text and its book keep the limits of document 01: the bytes of the text; n; how many R, X and P lines there are, and all of them together, as Z
+-- says; and the exceptions that the P lines name.
 pub record KeepsLimits (bs : List ℕ) (s : Shape) (ws : List ℤ) : Type 0 where
   pub text : length bs ≤ 8392
+  pub statements : (0 < s .statements) × (s .statements ≤ 48)
+  pub plain : s .plain ≤ 200
+  pub exceptions : s .exceptions ≤ exceptionsBefore
+  pub preferences : s .preferences ≤ 32
   pub total : rowsIn s ≤ 244
-  pub preferences : Every (λ (l : ℕ × ℕ). Names limit.shortLine (l .0) × Names limit.shortLine (l .1)) (bookOf s ws .preferences)
-  pub line : (p : Pair) → length (lineIn (bookOf s ws) p) ≡ 54 + s .statements
+  pub named : Every (λ (l : ℕ × ℕ). Names exceptionsBefore (l .0) × Names exceptionsBefore (l .1)) (bookOf s ws .preferences)
