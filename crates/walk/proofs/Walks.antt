@@ -248,21 +248,21 @@ clear-right : (b : Book) (m : List ℕ) → Clear m → RightMarks b m
 clear-right b m c = record { right = λ t x. absurd (c .none t x) }
 
 module _ (ws ranks : List ℕ) (root : Bounds) (q : Task) (wide : ℕ) (small : wide ≤ exceptions) (m : List ℕ) (c : Clear m) (o : List ℕ) where
-  pub first-walked : (a : Bool) → not a ≡ true → 2 ^ wide ≤ marksIn m → (o′ : List ℕ) (r : ℕ) → Walked ws ranks root q wide 0 true 0 m o o′ r → Paged ws ranks root q wide a o o′ r
+  pub first-walked : (a : Bool) → a ≡ false → 2 ^ wide ≤ marksIn m → (o′ : List ℕ) (r : ℕ) → Walked ws ranks root q wide 0 true 0 m o o′ r → Paged ws ranks root q wide a o o′ r
   unfolding beginning
-  first-walked a n h o′ r w = rw (not-true a n) record {
+  first-walked a n h o′ r w = rw n record {
     page = λ b s few l. w .whole b meaning.start s few (clear-right b m c) (λ e. ready-none ws (q .rules) ranks root wide small m c h) tt (record { later = λ i d l p e. tt }) o [] (none-yet wide small b meaning.start) (page-none (q .room) 0 o);
   }
 
-  module _ (a : Bool) (n : not a ≡ false) (j : ℕ) (h : j < 2 ^ wide) (e : setAt wide j ≡ q .point .taken) where
+  module _ (j : ℕ) (h : j < 2 ^ wide) (e : setAt wide j ≡ q .point .taken) where
     -- Nothing that stands before the point's place is later than the point.
     not-later : (b : Book) → Part b (meaning.at (q .point)) (Passed wide j) []
     not-later b = part-none b (meaning.at (q .point)) (Passed wide j) (λ p r l s. before-irreflexive p (before-transitive p (q .point) p (at-or-past wide small j j (le-refl j) h p (q .point) s e) l))
 
     pub after-walked : (m′ : List ℕ) (o′ o″ : List ℕ) (r r′ : ℕ) → SetListed ws ranks root q (q .point .taken) true false 0 m m′ o o′ r
-        → Walked ws ranks root q wide (j + 1) false r m′ o′ o″ r′ → Paged ws ranks root q wide a o o″ r′
+        → Walked ws ranks root q wide (j + 1) false r m′ o′ o″ r′ → Paged ws ranks root q wide true o o″ r′
     unfolding beginning
-    after-walked m′ o′ o″ r r′ s w = rw (not-false a n) record {
+    after-walked m′ o′ o″ r r′ s w = record {
       page = λ b x few l.
           let from : Point = meaning.at (q .point) in
           let d = s .part b from x (clear-right b m c) (λ f. absurd (clash f)) (record { within = λ f. (refl, l, refl); before = λ f. absurd (clash (sym f)) }) in
@@ -272,7 +272,7 @@ module _ (ws ranks : List ℕ) (root : Bounds) (q : Task) (wide : ℕ) (small : 
     }
 
     -- A look at the point's own set tells that no resolution has it.
-    pub after-past : RuledOut root m (q .point .taken) → (o′ : List ℕ) (r : ℕ) → Walked ws ranks root q wide (j + 1) false 0 m o o′ r → Paged ws ranks root q wide a o o′ r
+    pub after-past : RuledOut root m (q .point .taken) → (o′ : List ℕ) (r : ℕ) → Walked ws ranks root q wide (j + 1) false 0 m o o′ r → Paged ws ranks root q wide true o o′ r
     after-past f o′ r w =
         after-walked m o o′ 0 r
         (set-refused ws ranks root q (q .point .taken) true false 0 m m false (admits-ruled-out ws (q .rules) ranks root (q .point .taken) false m f) o refl (omega arith)) w

@@ -401,8 +401,72 @@ pub fn walk(
     f.at
 }
 
-// The page of the first resolutions of a book of at most x exceptions, whose views are within root; where `after` is true, of the first later than the
-// task's point. Nothing is marked yet.
+// The page of the first resolutions later than the task's point, in a book of at most x exceptions whose views are within root: those with the point's own
+// set, unless a look is enough, then those with later ones. Nothing is marked yet.
+pub fn after_with(
+    words: &[u64],
+    ranks: &[u64],
+    index: &Index,
+    root: Bounds,
+    x: usize,
+    task: Task,
+    filled: Filled,
+    marks: &mut [u64],
+    store: &mut [u64],
+    out: &mut [u64],
+) -> usize
+    requires { ⌜ Fits (now words) (now ranks) (now out) task (filled .at) × (x ≤ exceptions) × (task .point .taken < 2 ^ x) × (2 ^ x ≤ marksIn (now marks)) × Clear (now marks) × Chains (now words) (task .rules) (now index) × (most * 3 ≤ length (now store)) × (filled .at ≡ 0) ⌝ }
+    ensures { λ r. ⌜ Paged (now (words .entry)) (now (ranks .entry)) root task x true (now (out .entry)) (now (out .exit)) r ⌝ }
+{
+    let t = task.point.taken;
+    let next = order::place_of(x, t) + 1;
+    if ruled_out(root, marks, t) {
+        return walk(
+            words,
+            ranks,
+            index,
+            root,
+            task,
+            x,
+            next,
+            false,
+            filled,
+            marks,
+            store,
+            out,
+        );
+    }
+    let f = list_set(
+        words,
+        ranks,
+        index,
+        root,
+        task,
+        t,
+        true,
+        false,
+        filled,
+        marks,
+        store,
+        out,
+    );
+    walk(
+        words,
+        ranks,
+        index,
+        root,
+        task,
+        x,
+        next,
+        false,
+        f,
+        marks,
+        store,
+        out,
+    )
+}
+
+// The page of the first resolutions; where `after` is true, of the first later than the task's point. Nothing is marked yet.
 pub fn page_with(
     words: &[u64],
     ranks: &[u64],
@@ -418,59 +482,25 @@ pub fn page_with(
     ensures { λ r. ⌜ Paged (now (words .entry)) (now (ranks .entry)) root task x after (now (out .entry)) (now (out .exit)) r ⌝ }
 {
     let mut store = [0u64; few::MOST * 3];
-    let t = task.point.taken;
     let filled = Filled {
         at: 0,
         credit: CREDIT,
         doubt: 0,
     };
-    if !after {
-        return walk(
+    if after {
+        return after_with(
             words,
             ranks,
             index,
             root,
-            task,
             x,
-            0,
-            true,
+            task,
             filled,
             marks,
             &mut store,
             out,
         );
     }
-    let next = order::place_of(x, t) + 1;
-    if ruled_out(root, marks, t) {
-        return walk(
-            words,
-            ranks,
-            index,
-            root,
-            task,
-            x,
-            next,
-            false,
-            filled,
-            marks,
-            &mut store,
-            out,
-        );
-    }
-    let f = list_set(
-        words,
-        ranks,
-        index,
-        root,
-        task,
-        t,
-        true,
-        false,
-        filled,
-        marks,
-        &mut store,
-        out,
-    );
     walk(
         words,
         ranks,
@@ -478,9 +508,9 @@ pub fn page_with(
         root,
         task,
         x,
-        next,
-        false,
-        f,
+        0,
+        true,
+        filled,
         marks,
         &mut store,
         out,

@@ -1,19 +1,15 @@
-use native.Mathlib.Nat.{lt-of-lt-of-le}
-use native.Mathlib.Omega.{arith}
-use lib.Pow.{pow-mono}
-use Rattle.few.specs.Few.{most}
-use Rattle.few.proofs.Gathering.{store-again}
-use Rattle.walk.proofs.Places.{place-there}
-use Rattle.walk.proofs.Walks.{fits-again, first-walked, after-walked, after-past}
+use mathlib.Core.Path.{_≡_}
+use mathlib.Core.Bool.{true}
+use Rattle.walk.proofs.Walks.{first-walked}
 use borrow.Author.Needs.{needs}
 use Rattle.walk.proofs.page_with.Statement.{statement}
 use Rattle.walk.proofs.page_with.Tie as tie
 
-slice-aggregate-walk : tie.Need-slice-aggregate-walk
-slice-aggregate-walk c = search needs
+slice-aggregate-after-with : tie.Need-slice-aggregate-after-with
+slice-aggregate-after-with c = search needs
 
-walk-requires : tie.Need-walk-requires
-walk-requires c κs = search needs
+after-with-requires : tie.Need-after-with-requires
+after-with-requires c κs = search needs
 
 same-length : tie.Need-same-length
 same-length c = search needs
@@ -22,22 +18,13 @@ same-length-2 : tie.Need-same-length-2
 same-length-2 c = search needs
 
 returns : tie.Need-returns
-returns c = first-walked _ _ _ _ _ (c .before .before .before .before .before .before .before .before .before .before .before .before .before .before .pre .1) _ (c .before .before .before .before .before .before .before .before .before .before .before .before .before .before .pre .4) _ _ (search needs) (c .before .before .before .before .before .before .before .before .before .before .before .before .before .before .pre .3) _ _ (c .before .before .before .before .before .walk .ensures)
+returns c = let e : c .before .before .before .before .before .before .before .before .before .before .before .before .before .before .args .after ≡ true = search needs in rw e (c .before .before .before .before .before .after-with .ensures)
 
-place-of-requires : tie.Need-place-of-requires
-place-of-requires c κs = search needs
+slice-aggregate-walk : tie.Need-slice-aggregate-walk
+slice-aggregate-walk c = search needs
 
-add-next : tie.Need-add-next
-add-next c = let b = lt-of-lt-of-le (place-there _ (c .before .before .before .before .before .before .pre .1) _ _ (c .before .before .before .before .before .before .pre .2) (c .place-of .ensures) .0) (pow-mono (c .before .before .before .before .before .before .pre .1)) in record { fits = omega (arith, b) }
-
-ruled-out-requires : tie.Need-ruled-out-requires
-ruled-out-requires c κs = search needs
-
-slice-aggregate-walk-2 : tie.Need-slice-aggregate-walk-2
-slice-aggregate-walk-2 c = search needs
-
-walk-requires-2 : tie.Need-walk-requires-2
-walk-requires-2 c κs = (c .before .before .before .before .before .before .before .before .before .before .before .before .pre .0, c .before .before .before .before .before .before .before .before .before .before .before .before .pre .1, (let h = place-there _ (c .before .before .before .before .before .before .before .before .before .before .before .before .pre .1) _ _ (c .before .before .before .before .before .before .before .before .before .before .before .before .pre .2) (c .before .before .before .before .before .before .place-of .ensures) in omega (arith, h .0)), c .before .before .before .before .before .before .before .before .before .before .before .before .pre .3, c .before .before .before .before .before .before .before .before .before .before .before .before .pre .5, search needs)
+walk-requires : tie.Need-walk-requires
+walk-requires c κs = search needs
 
 same-length-3 : tie.Need-same-length-3
 same-length-3 c = search needs
@@ -46,50 +33,19 @@ same-length-4 : tie.Need-same-length-4
 same-length-4 c = search needs
 
 returns-2 : tie.Need-returns-2
-returns-2 c = let h = place-there _ (c .before .before .before .before .before .before .before .before .before .before .before .before .before .before .before .before .before .before .pre .1) _ _ (c .before .before .before .before .before .before .before .before .before .before .before .before .before .before .before .before .before .before .pre .2) (c .before .before .before .before .before .before .before .before .before .before .before .before .place-of .ensures) in after-past _ _ _ _ _ (c .before .before .before .before .before .before .before .before .before .before .before .before .before .before .before .before .before .before .pre .1) _ (c .before .before .before .before .before .before .before .before .before .before .before .before .before .before .before .before .before .before .pre .4) _ _ (search needs) _ (h .0) (h .1) (c .before .before .before .before .before .before .before .before .before .before .ruled-out .ensures .yes (search needs)) _ _ (c .before .before .before .before .before .walk2 .ensures)
-
-slice-aggregate-list-set : tie.Need-slice-aggregate-list-set
-slice-aggregate-list-set c = search needs
-
-list-set-requires : tie.Need-list-set-requires
-list-set-requires c κs = search needs
-
-slice-aggregate-walk-3 : tie.Need-slice-aggregate-walk-3
-slice-aggregate-walk-3 c = search needs
-
-walk-requires-3 : tie.Need-walk-requires-3
-walk-requires-3 c κs = let k = c .before .before .before .before .before .before .before .before .list-set .kept .1 .1 .1 .1 .1 .1 .1 .1 .1 in (fits-again _ _ _ _ _ _ _ (c .before .before .before .before .before .before .before .before .before .before .before .before .before .before .before .before .before .before .before .before .before .pre .0) (k .1 .1 .0) (c .before .before .before .before .before .before .before .before .list-set .ensures .most), c .before .before .before .before .before .before .before .before .before .before .before .before .before .before .before .before .before .before .before .before .before .pre .1, (let h = place-there _ (c .before .before .before .before .before .before .before .before .before .before .before .before .before .before .before .before .before .before .before .before .before .pre .1) _ _ (c .before .before .before .before .before .before .before .before .before .before .before .before .before .before .before .before .before .before .before .before .before .pre .2) (c .before .before .before .before .before .before .before .before .before .before .before .before .before .before .before .place-of .ensures) .0 in omega arith), rw (k .0) (c .before .before .before .before .before .before .before .before .before .before .before .before .before .before .before .before .before .before .before .before .before .pre .3), c .before .before .before .before .before .before .before .before .before .before .before .before .before .before .before .before .before .before .before .before .before .pre .5, store-again most _ _ (search needs) (k .1 .0))
-
-same-length-5 : tie.Need-same-length-5
-same-length-5 c = search needs
-
-same-length-6 : tie.Need-same-length-6
-same-length-6 c = search needs
-
-returns-3 : tie.Need-returns-3
-returns-3 c = let h = place-there _ (c .before .before .before .before .before .before .before .before .before .before .before .before .before .before .before .before .before .before .before .before .before .before .before .before .before .before .before .pre .1) _ _ (c .before .before .before .before .before .before .before .before .before .before .before .before .before .before .before .before .before .before .before .before .before .before .before .before .before .before .before .pre .2) (c .before .before .before .before .before .before .before .before .before .before .before .before .before .before .before .before .before .before .before .before .before .place-of .ensures) in after-walked _ _ _ _ _ (c .before .before .before .before .before .before .before .before .before .before .before .before .before .before .before .before .before .before .before .before .before .before .before .before .before .before .before .pre .1) _ (c .before .before .before .before .before .before .before .before .before .before .before .before .before .before .before .before .before .before .before .before .before .before .before .before .before .before .before .pre .4) _ _ (search needs) _ (h .0) (h .1) _ _ _ _ _ (c .before .before .before .before .before .before .before .before .before .before .before .before .before .before .list-set .ensures) (c .before .before .before .before .before .walk3 .ensures)
+returns-2 c = first-walked _ _ _ _ _ (c .before .before .before .before .before .before .before .before .before .before .before .before .before .before .pre .1) _ (c .before .before .before .before .before .before .before .before .before .before .before .before .before .before .pre .4) _ _ (search needs) (c .before .before .before .before .before .before .before .before .before .before .before .before .before .before .pre .3) _ _ (c .before .before .before .before .before .walk .ensures)
 
 pub page-with-spec : {M : Type 1} → statement M
 page-with-spec =
     tie.close
     (tie.spec
-    slice-aggregate-walk
-    walk-requires
+    slice-aggregate-after-with
+    after-with-requires
     same-length
     same-length-2
     returns
-    place-of-requires
-    add-next
-    ruled-out-requires
-    slice-aggregate-walk-2
-    walk-requires-2
+    slice-aggregate-walk
+    walk-requires
     same-length-3
     same-length-4
-    returns-2
-    slice-aggregate-list-set
-    list-set-requires
-    slice-aggregate-walk-3
-    walk-requires-3
-    same-length-5
-    same-length-6
-    returns-3)
+    returns-2)
