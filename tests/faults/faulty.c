@@ -24,7 +24,7 @@
 #undef bantameasel_page_after
 
 enum { MOST_TEXT = BANTAMEASEL_MOST_TEXT, MOST_TABLE = BANTAMEASEL_MOST_TABLE, ROW = 9 };
-enum { MOST_LINE = BANTAMEASEL_MOST_LINE };
+enum { MOST_LINE = BANTAMEASEL_MOST_LINE, SIXTEEN = BANTAMEASEL_MOST_EXCEPTIONS };
 
 /* The limits before there were sixteen exceptions. */
 enum { TWELVE = 12, SHORTER_TEXT = 8392 };
@@ -126,6 +126,8 @@ static void change_pair_refusal(uint32_t *number, bantameasel_pair pair) {
     if (fault("13 comes before 12") && *number == 12 && ((pair.held | pair.denied) >> 48) != 0) *number = 13;
     if (fault("14 is not looked for") && *number == 14) *number = 0;
     if (fault("12 applies past the twelfth exception") && *number == 0 && pair.taken >> TWELVE != 0) *number = 12;
+    if (fault("12 applies only past the sixteenth exception") && *number == 12 && pair.taken >> SIXTEEN == 0)
+        *number = 0;
 }
 
 /* ---- the operations */
