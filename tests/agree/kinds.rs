@@ -34,6 +34,11 @@ pub fn small_book(random: &mut Random, kind: usize) -> Book {
         random.pick(&[1, 2, 3, 3, 4, 4, 4, 5, 5, 6, 7])
     };
     let room = (0..=EXCEPTIONS).rev().find(|room| 3u64.pow(statements as u32) << room <= most_sets).unwrap_or(0);
+    book_of_kind(random, kind, statements, room)
+}
+
+/// A random book of the kind with this number, of so many statements and at most so many exceptions.
+pub fn book_of_kind(random: &mut Random, kind: usize, statements: i32, room: usize) -> Book {
     let mut maker = Maker::new(random, statements, room);
     KINDS[kind].1(&mut maker);
     spice(&mut maker);

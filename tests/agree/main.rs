@@ -26,6 +26,7 @@ mod maker;
 mod meaning;
 mod own;
 mod pairs;
+mod plain;
 mod process;
 mod random;
 mod report;

@@ -1,5 +1,7 @@
-//! What a book means, by trying every set: straight from document 01, for small books.
-//! Nothing here was taken from the engine, and nothing here is fast.
+//! What a small book means. Answer sets, views and ranks are straight from document 01, and every set of conclusions is
+//! tried; but of the exceptions only those are tried that can go with it, and smaller sets and domination are asked by
+//! tables, which rests on reasons given here. plain.rs has none of these, and the two are compared on tiny books.
+//! Nothing here was taken from the engine.
 
 use crate::book::*;
 use std::cmp::Ordering;
@@ -211,7 +213,7 @@ impl Ranked {
     }
 
     /// (S, T) is a view.
-    fn is_view(&self, taken: u64, s: &Conclusions) -> bool {
+    pub fn is_view(&self, taken: u64, s: &Conclusions) -> bool {
         self.unranked(taken) && is_answer_set(&rules_with(&self.book, taken), s) && self.bodies_satisfied(taken, s)
     }
 
@@ -233,8 +235,8 @@ impl Ranked {
         best
     }
 
-    /// The verdict on a lawful pair, given the sets of exceptions that some view has.
-    pub fn verdict(&self, viewed: &Viewed, pair: &Pair) -> u32 {
+    /// The first of the verdicts 1 to 3 that applies to a lawful pair, else 0: the pair is a view.
+    pub fn verdict_alone(&self, pair: &Pair) -> u32 {
         let s = Conclusions { held: pair.held, denied: pair.denied };
         if !is_answer_set(&rules_with(&self.book, pair.taken), &s) {
             1
@@ -242,12 +244,17 @@ impl Ranked {
             2
         } else if !self.bodies_satisfied(pair.taken, &s) {
             3
-        } else if self.dominated(viewed, pair.taken) {
-            4
-        } else if viewed.has_smaller(pair.taken) {
-            5
         } else {
             0
+        }
+    }
+
+    /// The verdict on a lawful pair, given the sets of exceptions that some view has.
+    pub fn verdict(&self, viewed: &Viewed, pair: &Pair) -> u32 {
+        match self.verdict_alone(pair) {
+            0 if self.dominated(viewed, pair.taken) => 4,
+            0 if viewed.has_smaller(pair.taken) => 5,
+            alone => alone,
         }
     }
 }
@@ -296,7 +303,7 @@ impl Oracle for Meaning {
 }
 
 /// Every set of conclusions over the statements that never has both +i and -i.
-fn consistent_sets(statements: i32) -> Vec<Conclusions> {
+pub fn consistent_sets(statements: i32) -> Vec<Conclusions> {
     let mut sets = vec![Conclusions::NONE];
     for statement in 1..=statements {
         for place in 0..sets.len() {

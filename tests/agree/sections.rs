@@ -5,7 +5,7 @@ use crate::book::{Book, Pair, TEXT};
 use crate::clingo::Clingo;
 use crate::compare::{Checker, Difference, Known, Outcome};
 use crate::damage;
-use crate::kinds::{small_book, KINDS};
+use crate::kinds::{book_of_kind, small_book, KINDS};
 use crate::known::known_book;
 use crate::large;
 use crate::library::{compare_book, compare_small, judge_all, Outcomes};
@@ -13,6 +13,7 @@ use crate::listing::Walked;
 use crate::loops;
 use crate::meaning::{Meaning, Oracle};
 use crate::own;
+use crate::plain;
 use crate::process::{allow_seconds, MOST_SECONDS};
 use crate::random::Random;
 use crate::report;
@@ -31,6 +32,8 @@ const STEP: usize = 30_011;
 /// How many books or texts each section takes; 0 leaves the section out.
 #[derive(Clone, Copy, Default)]
 pub struct Counts {
+    pub plain_tiny: u64,
+    pub plain_small: u64,
     pub tiny: u64,
     pub small: u64,
     pub wide: u64,
@@ -49,6 +52,8 @@ impl Counts {
     /// The gate's first part: the library against brute force, and damage.
     pub fn gate_library() -> Counts {
         Counts {
+            plain_tiny: u64::MAX,
+            plain_small: 3_000,
             tiny: 5_000,
             small: 9_000,
             wide: 105,
@@ -77,6 +82,8 @@ impl Counts {
     pub fn library(count: u64) -> Counts {
         let part = |of: u64| (count / of).max(1);
         Counts {
+            plain_tiny: count,
+            plain_small: count,
             tiny: count,
             small: count,
             wide: part(50).max(30),
@@ -171,7 +178,9 @@ impl Run {
         println!("agree, seed {}", self.seed);
         self.section("own code against document 01", 1, Run::own_code)?;
         self.section("small books K1 to K14 and two of source document 000", counts.small.min(1), Run::named_books)?;
-        let tiny = counts.tiny.min(self.tiny.len() as u64);
+        let [plain_tiny, tiny] = [counts.plain_tiny, counts.tiny].map(|count| count.min(self.tiny.len() as u64));
+        self.section("two readings of books of one statement, two R and one X", plain_tiny, Run::plain_tiny)?;
+        self.section("two readings of random books of three statements, six X", counts.plain_small, Run::plain_small)?;
         self.section("books of one statement, two R and one X", tiny, Run::tiny)?;
         self.section("random small books", counts.small, Run::small)?;
         self.section("random small books of 12 to 16 exceptions", counts.wide, Run::wide_books)?;
@@ -231,9 +240,27 @@ impl Run {
         Ok(())
     }
 
-    /// One book of one statement; as many places as there are such books meet each of them once.
+    /// The two readings of one book of one statement.
+    fn plain_tiny(&mut self, _: &mut Random, place: u64) -> Outcome {
+        let book = self.tiny_book(place);
+        plain::compare(book).map_err(at_text(&text_of(book)))
+    }
+
+    /// The two readings of one random tiny book.
+    fn plain_small(&mut self, random: &mut Random, place: u64) -> Outcome {
+        let statements = random.between(1, plain::MOST_STATEMENTS);
+        let book = book_of_kind(random, place as usize % KINDS.len(), statements, plain::MOST_EXCEPTIONS);
+        plain::compare(&book).map_err(at_text(&text_of(&book)))
+    }
+
+    /// The book of one statement with this place; as many places as there are such books meet each of them once.
+    fn tiny_book(&self, place: u64) -> &Book {
+        &self.tiny[place as usize * STEP % self.tiny.len()]
+    }
+
+    /// One book of one statement, every operation that it needs.
     fn tiny(&mut self, _: &mut Random, place: u64) -> Outcome {
-        let book = &self.tiny[place as usize * STEP % self.tiny.len()];
+        let book = &self.tiny_book(place).clone();
         let meaning = Meaning::of(book);
         self.outcomes[KINDS.len() + 1].count(book, meaning.resolutions());
         tiny::compare(&mut self.checker, book, &meaning)
