@@ -50,7 +50,7 @@ examples:
 	  count=$$((count + 1)); \
 	done; \
 	echo "examples: $$count books print what is stored"
-	tests/books_page target/bin/ways docs/BOOKS.md
+	tests/books_page target/bin/ways docs/BOOKS.md examples
 	tests/symptoms target/bin/ways docs/BOOKS.md examples
 
 # A listing is whole, or cut off and not closed, whatever reads and writes do.
