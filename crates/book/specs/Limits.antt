@@ -1,4 +1,5 @@
--- The limits of a book (document 01, 'A book and its lines'; document 02, (c)). Nothing else in the definitions repeats these numbers.
+-- The limits of a book (document 01, 'A book and its lines'; document 02, (c)). Nothing else in the definitions repeats these numbers, except that
+-- promises/specs/Noted has those of document 01, which stand still.
 use Prim.Native.Nat.{ℕ}
 
 -- The most statements, n.
