@@ -18,10 +18,11 @@ use Rattle.book.specs.Kinds.{kinds, kind, unknown, fieldsOf, bytes, none, excep
 use Rattle.text.specs.declared.State.{State}
 use Rattle.text.specs.declared.Field.{Field}
 use Rattle.text.specs.declared.Field.the-variants.{Value, Misspelt}
-use Rattle.text.specs.Fields.{columns, signed, same, misspelling, readColumns, spelt, firstField}
+use Rattle.text.specs.Fields.{Misspells, is-stray, is-gapped, is-zeroed, firstField}
 use Rattle.text.specs.Lines.{Numbers, numbers, fault, andThen, inside, testField, readFields, headless, missing, miscounted, wholeOf, Line, line, wrong, unless, judged, readRest, readKind, kindFor, readLine, lines, toFirst}
 use Rattle.text.specs.Reading.{Outcome, prepend, onLine, readEnd, readLines, step, rowOf, start, lastByte, readText, shapeOf}
 use Rattle.text.specs.Reading.Outcome.{accepted, refused}
+use Rattle.text.proofs.Spelling.{misspelt-iff}
 use Rattle.meaning.specs.Books.{Book, past-exceptions, past-statements, shared}
 use Rattle.meaning.specs.Meant.{bookOf}
 use Rattle.meaning.specs.Order.{Point}
@@ -64,13 +65,18 @@ abbrev Spelt : Field → Type 0
 Spelt (Value v) = Unit {0}
 Spelt (Misspelt q) = Fault q
 
-columns-spelt : (neg : Bool) (m : ℕ) (bs : List ℕ) → Spelt (readColumns neg m bs)
-unfolding readColumns
-columns-spelt neg m bs = either-way Spelt (same (columns neg m) bs) (Value (signed neg m)) (Misspelt misspelling) tt (record { low = omega arith; high = omega arith })
+spelling-fault : (bs : List ℕ) (q : ℕ) → Misspells bs q → Fault q
+spelling-fault bs q (is-stray e) = record { low = omega arith; high = omega arith }
+spelling-fault bs q (is-gapped e f) = record { low = omega arith; high = omega arith }
+spelling-fault bs q (is-zeroed e f g) = record { low = omega arith; high = omega arith }
 
 first-spelt : (bs : List ℕ) → Spelt (firstField bs)
-unfolding firstField spelt
-first-spelt bs = columns-spelt _ _ _
+unfolding firstField
+first-spelt bs = go (firstField bs) refl
+  where
+    go : (f : Field) → firstField bs ≡ f → Spelt f
+    go (Value v) e = tt
+    go (Misspelt q) e = spelling-fault _ q (misspelt-iff (getD bs 0 0) (getD bs 1 0) (getD bs 2 0) (getD bs 3 0) q .0 e)
 
 field-faulted : (f : Field) (r : Range) (ns : Numbers) → Spelt f → Fault (r .fault) → Faulted ns → Faulted (testField f r ns)
 unfolding testField

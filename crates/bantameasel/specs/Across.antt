@@ -18,9 +18,9 @@ use Rattle.bantameasel.specs.declared.Amount.{Amount}
 use Rattle.bantameasel.specs.declared.VerdictAnswer.{VerdictAnswer}
 use Rattle.bantameasel.specs.declared.PairAnswer.{PairAnswer}
 
--- The version as one number, 100 for each whole version and 1 for each part of one: 2.1.
+-- The version as one number, 100 for each whole version and 1 for each part of one: 2.2.
 abbrev pub versionNumber : ℕ
-versionNumber = 201
+versionNumber = 202
 
 -- The pair beside an answer that has none.
 unfoldable pub noPair : Pair

@@ -57,8 +57,8 @@ pub struct PairAnswer {
     pub pair: Pair,
 }
 
-// The version as one number, 100 for each whole version and 1 for each part of one: 2.1. include/bantameasel.h and people.mk have it too.
-const VERSION: u32 = 201;
+// The version as one number, 100 for each whole version and 1 for each part of one: 2.2. include/bantameasel.h and people.mk have it too.
+const VERSION: u32 = 202;
 
 // What stands in the place of counts to come.
 const RESERVED: [u64; 4] = [0; 4];

@@ -132,9 +132,12 @@ module _ (a b c d m : ℕ) (neg t : Bool) (em : m ≡ sizeOf a b c d) (en : neg 
   unfolding readColumns pick
   is-spelt v e f = sym (spelt-is ∙ rw (← et, e, f))
 
-  pub is-misspelt : t ≡ false → Misspelt misspelling ≡ spelt a b c d
+  pub not-right : t ≡ false → same (columns (minusIn a b c) (sizeOf a b c d)) (a ∷ b ∷ c ∷ d ∷ []) ≡ false
+  not-right e = rw (← em, ← en, ← et) e
+
+  pub is-misspelt : (q : ℕ) → t ≡ false → q ≡ misspelling (a ∷ b ∷ c ∷ d ∷ []) → Misspelt q ≡ spelt a b c d
   unfolding readColumns pick
-  is-misspelt e = sym (spelt-is ∙ rw (← et, e))
+  is-misspelt q e f = sym (spelt-is ∙ rw (← et, e, f))
 
 -- ---- ranges
 -- what the machine reads back of a number that fits

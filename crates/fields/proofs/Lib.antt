@@ -1,4 +1,5 @@
 pub mod Columns
+pub mod Misspelt
 pub mod Numbers
 pub mod Puts
 pub mod Filled

@@ -12,6 +12,7 @@ use mir.Facts.{toZ-ofZ, toZ-pos}
 use borrow.Author.Needs.{sfits-of}
 use borrow.Author.Tests.{ltb-true}
 use Rattle.logic.specs.Tests.{both, either, pick}
+use Rattle.logic.proofs.Tests.{or-either}
 use Rattle.book.specs.declared.Content.{Content}
 use Rattle.book.specs.declared.Content.the-variants.{Edition, Statements, Literal, Exception, Total}
 use Rattle.book.specs.Limits as limit
@@ -113,11 +114,6 @@ module _ (v : ℤ) (m : ℕ) (h : m < 2147483648) (s : SFits w32 v) where
   count-here e f = rw (ge-le v (pos m) (rw (toZ-pos w32 {n = m} (omega arith), toZ-ofZ s) at e), ← is-at-most f)
 
 -- ---- what a number says beside its range
-or-is : (a b : Bool) → a || b ≡ either a b
-unfolding either
-or-is true b = refl
-or-is false b = refl
-
 module _ (s : Seen) (c : Content) (m n : ℕ) (v : ℤ) (f : SFits w32 v) where
   pub see-statements : (r : ℕ) → c ≡ Statements → r ≡ toNat (back v) → record { statements = r; missing = s .missing; miscounted = s .miscounted } ≡ seeOf s c m n v
   unfolding seeOf
@@ -125,11 +121,11 @@ module _ (s : Seen) (c : Content) (m n : ℕ) (v : ℤ) (f : SFits w32 v) where
 
   pub see-exception : (r : Bool) → c ≡ Exception → r ≡ leZ (back v) (pos m) → record { statements = s .statements; missing = s .missing || not r; miscounted = s .miscounted } ≡ seeOf s c m n v
   unfolding seeOf
-  see-exception r e g = rw (e, g, toZ-ofZ f, or-is (s .missing) (not (leZ v (pos m))))
+  see-exception r e g = rw (e, g, toZ-ofZ f, or-either (s .missing) (not (leZ v (pos m))))
 
   pub see-total : (r : Bool) → c ≡ Total → r ≡ between (pos n) (pos n) (back v) → record { statements = s .statements; missing = s .missing; miscounted = s .miscounted || not r } ≡ seeOf s c m n v
   unfolding seeOf
-  see-total r e g = rw (e, g, toZ-ofZ f, or-is (s .miscounted) (not (between (pos n) (pos n) v)))
+  see-total r e g = rw (e, g, toZ-ofZ f, or-either (s .miscounted) (not (between (pos n) (pos n) v)))
 
   pub see-edition : c ≡ Edition → s ≡ seeOf s c m n v
   unfolding seeOf

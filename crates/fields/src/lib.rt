@@ -1,17 +1,20 @@
 // Fields: four columns read and written, and the number of a field against what its content allows.
 ghost use mathlib.Core.Path.{_≡_};
+ghost use mathlib.Core.Bool.{false};
 ghost use mathlib.Core.List.{[], _∷_};
 ghost use Prim.Native.Nat.{_+_, _*_, _<_, _≤_};
 ghost use lib.IntN.{pos};
 ghost use lib.ListN.{length, getD, drop, take};
 ghost use lib.Seq.{sets};
 ghost use lib.Signed.{leZ};
+ghost use Rattle.logic.specs.Tests.{both};
 ghost use Rattle.book.specs.Kinds.{rangeOf};
-ghost use Rattle.text.specs.Fields.{digitOf, columnOf, columns, minusIn, signed, sizeOf, same, spelt, firstField, written, writtenAll};
+ghost use Rattle.text.specs.Fields.{digitOf, columnOf, columns, minusIn, signed, sizeOf, same, spelt, firstField, written, writtenAll, Short};
+ghost use Rattle.text.specs.Fields.{isSpace, isDigit, strayByte, stray, gapped, misspelling as misspellingOf};
 ghost use Rattle.text.specs.Lines.{between, filledIn, headless};
 ghost use Rattle.text.specs.Reading.{toNat};
 ghost use Rattle.fields.specs.Checks.{numberIs, range, seeOf};
-ghost use Rattle.fields.specs.Short.{isShort, allShort};
+ghost use Rattle.fields.specs.Short.{allShort};
 use book::Book;
 use book::Content;
 use book::Kind;
@@ -99,6 +102,68 @@ pub fn columns_are(neg: bool, m: u32, a: u8, b: u8, c: u8, d: u8) -> bool
     column(neg, m, 1) == d
 }
 
+// ---- four columns misspelt
+
+// A byte is a digit.
+pub fn is_digit(b: u8) -> bool
+    ensures { λ r. ⌜ r ≡ isDigit b ⌝ }
+{
+    (b'0' <= b) & (b <= b'9')
+}
+
+// A byte, between its neighbours, is no space, digit or minus, or is a minus out of its place.
+pub fn is_stray(before: u8, b: u8, after: u8) -> bool
+    ensures { λ r. ⌜ r ≡ strayByte before b after ⌝ }
+{
+    if b == b'-' {
+        return is_digit(before) | !is_digit(after);
+    }
+    if b == b' ' {
+        return false;
+    }
+    !is_digit(b)
+}
+
+// Some column has such a byte: 5.
+pub fn has_stray(a: u8, b: u8, c: u8, d: u8) -> bool
+    ensures { λ r. ⌜ r ≡ stray (a ∷ b ∷ c ∷ d ∷ []) ⌝ }
+{
+    is_stray(0, a, b) | (is_stray(a, b, c) | (is_stray(b, c, d) | is_stray(c, d, 0)))
+}
+
+// A byte is a space directly after a digit.
+pub fn is_gap(before: u8, b: u8) -> bool
+    ensures { λ r. ⌜ r ≡ both (isDigit before) (isSpace b) ⌝ }
+{
+    is_digit(before) & (b == b' ')
+}
+
+// The columns are blank, or a space follows a digit: 17.
+pub fn has_gap(a: u8, b: u8, c: u8, d: u8) -> bool
+    ensures { λ r. ⌜ r ≡ gapped (a ∷ b ∷ c ∷ d ∷ []) ⌝ }
+{
+    let blank = (a == b' ') & ((b == b' ') & ((c == b' ') & (d == b' ')));
+    blank | (is_gap(a, b) | (is_gap(b, c) | is_gap(c, d)))
+}
+
+// The refusal of columns that are misspelt: 5, 17, and for all that is left 18.
+pub fn misspelling(a: u8, b: u8, c: u8, d: u8) -> u32
+    requires { ⌜ same (columns (minusIn a b c) (sizeOf a b c d)) (a ∷ b ∷ c ∷ d ∷ []) ≡ false ⌝ }
+    ensures { λ r. ⌜ r ≡ misspellingOf (a ∷ b ∷ c ∷ d ∷ []) ⌝ }
+{
+    let stray = has_stray(a, b, c, d);
+    let gap = has_gap(a, b, c, d);
+    if stray {
+        return 5;
+    }
+    if gap {
+        return 17;
+    }
+    18
+}
+
+// ---- a field
+
 // What four columns are.
 pub fn spell(a: u8, b: u8, c: u8, d: u8) -> Field
     ensures { λ r. ⌜ r ≡ spelt a b c d ⌝ }
@@ -108,7 +173,7 @@ pub fn spell(a: u8, b: u8, c: u8, d: u8) -> Field
     if columns_are(neg, m, a, b, c, d) {
         return Field::Value(to_signed(neg, m));
     }
-    Field::Misspelt(5)
+    Field::Misspelt(misspelling(a, b, c, d))
 }
 
 // The field that starts at a place of the text.
@@ -275,7 +340,7 @@ pub fn put_columns(buf: &mut [u8], at: usize, neg: bool, m: u32)
 
 // The field of a number at a place of a buffer.
 pub fn put_number(buf: &mut [u8], at: usize, v: i32)
-    requires { ⌜ isShort v × (at + 4 ≤ length (now buf)) ⌝ }
+    requires { ⌜ Short v × (at + 4 ≤ length (now buf)) ⌝ }
     ensures { λ r. ⌜ now (buf .exit) ≡ sets (now (buf .entry)) at (written v) ⌝ }
 {
     if v < 0 {

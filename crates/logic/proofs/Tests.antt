@@ -1,13 +1,13 @@
 -- Tests that compute: both of two, the first so many numbers, a test of each number below a bound or of each pair of such numbers.
 -- A test of all, computed once, gives the fact at each: by induction on the bound.
 use mathlib.Core.Path.{_≡_, refl}
-use mathlib.Core.Bool.{Bool, true, false, not}
+use mathlib.Core.Bool.{Bool, true, false, not, _&&_, _||_}
 use Prim.Native.Nat.{ℕ, zero, suc, _<_}
 use native.Mathlib.Nat.{not-suc-le-zero}
 use native.Mathlib.Omega.{arith}
 use lib.Dec.{eqb}
 use borrow.Author.Tests.{eqb-true, eqb-false}
-use Rattle.logic.specs.Tests.{both}
+use Rattle.logic.specs.Tests.{both, either}
 use Rattle.logic.proofs.Decide.{clash}
 
 pub both-left : (a b : Bool) → both a b ≡ true → a ≡ true
@@ -19,6 +19,22 @@ pub both-right : (a b : Bool) → both a b ≡ true → b ≡ true
 unfolding both
 both-right true b e = e
 both-right false b e = absurd (clash e)
+
+pub either-true : (b : Bool) → either b true ≡ true
+unfolding either
+either-true true = refl
+either-true false = refl
+
+-- The program's operators on tests are these.
+pub and-both : (a b : Bool) → a && b ≡ both a b
+unfolding both
+and-both true b = refl
+and-both false b = refl
+
+pub or-either : (a b : Bool) → a || b ≡ either a b
+unfolding either
+or-either true b = refl
+or-either false b = refl
 
 -- The same answer, as a test.
 abbrev pub agree : Bool → Bool → Bool

@@ -6,6 +6,7 @@ use lib.Bits.{bitOr, or-disjoint}
 use lib.Dec.{eqb}
 use borrow.Author.Tests.{eqb-true, eq-eqb}
 use Rattle.logic.specs.Tests.{either}
+use Rattle.logic.proofs.Tests.{either-true}
 use Rattle.logic.proofs.Decide.{clash}
 use Rattle.sets.specs.Sets.{member}
 use Rattle.sets.proofs.Words.{member-or, member-single, contained-same, separate-apart, none-and}
@@ -16,11 +17,6 @@ either-false : (b : Bool) → either b false ≡ b
 unfolding either
 either-false true = refl
 either-false false = refl
-
-either-true : (b : Bool) → either b true ≡ true
-unfolding either
-either-true true = refl
-either-true false = refl
 
 -- Numbers with the same place are members alike.
 place-same : (i j a : ℕ) → i - 1 ≡ j - 1 → member i a ≡ member j a

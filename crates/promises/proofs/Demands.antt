@@ -2,7 +2,7 @@
 -- its full answer and what it leaves in each lent slice, and that it ends: `F.statement`, proved as `F.met`. Beside the contracts stand laws about
 -- the definitions that they name, so that a reader need believe no more than those of the documents.
 use mathlib.Core.Path.{_≡_, refl}
-use mathlib.Core.List.{List}
+use mathlib.Core.List.{List, [], _∷_}
 use mathlib.Core.Logic.{_↔_}
 use Prim.Native.Nat.{ℕ, suc, _/_}
 use lib.IntN.{ℤ}
@@ -10,12 +10,15 @@ use lib.ListN.{length, replicate}
 use Rattle.logic.specs.Lists.{Every}
 use Rattle.sets.specs.declared.Pair.{Pair}
 use Rattle.book.specs.declared.Shape.{Shape}
+use Rattle.text.specs.declared.Field.the-variants.{Misspelt}
+use Rattle.text.specs.Fields.{Misspells, WellSpelt, spelt}
 use Rattle.text.specs.Lines.{lines}
 use Rattle.text.specs.Reading.{readText, readInto, tableOf}
 use Rattle.text.specs.Reading.Outcome.{accepted, refused as unread}
 use Rattle.text.specs.Tables.{testTable}
 use Rattle.text.specs.Writing.{textOf, writeInto}
 use Rattle.text.specs.Writing.Text.{noText}
+use Rattle.text.proofs.Spelling.{misspelt-iff, one-misspelling, well-spelt-iff}
 use Rattle.text.proofs.Inverse.{read-write, write-read}
 use Rattle.meaning.specs.Books.{Book, Lawful}
 use Rattle.meaning.specs.Meant.{bookOf}
@@ -64,6 +67,8 @@ use Rattle.bantameasel.proofs.bantameasel_first_page.Statement as first-page-c
 use Rattle.bantameasel.proofs.bantameasel_first_page.Met as first-page-c-met
 use Rattle.bantameasel.proofs.bantameasel_page_after.Statement as page-after-c
 use Rattle.bantameasel.proofs.bantameasel_page_after.Met as page-after-c-met
+use Rattle.promises.specs.Misspelt.{readBefore, toldBefore}
+use Rattle.promises.proofs.Misspelt.{where-five-stood}
 
 -- Every operation that users call, in the engine and for C: its contract, on every input. Of First and After there are the contracts and that of
 -- the function which makes any list of calls through them (`engine.Claim`); of `ways` those of the functions that leave what it writes, and that
@@ -89,12 +94,17 @@ pub record Contracts (M : Type 1) : Type 2 where
 
 -- Demand 1. Every operation ends on every input, turns down what is faulty by the number and line of the documents, and then leaves every lent
 -- buffer untouched: the contracts, in whose definitions a refused Read, Write, Line or page leaves the slice that it was lent. A text is never
--- refused with number 0, nor with a line past the one after its last.
+-- refused with number 0, nor with a line past the one after its last. Four columns are refused as misspelt exactly by the one of 5, 17 and 18 that
+-- they meet, which is never two of them; they are well spelt exactly where they meet none; and the three stand where 5 stood.
 pub record DemandOne : Type 1 where
   pub read-untouched : (l : List ℤ) (q at′ : ℕ) → readInto l (unread q at′) ≡ l
   pub write-untouched : (l : List ℕ) (q at′ : ℕ) → writeInto l (noText q at′) ≡ l
   pub left-untouched : (A : Type 0) (f : A → List ℕ) (l : List ℕ) (q at′ : ℕ) → left f l (turned q at′) ≡ l
   pub numbered : (bs : List ℕ) → Known (suc (length (lines bs))) (readText bs)
+  pub misspelt : (a b c d q : ℕ) → (spelt a b c d ≡ Misspelt q) ↔ Misspells (a ∷ b ∷ c ∷ d ∷ []) q
+  pub misspelt-once : (bs : List ℕ) (q r : ℕ) → Misspells bs q → Misspells bs r → q ≡ r
+  pub well-spelt : (a b c d : ℕ) → WellSpelt (a ∷ b ∷ c ∷ d ∷ []) ↔ ((q : ℕ) → Misspells (a ∷ b ∷ c ∷ d ∷ []) q → ⊥)
+  pub as-before : (bs : List ℕ) → readBefore bs ≡ toldBefore (readText bs)
 
 -- Demand 2. A book is accepted, read and written as the documents lay it out, reading and writing being inverse: the contracts of Read and Write,
 -- and the first two laws. The verdict on any pair is the one that follows from answer sets, views, domination and minimality: the contracts of
@@ -151,7 +161,16 @@ demands = record {
     page-after-c-meets = page-after-c-met.met;
     line-c-meets = line-c-met.met;
   };
-  one = record { read-untouched = λ l q at′. refl; write-untouched = λ l q at′. refl; left-untouched = λ A f l q at′. refl; numbered = text-known };
+  one = record {
+    read-untouched = λ l q at′. refl;
+    write-untouched = λ l q at′. refl;
+    left-untouched = λ A f l q at′. refl;
+    numbered = text-known;
+    misspelt = misspelt-iff;
+    misspelt-once = one-misspelling;
+    well-spelt = well-spelt-iff;
+    as-before = where-five-stood;
+  };
   two = record {
     read-back = read-write;
     write-back = write-read;

@@ -228,7 +228,7 @@ pub fn lengths() {
     later_lengths();
 }
 
-// 5 and 7 on the first line: each field from the left is tested to its end.
+// 5, 17, 18 and 7 on the first line: each field from the left is tested to its end.
 pub fn editions() {
     field(1, 1, b"  01");
     field(1, 1, b"\t  1");
@@ -243,22 +243,17 @@ pub fn editions() {
     fields(1, 1, b"   x  49");
 }
 
-// 5, a field misspelt: each way, in a line in the middle.
-pub fn spelling() {
-    field(6, 5, b"    ");
+// 5, a byte that is no space, digit or minus, or a minus out of its place: each way, in a line in the middle.
+pub fn strays() {
     field(6, 5, b"  +1");
-    field(6, 5, b"  01");
-    field(6, 5, b"0000");
-    field(6, 5, b"  -0");
-    field(6, 5, b" -01");
-    field(6, 5, b"1   ");
-    field(6, 5, b"  1 ");
-    field(6, 5, b" 1 1");
     field(6, 5, b" - 1");
     field(6, 5, b"   -");
+    field(6, 5, b"-  1");
     field(6, 5, b" --1");
     field(6, 5, b"  1-");
     field(6, 5, b" 1-1");
+    field(6, 5, b"1- 1");
+    field(6, 5, b"-   ");
     field(6, 5, b"\t  1");
     field(6, 5, b"  \x001");
     field(6, 5, b"  \xb21");
@@ -266,16 +261,49 @@ pub fn spelling() {
     field(6, 5, b" 0x1");
     field(6, 5, b"   /");
     field(6, 5, b"   :");
+    field(6, 5, b"1 1x");
+    field(6, 5, b"01 x");
+    field(6, 5, b"0 -x");
+    fields(6, 5, b"   -   1");
 }
 
-// 5 on the lines around.
+// 17, a blank field or a space after a digit.
+pub fn gaps() {
+    field(6, 5, b"    ");
+    field(6, 5, b"1   ");
+    field(6, 5, b"  1 ");
+    field(6, 5, b" 1 1");
+    field(6, 5, b"1 -1");
+    field(6, 5, b"01 1");
+    field(6, 5, b"0  0");
+    field(6, 5, b" -0 ");
+    field(6, 5, b"-01 ");
+    fields(6, 5, b"   4    ");
+}
+
+// 18, a leading zero or "-0".
+pub fn zeros() {
+    field(6, 5, b"  01");
+    field(6, 5, b"0000");
+    field(6, 5, b"  00");
+    field(6, 5, b"  -0");
+    field(6, 5, b" -01");
+    field(6, 5, b" -00");
+    field(6, 5, b"-001");
+    fields(6, 5, b"  01   x");
+}
+
+// 5, 17 and 18 on the lines around.
 pub fn misspelt() {
     field(2, 1, b"   o");
     field(4, 9, b" - 3");
     field(7, 9, b"   _");
+    field(7, 1, b"0  1");
     field(8, 1, b"  01");
+    field(9, 2, b"3   ");
     field(10, 2, b"  +3");
     field(11, 1, b"  +9");
+    field(11, 1, b"    ");
     field(11, 1, b"0009");
     field(11, 1, b"  -0");
 }

@@ -12,7 +12,9 @@ fn main() {
     lines::letters();
     lines::lengths();
     lines::editions();
-    lines::spelling();
+    lines::strays();
+    lines::gaps();
+    lines::zeros();
     lines::misspelt();
     lines::ranges();
     lines::overs();

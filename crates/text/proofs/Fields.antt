@@ -3,7 +3,7 @@
 use mathlib.Core.Path.{_≡_, refl, _∙_}
 use mathlib.Core.Bool.{Bool, true, false}
 use mathlib.Core.List.{List, [], _∷_, _++_}
-use Prim.Native.Nat.{ℕ, zero, suc, _<_}
+use Prim.Native.Nat.{ℕ, zero, suc}
 use native.Mathlib.Omega.{arith}
 use lib.Dec.{eqb}
 use lib.IntN.{ℤ, pos, negsuc}
@@ -12,7 +12,7 @@ use borrow.Author.Tests.{eqb-true}
 use Rattle.text.specs.declared.Field.{Field}
 use Rattle.text.specs.declared.Field.the-variants.{Value, Misspelt}
 use Rattle.logic.specs.Tests.{both, either, pick}
-use Rattle.text.specs.Fields.{columnOf, columns, written, digitOf, sizeOf, minusIn, signed, same, readColumns, spelt, firstField, misspelling, inColumns}
+use Rattle.text.specs.Fields.{columnOf, columns, written, digitOf, sizeOf, minusIn, signed, same, readColumns, spelt, firstField, misspelling, inColumns, Short}
 use Rattle.logic.proofs.Tests.{both-left, both-right, all, all-at}
 
 pub same-eq : (xs ys : List ℕ) → same xs ys ≡ true → xs ≡ ys
@@ -48,11 +48,6 @@ test-pos = refl
 test-neg : all tripNeg 999 ≡ true
 unfolding firstField columnOf columns inColumns written digitOf sizeOf minusIn signed same readColumns spelt both either pick
 test-neg = refl
-
--- a number of four columns
-unfoldable pub Short : ℤ → Type 0
-Short (pos m) = m < 10000
-Short (negsuc m) = m < 999
 
 is-pos : (x : Field) (v : ℕ) → is (λ z. isPos z v) x ≡ true → x ≡ Value (pos v)
 is-pos (Value (pos m)) v e = rw (eqb-true m v e)
@@ -99,7 +94,7 @@ value-of : (neg : Bool) (m : ℕ) (bs : List ℕ) (v : ℤ) → readColumns neg 
 unfolding readColumns pick
 value-of neg m bs v e = go (same (columns neg m) bs) refl e
   where
-    go : (b : Bool) → same (columns neg m) bs ≡ b → pick b (Value (signed neg m)) (Misspelt misspelling) ≡ Value v → written v ≡ bs
+    go : (b : Bool) → same (columns neg m) bs ≡ b → pick b (Value (signed neg m)) (Misspelt (misspelling bs)) ≡ Value v → written v ≡ bs
     go true p e = let q : signed neg m ≡ v = cc in rw (← q, signed-columns neg m) (same-eq (columns neg m) bs p)
     go false p e = absurd (let z : _≡_ {A = ℕ} 0 1 = cc in omega arith)
 

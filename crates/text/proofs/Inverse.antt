@@ -25,7 +25,7 @@ use Rattle.text.specs.Reading.Outcome.{accepted, refused}
 use Rattle.text.specs.Tables.{Row, layout, cut, rowsOf, testRows, shapeIn, miscount, testTable}
 use Rattle.text.specs.Writing.{firstRow, lastRow, bookRows, rowLines, textOf}
 use Rattle.logic.proofs.Tests.{both-left, both-right}
-use Rattle.text.proofs.Fields.{Short}
+use Rattle.text.specs.Fields.{Short}
 use Rattle.text.proofs.Texts.{run, Writable, rows-read, read-rows, rows-plain, lines-unlines, unlines-lines, last-unlines}
 use Rattle.text.proofs.Layouts.{rows-rising, layout-widths}
 use Rattle.text.proofs.Rows.{few-rows, row-yes}

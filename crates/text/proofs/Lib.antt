@@ -1,4 +1,5 @@
 pub mod Fields
+pub mod Spelling
 pub mod KindFacts
 pub mod Lines
 pub mod Texts

@@ -16,12 +16,12 @@ use Rattle.book.specs.Kinds.{kind, fieldsOf, bytes, none, Range, rangeOf}
 use Rattle.text.specs.declared.Field.{Field}
 use Rattle.text.specs.declared.Field.the-variants.{Value, Misspelt}
 use Rattle.text.specs.declared.State.{State}
-use Rattle.text.specs.Fields.{written, writtenAll, firstField}
+use Rattle.text.specs.Fields.{written, writtenAll, firstField, Short}
 use Rattle.text.specs.Lines.{Numbers, Line, inside, andThen, testField, readFields, wholeOf, unless, judged, readRest, readKind, readLine, lineOf, kindFor}
 use Rattle.text.specs.Lines.Numbers.{numbers, fault}
 use Rattle.text.specs.Lines.Line.{line, wrong}
 use Rattle.text.specs.Tables.{testFields}
-use Rattle.text.proofs.Fields.{Short, read-written, written-read, field-length, drop-field}
+use Rattle.text.proofs.Fields.{read-written, written-read, field-length, drop-field}
 use Rattle.text.proofs.KindFacts.{mayCome, letter-kind, kind-letter, width-is}
 
 -- ---- four bytes and the rest

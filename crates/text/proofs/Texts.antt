@@ -14,14 +14,13 @@ use Rattle.logic.specs.Tests.{both, either, pick}
 use Rattle.book.specs.declared.Shape.{Shape}
 use Rattle.book.specs.Kinds.{kind, none}
 use Rattle.text.specs.declared.State.{State}
-use Rattle.text.specs.Fields.{columnOf, columns, written, writtenAll, inColumns}
+use Rattle.text.specs.Fields.{columnOf, columns, written, writtenAll, inColumns, Short}
 use Rattle.text.specs.Lines.{Line, readLine, lineOf, lines, unlines, toFirst}
 use Rattle.text.specs.Lines.Line.{line, wrong}
 use Rattle.text.specs.Reading.{Outcome, readLines, onLine, prepend, rowOf, step, readEnd, lastByte}
 use Rattle.text.specs.Reading.Outcome.{accepted, refused}
 use Rattle.text.specs.Tables.{Row}
 use Rattle.text.specs.Writing.{rowLines}
-use Rattle.text.proofs.Fields.{Short}
 use Rattle.text.proofs.KindFacts.{letter-plain}
 use Rattle.text.proofs.Lines.{runRow, line-read, read-line}
 

@@ -28,7 +28,7 @@ use Rattle.text.specs.Reading.Outcome.{accepted}
 use Rattle.text.specs.Tables.{Row, layout, cut, rowsOf, testFields, rowFault, testRow, testRows}
 use Rattle.text.specs.Writing.{firstRow, lastRow, bookRows, rowLines, textOf}
 use Rattle.logic.proofs.Tests.{both-left, both-right}
-use Rattle.text.proofs.Fields.{Short}
+use Rattle.text.specs.Fields.{Short}
 use Rattle.text.proofs.KindFacts.{numbers-wide, numbers-fields}
 use Rattle.text.proofs.Lines.{judged-line, fields-tested, first-numbers, fields-length}
 use Rattle.text.proofs.Texts.{Writable, went}

@@ -1,12 +1,14 @@
 -- A field of 4 columns (document 01, 'A book and its lines'): "a whole number right-justified after spaces, no plus sign, no leading
--- zero, no "-0"". Bytes are ASCII: 32 is a space, 45 a minus, 48 to 57 are the digits.
-use Prim.Native.Nat.{ℕ, zero, suc, _+_, _-_, _*_, _/_, _%_, _^_}
-use mathlib.Core.Bool.{Bool, true, false}
+-- zero, no "-0""; and in which of three ways any other field is misspelt (document 02 (d)). Bytes are ASCII: 32 is a space, 45 a minus,
+-- 48 to 57 are the digits.
+use Prim.Native.Nat.{ℕ, zero, suc, _+_, _-_, _*_, _/_, _%_, _^_, _<_}
+use mathlib.Core.Bool.{Bool, true, false, not}
 use mathlib.Core.List.{List, [], _∷_, _++_}
+use mathlib.Core.Path.{_≡_}
 use lib.Dec.{eqb, ltb, leb}
 use lib.IntN.{ℤ, pos, negsuc, negℤ}
 use lib.ListN.{getD}
-use Rattle.logic.specs.Tests.{both, either, pick}
+use Rattle.logic.specs.Tests.{both, either, pick, every}
 use Rattle.text.specs.declared.Field.{Field}
 use Rattle.text.specs.declared.Field.the-variants.{Value, Misspelt}
 
@@ -57,13 +59,75 @@ same [] (y ∷ ys) = false
 same (x ∷ xs) [] = false
 same (x ∷ xs) (y ∷ ys) = both (eqb x y) (same xs ys)
 
--- The refusal of columns that are misspelt.
-abbrev pub misspelling : ℕ
-misspelling = 5
+-- ---- misspelt fields: 5, 17, 18 (document 02 (d))
+-- A byte is a space, a minus, a digit.
+unfoldable pub isSpace : ℕ → Bool
+isSpace b = eqb b 32
 
--- Columns that are how the number of this sign and size is written have that number; all others are misspelt.
+unfoldable pub isMinus : ℕ → Bool
+isMinus b = eqb b 45
+
+unfoldable pub isDigit : ℕ → Bool
+isDigit b = both (leb 48 b) (leb b 57)
+
+-- Some byte passes a test of it between the bytes directly before and directly after it. The byte before the first is given; after the
+-- last there is none: 0, neither space, minus nor digit, stands for it.
+unfoldable pub someFrom : (ℕ → ℕ → ℕ → Bool) → ℕ → List ℕ → Bool
+someFrom f before [] = false
+someFrom f before (b ∷ bs) = either (f before b (getD bs 0 0)) (someFrom f b bs)
+
+-- The same of a field: neighbours are looked for inside of it only.
+unfoldable pub someByte : (ℕ → ℕ → ℕ → Bool) → List ℕ → Bool
+someByte f bs = someFrom f 0 bs
+
+-- 5: "a byte other than space, digit or minus, or a minus directly after a digit or not directly before one".
+unfoldable pub otherByte : ℕ → Bool
+otherByte b = not (either (isSpace b) (either (isDigit b) (isMinus b)))
+
+unfoldable pub strayByte : ℕ → ℕ → ℕ → Bool
+strayByte before b after = either (otherByte b) (both (isMinus b) (either (isDigit before) (not (isDigit after))))
+
+unfoldable pub stray : List ℕ → Bool
+stray bs = someByte strayByte bs
+
+-- 17: "the field is blank or a space follows a digit".
+unfoldable pub spaceAfterDigit : ℕ → ℕ → ℕ → Bool
+spaceAfterDigit before b after = both (isDigit before) (isSpace b)
+
+unfoldable pub gapped : List ℕ → Bool
+gapped bs = either (every isSpace bs) (someByte spaceAfterDigit bs)
+
+-- 18: "it has a leading zero or is "-0"". A leading zero: no digit is directly before it, and one is directly after it.
+unfoldable pub leadingZero : ℕ → ℕ → ℕ → Bool
+leadingZero before b after = both (not (isDigit before)) (both (eqb b 48) (isDigit after))
+
+unfoldable pub zeroed : List ℕ → Bool
+zeroed bs = either (someByte leadingZero bs) (same bs (32 ∷ 32 ∷ 45 ∷ 48 ∷ []))
+
+-- The refusal of a misspelt field: 5; 17 "when, failing that"; 18 "when, failing both"; 0 where none of the three applies.
+unfoldable pub misspelling : List ℕ → ℕ
+misspelling bs = pick (stray bs) 5 (pick (gapped bs) 17 (pick (zeroed bs) 18 0))
+
+-- The same as propositions: the field meets this refusal.
+pub data Misspells (bs : List ℕ) : ℕ → Type 0 where
+  is-stray : stray bs ≡ true → Misspells bs 5
+  is-gapped : stray bs ≡ false → gapped bs ≡ true → Misspells bs 17
+  is-zeroed : stray bs ≡ false → gapped bs ≡ false → zeroed bs ≡ true → Misspells bs 18
+
+-- ---- a field read
+-- A number that four columns can hold, from -999 to 9999; and a field that is well spelt: how such a number is written.
+unfoldable pub Short : ℤ → Type 0
+Short (pos m) = m < 10000
+Short (negsuc m) = m < 999
+
+pub record WellSpelt (bs : List ℕ) : Type 0 where
+  pub number : ℤ
+  pub short : Short number
+  pub spelling : written number ≡ bs
+
+-- Columns that are how the number of this sign and size is written have that number; all others are misspelt, by the refusal that they meet.
 unfoldable pub readColumns : Bool → ℕ → List ℕ → Field
-readColumns neg m bs = pick (same (columns neg m) bs) (Value (signed neg m)) (Misspelt misspelling)
+readColumns neg m bs = pick (same (columns neg m) bs) (Value (signed neg m)) (Misspelt (misspelling bs))
 
 -- What four columns are: the number that they are how to write, or misspelt.
 unfoldable pub spelt : ℕ → ℕ → ℕ → ℕ → Field

@@ -45,7 +45,7 @@ seek b k (x ∷ xs) = pick (eqb (x .letter) b) k (pick (x .row) (seek b (suc k) 
 unfoldable pub kindFor : ℕ → ℕ → ℕ
 kindFor next b = seek b next (drop next kinds)
 
--- ---- its fields, left to right, each tested 5, 7, 6
+-- ---- its fields, left to right, each tested 5, 17, 18, 7, 6
 -- The number lies from the range's low to its high.
 unfoldable pub between : ℤ → ℤ → ℤ → Bool
 between low high v = both (leZ low v) (leZ v high)
@@ -62,7 +62,8 @@ unfoldable pub andThen : ℤ → Numbers → Numbers
 andThen v (numbers vs) = numbers (v ∷ vs)
 andThen v (fault q) = fault q
 
--- A field, its range, and what the fields after it give: its own refusal if it is misspelt, 5; then the range's, 7 for the edition, else 6.
+-- A field, its range, and what the fields after it give: its own refusal if it is misspelt, 5, 17 or 18; then the range's, 7 for the edition,
+-- else 6.
 unfoldable pub testField : Field → Range → Numbers → Numbers
 testField (Misspelt q) r rest = fault q
 testField (Value v) r rest = pick (inside r v) (andThen v rest) (fault (r .fault))

@@ -23,26 +23,26 @@ use Rattle.book.specs.declared.Shape.{Shape}
 use Rattle.book.specs.Kinds.{kinds, kind, none, first, last, front, bytes, rowOnce, most}
 use Rattle.book.specs.Counts.{countsOf, allCounts, countAt, sumTo, startOf, rowNumbers, textBytes, total, InLimits, measured}
 use Rattle.book.proofs.Counts.{sum-next, sum-all}
-use Rattle.text.specs.Fields.{writtenAll}
+use Rattle.text.specs.Fields.{writtenAll, Short}
 use Rattle.text.specs.Lines.{lineOf, unlines}
 use Rattle.text.specs.Tables.{Row, cut, rowsOf}
 use Rattle.text.specs.Writing.{firstRow, lastRow, bookRows, rowLines, textOf}
 use Rattle.text.proofs.KindFacts.{numbers-fields}
 use Rattle.text.proofs.Lines.{fields-length}
-use Rattle.fields.specs.Short.{isShort, allShort}
+use Rattle.fields.specs.Short.{allShort}
 use Rattle.write.specs.Parts.{linesAt, rowsText}
 use Rattle.write.proofs.TableLaws.{toCome, come-more, come-none, rows-in, start-on, start-first}
 
 -- ---- numbers that four columns hold
-short-zero : isShort (pos 0)
-unfolding isShort
+short-zero : Short (pos 0)
+unfolding Short
 short-zero = omega arith
 
 pub short-part : (t : List ℤ) (from w : ℕ) → allShort t → allShort (take w (drop from t))
 unfolding allShort
 short-part t from w h i = go (ltb i w) refl
   where
-    go : (b : Bool) → ltb i w ≡ b → isShort (getD (take w (drop from t)) i (pos 0))
+    go : (b : Bool) → ltb i w ≡ b → Short (getD (take w (drop from t)) i (pos 0))
     go true e = rw (getD-take w (drop from t) i (pos 0) (ltb-true i w e), getD-drop from t i (pos 0)) (h (from + i))
     go false e = rw (List·getD-eq-default (take w (drop from t)) (pos 0) {n = i} (rw (length-take w (drop from t)) (omega (arith, ltb-false i w e)))) short-zero
 
@@ -259,7 +259,7 @@ unfolding kind kinds
 last-part a = refl
 
 pub first-short : (s : Shape) → InLimits s → allShort (pos 1 ∷ toZ w32 (s .statements) ∷ [])
-unfolding allShort isShort
+unfolding allShort Short
 first-short s l zero = omega arith
 first-short s l (suc zero) = rw (toZ-pos w32 {n = s .statements} (omega (arith, l .statements))) (omega (arith, l .statements))
 first-short s l (suc (suc i)) = omega arith
@@ -272,7 +272,7 @@ pub last-fits : (s : Shape) (n : ℕ) → InLimits s → n ≡ total s → n < 2
 last-fits s n l e = omega (arith, e, rows-few s l)
 
 pub last-short : (s : Shape) (n : ℕ) → InLimits s → n ≡ total s → allShort (toZ w32 n ∷ [])
-unfolding allShort isShort
+unfolding allShort Short
 last-short s n l e zero = rw (toZ-pos w32 {n = n} (omega (arith, e, rows-few s l))) (omega (arith, e, rows-few s l))
 last-short s n l e (suc i) = omega arith
 

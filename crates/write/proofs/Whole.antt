@@ -26,12 +26,12 @@ use Rattle.text.specs.Reading.{Outcome, tableOf, over, readAnswer}
 use Rattle.text.specs.Reading.Outcome.{accepted, refused}
 use Rattle.text.specs.Tables.{layout, cut, rowsOf, testRows, testTable}
 use Rattle.text.specs.Writing.{textOf, lentBytes, writeWith, writeAnswer, writeInto}
-use Rattle.text.proofs.Fields.{Short}
+use Rattle.text.specs.Fields.{Short}
 use Rattle.text.proofs.Texts.{Writable}
 use Rattle.text.proofs.Layouts.{sumBy, widths, layout-widths, rows-rising}
 use Rattle.text.proofs.Written.{rows-writable}
 use Rattle.text.proofs.Inverse.{Table, table-passed}
-use Rattle.fields.specs.Short.{isShort, allShort}
+use Rattle.fields.specs.Short.{allShort}
 use Rattle.write.specs.Promise.{Met}
 use Rattle.write.proofs.PutLaws.{text-bytes}
 
@@ -47,43 +47,38 @@ answer-refused (accepted r ws) x e = absurd (let z : _≡_ {A = ℕ} 0 1 = cc in
 answer-refused (refused q l) x e = let w : x ≡ record { number = q; line = l } = cc in rw w
 
 -- ---- the numbers of an accepted table have four columns
-short-is : (v : ℤ) → Short v → isShort v
-unfolding Short isShort
-short-is (pos m) h = h
-short-is (negsuc m) h = h
-
-short-zero : isShort (pos 0)
-unfolding isShort
+short-zero : Short (pos 0)
+unfolding Short
 short-zero = omega arith
 
-every-short : (vs : List ℤ) → Every Short vs → (i : ℕ) → isShort (getD vs i (pos 0))
+every-short : (vs : List ℤ) → Every Short vs → (i : ℕ) → Short (getD vs i (pos 0))
 every-short [] e i = short-zero
-every-short (v ∷ vs) e zero = short-is v (e .0)
+every-short (v ∷ vs) e zero = e .0
 every-short (v ∷ vs) e (suc i) = every-short vs (e .1) i
 
 -- Rows that can be written have such numbers.
-rows-short : (ks : List ℕ) (ws : List ℤ) → length ws ≡ widths ks → Every Writable (cut ks ws) → (i : ℕ) → isShort (getD ws i (pos 0))
+rows-short : (ks : List ℕ) (ws : List ℤ) → length ws ≡ widths ks → Every Writable (cut ks ws) → (i : ℕ) → Short (getD ws i (pos 0))
 unfolding cut sumBy
 rows-short [] [] l e i = short-zero
 rows-short [] (w ∷ ws) l e i = absurd (omega arith)
 rows-short (k ∷ ks) ws l e i = go (ltb i (kind k .numbers)) refl (rows-short ks (drop (kind k .numbers) ws) (length-drop (kind k .numbers) ws ∙ omega arith) (e .1) (i - kind k .numbers))
   where
-    go : (b : Bool) → ltb i (kind k .numbers) ≡ b → isShort (getD (drop (kind k .numbers) ws) (i - kind k .numbers) (pos 0)) → isShort (getD ws i (pos 0))
+    go : (b : Bool) → ltb i (kind k .numbers) ≡ b → Short (getD (drop (kind k .numbers) ws) (i - kind k .numbers) (pos 0)) → Short (getD ws i (pos 0))
     go true p ih = rw (getD-take (kind k .numbers) ws i (pos 0) (ltb-true i (kind k .numbers) p)) at (every-short (take (kind k .numbers) ws) (e .0 .short) i)
     go false p ih =
         let q : kind k .numbers + (i - kind k .numbers) ≡ i = omega (arith, ltb-false i (kind k .numbers) p) in
         rw (getD-drop (kind k .numbers) ws (i - kind k .numbers) (pos 0), q) at ih
 
-pos-short : (m : ℕ) → m < 1000 → isShort (pos m)
-unfolding isShort
+pos-short : (m : ℕ) → m < 1000 → Short (pos m)
+unfolding Short
 pos-short m h = omega arith
 
-front-short : (l : List ℕ) (ws : List ℤ) → ((i : ℕ) → getD l i 0 < 1000) → ((i : ℕ) → isShort (getD ws i (pos 0))) → (i : ℕ) → isShort (getD (map pos l ++ ws) i (pos 0))
+front-short : (l : List ℕ) (ws : List ℤ) → ((i : ℕ) → getD l i 0 < 1000) → ((i : ℕ) → Short (getD ws i (pos 0))) → (i : ℕ) → Short (getD (map pos l ++ ws) i (pos 0))
 front-short [] ws h e i = e i
 front-short (x ∷ l) ws h e zero = pos-short x (h 0)
 front-short (x ∷ l) ws h e (suc i) = front-short l ws (λ j. h (suc j)) e i
 
-table-short : (s : Shape) (ws : List ℤ) → InLimits s → ((i : ℕ) → isShort (getD ws i (pos 0))) → allShort (tableOf s ws)
+table-short : (s : Shape) (ws : List ℤ) → InLimits s → ((i : ℕ) → Short (getD ws i (pos 0))) → allShort (tableOf s ws)
 unfolding tableOf allShort
 table-short s ws l e i = front-short (frontOf s) ws (front-small s l) e i
 
