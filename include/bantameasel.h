@@ -25,7 +25,8 @@
  *
  * WHAT STAYS FROM VERSION TO VERSION, AND WHAT DOES NOT
  *
- * - Refusals and verdicts keep their numbers. Later versions have more refusals: take any number but 0 for a refusal.
+ * - Refusals and verdicts keep their numbers. Later versions have more refusals, some for faults that had another one's
+ *   number before: take any number but 0 for a refusal.
  * - Structs keep their size, and every field its place. A reserved field is 0 in this version; do not use it, since a
  *   later version may give it a name and a meaning.
  * - Limits may grow, but not BANTAMEASEL_MOST_STACK. A program that was built with an earlier header then gets 15 where
@@ -35,6 +36,9 @@
  *   are not the same, the limits below may not be those of the library.
  * - From 2.0 to 2.1: a book may have 16 exceptions (12 in 2.0), so the longest text, table and line are longer. The
  *   lines of a book of at most 12 exceptions are as they were.
+ * - From 2.1 to 2.2: a misspelt field was 5 in every case; now it is 5, 17 or 18, with the same line and in the same
+ *   place of the order. Every book that was accepted is accepted as before. A program that treats 5 specially wants to
+ *   treat 17 and 18 so too.
  *
  * THE REFUSALS, IN THE ORDER IN WHICH THEY ARE LOOKED FOR; the first that applies is given. The names are below.
  *
@@ -44,9 +48,12 @@
  *    then line by line, from the top:
  *    3  the line's letter is not allowed here; an empty line; a line after Z; a missing Z, at the line after the last
  *    4  the line has the wrong length for its letter
- *    then the line's fields from left to right, each tested in the order 5, 7, 6:
- *    5  the field is misspelt: not a whole number, right-justified after spaces in 4 columns, with no plus sign, no
- *       leading zero and no "-0"
+ *    then the line's fields from left to right, each tested in the order 5, 17, 18, 7, 6; a field is misspelt if one of
+ *    the first three applies, and otherwise a whole number, right-justified after spaces in 4 columns:
+ *    5  the field has a byte other than space, digit or minus, or a minus directly after a digit or not directly before
+ *       one; neighbours are looked for inside the field only
+ *   17  the field is blank, or a space follows a digit
+ *   18  the number has a leading zero, also one behind a minus, or is "-0"
  *    7  the edition is not 1
  *    6  the number is outside its range
  *    then the line as a whole:
@@ -106,8 +113,8 @@
 extern "C" {
 #endif
 
-/* The version of this header: 100 for each whole version and 1 for each part of one, so that 201 is version 2.1. */
-#define BANTAMEASEL_VERSION 201
+/* The version of this header: 100 for each whole version and 1 for each part of one, so that 202 is version 2.2. */
+#define BANTAMEASEL_VERSION 202
 
 /* The limits of a book, and what follows from them. */
 #define BANTAMEASEL_MOST_STATEMENTS 48  /* statements, n */
@@ -128,7 +135,8 @@ enum {
     BANTAMEASEL_REFUSED_TEXT_END = 2,
     BANTAMEASEL_REFUSED_LINE_PLACE = 3,
     BANTAMEASEL_REFUSED_LINE_LENGTH = 4,
-    BANTAMEASEL_REFUSED_FIELD_MISSPELT = 5,
+    BANTAMEASEL_REFUSED_FIELD_CHARACTER = 5,
+    BANTAMEASEL_REFUSED_FIELD_MISSPELT = 5, /* the older name of the same number, for programs written before 2.2 */
     BANTAMEASEL_REFUSED_OUT_OF_RANGE = 6,
     BANTAMEASEL_REFUSED_EDITION = 7,
     BANTAMEASEL_REFUSED_TOO_MANY = 8,
@@ -140,7 +148,9 @@ enum {
     BANTAMEASEL_REFUSED_PAIR_BOTH = 14,
     BANTAMEASEL_REFUSED_BUFFER_SHORT = 15,
     BANTAMEASEL_REFUSED_TABLE_LENGTH = 16,
-    BANTAMEASEL_LAST_REFUSAL = 16 /* the highest number of this version */
+    BANTAMEASEL_REFUSED_FIELD_GAP = 17,
+    BANTAMEASEL_REFUSED_FIELD_ZERO = 18,
+    BANTAMEASEL_LAST_REFUSAL = 18 /* the highest number of this version */
 };
 
 /* The verdicts of Judge. What each one means stands at bantameasel_verdict. */
@@ -222,7 +232,7 @@ uint32_t bantameasel_version(void);
  *          (head, 4 needed, 4 barred) and 2 for each P, in line order: 4 + 9 * (plain + exceptions) + 2 * preferences
  *          numbers in all. The rest of the table is unchanged. text_length / 4 numbers are always room enough, and
  *          no book needs more than BANTAMEASEL_MOST_TABLE.
- * Refuses  1 to 11 for the text; then 15 if the table is too short. The table is then unchanged.
+ * Refuses  1 to 11, 17 and 18 for the text; then 15 if the table is too short. The table is then unchanged.
  */
 bantameasel_book bantameasel_read(const uint8_t *text, size_t text_length, int32_t *table, size_t table_length);
 
@@ -244,7 +254,7 @@ bantameasel_length bantameasel_write(const int32_t *table, size_t table_length, 
  * Takes    the text of a book and a pair.
  * Answers  the verdict, 0 to 5.
  * Writes   nothing; no buffer is lent.
- * Refuses  1 to 11 for the text; then 12 to 14 for the pair.
+ * Refuses  1 to 11, 17 and 18 for the text; then 12 to 14 for the pair.
  */
 bantameasel_verdict bantameasel_judge(const uint8_t *text, size_t text_length, bantameasel_pair pair);
 
@@ -254,7 +264,7 @@ bantameasel_verdict bantameasel_judge(const uint8_t *text, size_t text_length, b
  * Takes    the text of a book.
  * Answers  found 1 and the first resolution in the order of pairs, or found 0 (End) if the book has none.
  * Writes   nothing; no buffer is lent.
- * Refuses  1 to 11 for the text.
+ * Refuses  1 to 11, 17 and 18 for the text.
  */
 bantameasel_answer bantameasel_first(const uint8_t *text, size_t text_length);
 
@@ -266,7 +276,7 @@ bantameasel_answer bantameasel_first(const uint8_t *text, size_t text_length);
  *          with the pair 0, 0, 0: it may be a resolution itself, and After would pass over it. Begin with First.
  * Answers  found 1 and the first resolution later than the pair, or found 0 (End) if there is none.
  * Writes   nothing; no buffer is lent.
- * Refuses  1 to 11 for the text; then 12 to 14 for the pair.
+ * Refuses  1 to 11, 17 and 18 for the text; then 12 to 14 for the pair.
  */
 bantameasel_answer bantameasel_after(const uint8_t *text, size_t text_length, bantameasel_pair pair);
 
@@ -280,8 +290,8 @@ bantameasel_answer bantameasel_after(const uint8_t *text, size_t text_length, ba
  *          or 16 in a book of 13 to 16 exceptions, of 4 columns with the exceptions taken, ascending, then 0; for each
  *          statement '.' (absent), '+' (held) or '-' (denied); a line feed. The bytes past it are unchanged, and no 0
  *          byte is put behind it. BANTAMEASEL_MOST_LINE bytes are room enough for every book.
- * Refuses  1 to 11 for the text; then 12 to 14 for the pair; then 15 if the buffer is too short. The buffer is then
- *          unchanged.
+ * Refuses  1 to 11, 17 and 18 for the text; then 12 to 14 for the pair; then 15 if the buffer is too short. The buffer
+ *          is then unchanged.
  */
 bantameasel_length bantameasel_line(const uint8_t *text, size_t text_length, bantameasel_pair pair, uint8_t *line, size_t line_length);
 
@@ -293,7 +303,7 @@ bantameasel_length bantameasel_line(const uint8_t *text, size_t text_length, ban
  * Answers  how many pairs were written. Fewer than there is room for means that the listing has ended.
  * Writes   the pairs in order, from the slice's start on, three numbers each: taken, held, denied. The rest of the
  *          slice is unchanged. With room for no pair nothing is written and count is 0.
- * Refuses  1 to 11 for the text. The slice is then unchanged. A short slice is never refused.
+ * Refuses  1 to 11, 17 and 18 for the text. The slice is then unchanged. A short slice is never refused.
  */
 bantameasel_page bantameasel_first_page(const uint8_t *text, size_t text_length, uint64_t *pairs, size_t pairs_length);
 
@@ -304,8 +314,8 @@ bantameasel_page bantameasel_first_page(const uint8_t *text, size_t text_length,
  * Answers  how many pairs were written. Fewer than there is room for means that the listing has ended.
  * Writes   the pairs in order, from the slice's start on, three numbers each: taken, held, denied. The rest of the
  *          slice is unchanged. With room for no pair nothing is written and count is 0.
- * Refuses  1 to 11 for the text; then 12 to 14 for the pair. The slice is then unchanged. A short slice is never
- *          refused.
+ * Refuses  1 to 11, 17 and 18 for the text; then 12 to 14 for the pair. The slice is then unchanged. A short slice is
+ *          never refused.
  */
 bantameasel_page bantameasel_page_after(const uint8_t *text, size_t text_length, bantameasel_pair pair, uint64_t *pairs, size_t pairs_length);
 
@@ -338,7 +348,8 @@ static inline const char *bantameasel_refusal_words(uint32_t refusal)
     case BANTAMEASEL_REFUSED_TEXT_END: return "the text is empty, or its last line does not end with a line feed";
     case BANTAMEASEL_REFUSED_LINE_PLACE: return "a line with this letter may not stand here, or a line is missing";
     case BANTAMEASEL_REFUSED_LINE_LENGTH: return "the line is too long or too short for its letter";
-    case BANTAMEASEL_REFUSED_FIELD_MISSPELT: return "a field is misspelt: it takes 4 columns, a whole number after spaces";
+    case BANTAMEASEL_REFUSED_FIELD_CHARACTER:
+        return "a field has a character other than space, digit and minus, or a minus in the wrong place";
     case BANTAMEASEL_REFUSED_OUT_OF_RANGE: return "a number is outside its range";
     case BANTAMEASEL_REFUSED_EDITION: return "the edition is one that this version does not know";
     case BANTAMEASEL_REFUSED_TOO_MANY: return "there are more lines of this kind than a book may have";
@@ -350,6 +361,8 @@ static inline const char *bantameasel_refusal_words(uint32_t refusal)
     case BANTAMEASEL_REFUSED_PAIR_BOTH: return "the pair both holds and denies a statement";
     case BANTAMEASEL_REFUSED_BUFFER_SHORT: return "the room lent for the answer is too short";
     case BANTAMEASEL_REFUSED_TABLE_LENGTH: return "the number table has another length than its counts ask for";
+    case BANTAMEASEL_REFUSED_FIELD_GAP: return "a field is blank, or a space stands after a digit";
+    case BANTAMEASEL_REFUSED_FIELD_ZERO: return "a number has a leading zero, or is -0";
     default: return "a refusal that this version does not know";
     }
 }
