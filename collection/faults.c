@@ -57,25 +57,29 @@ static void point_at(line l, size_t first, size_t width)
 static const char *odd_words(uint8_t byte)
 {
     switch (byte) {
-    case '\t': return "a tab; write spaces";
-    case '\r': return "a carriage return; save the file with line feeds only";
+    case '\t': return "this is a tab; write spaces";
+    case '\r': return "this is a carriage return; save the file with line feeds only";
     case ',':
-    case ';': return "a separator, as in a file of separated values; a field has 4 columns and nothing between";
-    case '"': return "a quotation mark, as in a file of separated values; write none";
-    case '+': return "a plus sign; write none";
-    case '.': return "a point; write a whole number";
+    case ';': return "this is a separator, as in a file of separated values; a field has 4 columns and nothing between";
+    case '"': return "this is a quotation mark, as in a file of separated values; write none";
+    case '+': return "this is a plus sign; write none";
+    case '.': return "this is a point; write a whole number";
+    case '(':
+    case ')': return "this is a bracket, as accounts have them for negative numbers; write a minus";
+    case 'O':
+    case 'o': return "this is the letter O; write 0";
     default: break;
     }
     if (byte >= 128) {
-        return "no ASCII character: a typographic minus, a hard space or another; write it anew";
+        return "this is no ASCII character: a typographic minus, a hard space or another; write it anew";
     }
-    return byte == ' ' || byte == '-' || isdigit(byte) ? NULL : "no space, minus or digit";
+    return byte == ' ' || byte == '-' || isdigit(byte) ? NULL : "this is no space, minus or digit";
 }
 
-/* The first of these columns of the line with a byte that no field may hold; 0 if there is none. */
-static size_t odd_column(line l, size_t from, size_t to)
+/* The first of the line's columns behind its letter with a byte that no field may hold; 0 if there is none. */
+static size_t odd_column(line l)
 {
-    for (size_t c = from; c <= to && c <= l.length; c++) {
+    for (size_t c = 2; c <= l.length; c++) {
         if (odd_words(l.bytes[c - 1]) != NULL) {
             return c;
         }
@@ -213,10 +217,10 @@ static void explain_length(const place *p)
 {
     line l = p->at;
     int k = misspelt(p);
-    size_t past = column_of(kinds[p->of].fields), odd = odd_column(l, 2, l.length);
+    size_t past = column_of(kinds[p->of].fields), odd = odd_column(l);
     if (odd != 0) {
         point_at(l, odd, 1);
-        say("Near column %zu: this is %s.", odd, odd_words(l.bytes[odd - 1]));
+        say("Near column %zu: %s.", odd, odd_words(l.bytes[odd - 1]));
     } else if (l.length >= past && last_spaces(l) <= past) {
         point_at(l, past, l.length + 1 - past);
         say("Near column %zu: spaces stand after the last field.", past);
@@ -229,30 +233,96 @@ static void explain_length(const place *p)
     say("The line has %zu columns; a line with the letter %c has %zu.", l.length, kinds[p->of].letter, past - 1);
 }
 
-/* ---- 5: a field's spelling ---- */
+/* ---- 5, 17, 18: a field's spelling ---- */
 
-/* Why four columns of spaces, minus signs and digits are misspelt. */
-static const char *spelling_words(const char *columns)
+static const char digits[] = "0123456789";
+
+/* Which columns of a field are at fault, from one on, counted from 0, and how many; and why. */
+typedef struct {
+    size_t from;
+    size_t width;
+    const char *why;
+} flaw;
+
+/* Why a minus at this place of a field of spaces, minus signs and digits is misplaced; NULL if it is not: if it is
+   directly before a digit, and not directly after one. */
+static const char *minus_words(const char *columns, size_t at)
 {
-    size_t spaces = strspn(columns, " ");
-    const char *number = columns + spaces;
-    const char *digits = number + (*number == '-');
-    if (spaces == COLUMNS) {
-        return "the field is blank; write 0";
+    size_t digit = strcspn(columns, digits);
+    bool before = isdigit((uint8_t)columns[at + 1]), after = at > 0 && isdigit((uint8_t)columns[at - 1]);
+    if (before && !after) {
+        return NULL;
     }
-    if (columns[COLUMNS - 1] == ' ') {
-        return "the number does not stand at the right of its field";
+    if (digit == COLUMNS) {
+        return "this is a minus with no digit in its field; an unused field is 0";
     }
-    if (strcmp(number, "-0") == 0) {
-        return "zero has no sign";
+    if (strchr(columns, '-') != strrchr(columns, '-')) {
+        return "this is one minus too many";
     }
-    if (*digits == '0' && strspn(digits, "0123456789") == strlen(digits)) {
-        return "the number has a leading zero";
+    if (before) {
+        return "this is a minus between digits; a field holds one number";
     }
-    return "this is not one whole number";
+    return digit < at ? "this is a minus behind its number; write it directly in front"
+                      : "this is a minus apart from its number; write it directly in front";
 }
 
-static void explain_spelling(const place *p)
+/* 5: the first byte that no field may hold; where there is none, the first minus that is misplaced. */
+static flaw stray_flaw(const char *columns)
+{
+    flaw f = { 0, 1, NULL };
+    for (; f.from < COLUMNS; f.from++) {
+        f.why = odd_words((uint8_t)columns[f.from]);
+        if (f.why != NULL) {
+            return f;
+        }
+    }
+    for (f.from = 0; f.from < COLUMNS; f.from++) {
+        f.why = columns[f.from] == '-' ? minus_words(columns, f.from) : NULL;
+        if (f.why != NULL) {
+            return f;
+        }
+    }
+    return (flaw){ 0, COLUMNS, "this is not one whole number" };
+}
+
+/* 17: the whole field where it is blank, or has nothing but spaces behind its number; otherwise the gap. */
+static flaw gap_flaw(const char *columns)
+{
+    size_t digit = strcspn(columns, digits);
+    size_t gap = digit + strspn(columns + digit, digits);
+    size_t behind = gap + strspn(columns + gap, " ");
+    if (digit == COLUMNS) {
+        return (flaw){ 0, COLUMNS, "the field is blank; write 0" };
+    }
+    if (behind == COLUMNS) {
+        return (flaw){ 0, COLUMNS, "the number does not stand at the right of its field" };
+    }
+    return (flaw){ gap, behind - gap, "a space stands between digits; a field holds one number" };
+}
+
+/* 18: the minus of "-0", or the zeros that lead; a zero in the last column does not. */
+static flaw zero_flaw(const char *columns)
+{
+    size_t digit = strcspn(columns, digits), last = COLUMNS - 1;
+    size_t zeros = strspn(columns + digit, "0"), others = last - digit;
+    if (digit == last) {
+        return (flaw){ digit - 1, 1, "zero has no sign; write 0" };
+    }
+    return (flaw){ digit, zeros < others ? zeros : others,
+                   "the number has a leading zero; fill up with spaces, at the left" };
+}
+
+/* What is wrong with the columns of a field that was refused so. */
+static flaw flaw_of(const char *columns, uint32_t refusal)
+{
+    switch (refusal) {
+    case BANTAMEASEL_REFUSED_FIELD_GAP: return gap_flaw(columns);
+    case BANTAMEASEL_REFUSED_FIELD_ZERO: return zero_flaw(columns);
+    default: return stray_flaw(columns);
+    }
+}
+
+static void explain_spelling(const place *p, uint32_t refusal)
 {
     int k = misspelt(p);
     if (k < 0) {
@@ -260,14 +330,11 @@ static void explain_spelling(const place *p)
         return;
     }
     char columns[COLUMNS + 1] = { 0 };
-    size_t first = column_of(k), odd = odd_column(p->at, first, first + COLUMNS - 1);
-    memcpy(columns, p->at.bytes + first - 1, COLUMNS);
-    point_at(p->at, first, COLUMNS);
-    if (odd != 0) {
-        say("Near column %zu, in %s: this is %s.", odd, field_words(p->of, k), odd_words(p->at.bytes[odd - 1]));
-    } else {
-        say("Near column %zu, in %s: %s.", first, field_words(p->of, k), spelling_words(columns));
-    }
+    memcpy(columns, p->at.bytes + column_of(k) - 1, COLUMNS);
+    flaw f = flaw_of(columns, refusal);
+    size_t first = column_of(k) + f.from;
+    point_at(p->at, first, f.width);
+    say("Near column %zu, in %s: %s.", first, field_words(p->of, k), f.why);
 }
 
 /* ---- 6, 7, 9, 10, 11: a field's number ---- */
@@ -350,7 +417,9 @@ static void explain_line(const place *p, uint32_t refusal)
 {
     switch (refusal) {
     case BANTAMEASEL_REFUSED_LINE_LENGTH: explain_length(p); break;
-    case BANTAMEASEL_REFUSED_FIELD_MISSPELT: explain_spelling(p); break;
+    case BANTAMEASEL_REFUSED_FIELD_CHARACTER:
+    case BANTAMEASEL_REFUSED_FIELD_GAP:
+    case BANTAMEASEL_REFUSED_FIELD_ZERO: explain_spelling(p, refusal); break;
     case BANTAMEASEL_REFUSED_TOO_MANY: explain_many(p); break;
     default: explain_number(p, refusal);
     }

@@ -237,17 +237,27 @@ pointed() {
     same "$work/right" "$work/shown" "$name: the columns that are pointed at"
 }
 
-# each_field LINE COUNT: in each of the fields of this line, what is no number and what is out of range is pointed at.
-each_field() {
+# wrong_field LINE K WRONG FROM WIDTH: field K of this line, from 0 on, is replaced by what is wrong; so many of its
+# columns are pointed at, from one on, counted from 1.
+wrong_field() {
     name=field
+    sed "$1s/^\(.\{$((1 + 4 * $2))\}\)..../\1$3/" "$EXAMPLES/gown-ranked.book" >"$work/field"
+    run 1 "$work/field" next
+    said " at line $1: "
+    pointed "$1" "$((1 + 4 * $2 + $4))" "$5"
+}
+
+# each_field LINE COUNT: in each of the fields of this line, what is misspelt and what is out of range is pointed at.
+each_field() {
     k=0
     while [ "$k" -lt "$2" ]; do
-        for wrong in '   x' ' 999' '-999'; do
-            sed "$1s/^\(.\{$((1 + 4 * k))\}\)..../\1$wrong/" "$EXAMPLES/gown-ranked.book" >"$work/field"
-            run 1 "$work/field" next
-            said " at line $1: "
-            pointed "$1" "$((2 + 4 * k))" 4
-        done
+        wrong_field "$1" "$k" '   x' 4 1
+        wrong_field "$1" "$k" '  1-' 4 1
+        wrong_field "$1" "$k" '    ' 1 4
+        wrong_field "$1" "$k" '0  0' 2 2
+        wrong_field "$1" "$k" '0001' 1 3
+        wrong_field "$1" "$k" ' 999' 1 4
+        wrong_field "$1" "$k" '-999' 1 4
         k=$((k + 1))
     done
 }
@@ -424,22 +434,44 @@ pointed 5 26 4
 sed '5s/$/   0/' "$gown" >"$work/long"
 damaged long 'refusal 4 at line 5: ' 'The line has 41 columns; a line with the letter R has 37.'
 
-# A field's spelling: 5.
+# A field's spelling: 5, 17, 18. Columns 34 to 37 of the line are refused by this number, so many columns are pointed at
+# from the first on, and this is the cause.
 spelt() {
     sed "5s/   0\$/$1/" "$gown" >"$work/spelt"
-    damaged spelt 'refusal 5 at line 5: ' "Near column $2, in the fourth barred entry: $3"
-    pointed 5 34 4
+    damaged spelt "refusal $2 at line 5: " "Near column $3, in the fourth barred entry: $5"
+    pointed 5 "$3" "$4"
 }
-spelt '   x' 37 'this is no space, minus or digit.'
-spelt '    ' 34 'the field is blank; write 0.'
-spelt '0   ' 34 'the number does not stand at the right of its field.'
-spelt '  00' 34 'the number has a leading zero.'
-spelt '  -0' 34 'zero has no sign.'
-spelt '  +1' 36 'this is a plus sign'
-spelt ' 1.0' 36 'this is a point'
-spelt ' 1 0' 34 'this is not one whole number.'
-spelt '  1-' 34 'this is not one whole number.'
-spelt '  \x961' 36 'this is no ASCII character'
+spelt '   x' 5 37 1 'this is no space, minus or digit.'
+spelt '1 1x' 5 37 1 'this is no space, minus or digit.'
+spelt '01 x' 5 37 1 'this is no space, minus or digit.'
+spelt '  +1' 5 36 1 'this is a plus sign; write none.'
+spelt ' 1.0' 5 36 1 'this is a point; write a whole number.'
+spelt ' (1)' 5 35 1 'this is a bracket'
+spelt '   O' 5 37 1 'this is the letter O; write 0.'
+spelt '  \x961' 5 36 1 'this is no ASCII character'
+spelt '-\xa0 1' 5 35 1 'this is no ASCII character'
+spelt '  1-' 5 37 1 'this is a minus behind its number; write it directly in front.'
+spelt '01 -' 5 37 1 'this is a minus behind its number; write it directly in front.'
+spelt '-  1' 5 34 1 'this is a minus apart from its number; write it directly in front.'
+spelt ' --1' 5 35 1 'this is one minus too many.'
+spelt '-1-1' 5 36 1 'this is one minus too many.'
+spelt ' 1-1' 5 36 1 'this is a minus between digits; a field holds one number.'
+spelt '-   ' 5 34 1 'this is a minus with no digit in its field; an unused field is 0.'
+spelt '   -' 5 37 1 'this is a minus with no digit in its field; an unused field is 0.'
+spelt '    ' 17 34 4 'the field is blank; write 0.'
+spelt '0   ' 17 34 4 'the number does not stand at the right of its field.'
+spelt ' -1 ' 17 34 4 'the number does not stand at the right of its field.'
+spelt '00  ' 17 34 4 'the number does not stand at the right of its field.'
+spelt ' 1 0' 17 36 1 'a space stands between digits; a field holds one number.'
+spelt '01 1' 17 36 1 'a space stands between digits; a field holds one number.'
+spelt '0  0' 17 35 2 'a space stands between digits; a field holds one number.'
+spelt '1 -1' 17 35 1 'a space stands between digits; a field holds one number.'
+spelt '1 1 ' 17 35 1 'a space stands between digits; a field holds one number.'
+spelt '  00' 18 36 1 'the number has a leading zero; fill up with spaces, at the left.'
+spelt '0001' 18 34 3 'the number has a leading zero; fill up with spaces, at the left.'
+spelt ' -01' 18 36 1 'the number has a leading zero; fill up with spaces, at the left.'
+spelt ' -00' 18 36 1 'the number has a leading zero; fill up with spaces, at the left.'
+spelt '  -0' 18 36 1 'zero has no sign; write 0.'
 
 # A field's number: 6, 7, 9, 10, 11; the lines of a kind: 8. The limits are the engine's.
 sed '5s/ 0$/ 6/' "$gown" >"$work/range"
