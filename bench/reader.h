@@ -1,4 +1,4 @@
-/* A plain C reader and writer of books with document 01's checks, to compare the engine's Read and Write with. */
+/* A plain C reader and writer of books with the engine's checks, to compare its Read and Write with. */
 #ifndef READER_H
 #define READER_H
 

@@ -81,7 +81,10 @@ pub struct Pair {
     pub denied: u64,
 }
 
-/// A refusal of document 01, by number and line.
+/// The highest number of a refusal.
+pub const LAST_REFUSAL: usize = 18;
+
+/// A refusal of document 01 or 02, by number and line.
 #[derive(Clone, Copy, PartialEq, Eq, Debug)]
 pub struct Refusal {
     pub number: u32,

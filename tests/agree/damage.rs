@@ -133,23 +133,46 @@ pub fn wrong_counts(checker: &mut Checker, random: &mut Random, text: &[u8]) -> 
     Ok(())
 }
 
-/// Every string of four from a few bytes, in each kind of field of a small book.
-pub fn spell_fields(checker: &mut Checker, random: &mut Random) -> Outcome {
-    let mut maker = Maker::new(random, 5, 3);
+/// The text of a small book with one R, two X and one P line.
+fn short_text(random: &mut Random) -> Vec<u8> {
+    let mut maker = Maker::new(random, STATEMENTS, 2);
     maker.random_plain(2, 2);
     maker.random_exception(2, 2);
     maker.random_exception(2, 2);
     maker.prefer(1, 2);
-    let text = text_of(&maker.book);
-    let alphabet = b" -+0149";
+    text_of(&maker.book)
+}
+
+/// Every string of four from some bytes in each kind of field of a small book: from all that a field may have and two
+/// others in the second field of R, elsewhere from fewer.
+pub fn spell_fields(checker: &mut Checker, random: &mut Random) -> Outcome {
+    let text = short_text(random);
     // The fields of B, the first, second and last of R, the first and last of X, both of P, and that of Z.
     for place in [1, 5, 11, 15, 43, 49, 81, 125, 129, 135] {
+        let alphabet: &[u8] = if place == 15 { b" -0123456789+x" } else { b" -+0149" };
         let mut damaged = text.clone();
         for code in 0..alphabet.len().pow(4) {
             for column in 0..4 {
                 damaged[place + column] = alphabet[code / alphabet.len().pow(column as u32) % alphabet.len()];
             }
             compare_text(checker, random, &damaged, false)?;
+        }
+    }
+    Ok(())
+}
+
+/// Each of the fields beside each of them, in the first two places of B, R, X and P: what stands in one field says
+/// nothing about the spelling of the other.
+pub fn spell_neighbours(checker: &mut Checker, random: &mut Random) -> Outcome {
+    let text = short_text(random);
+    for place in [1, 11, 49, 125] {
+        let mut damaged = text.clone();
+        for first in FIELDS {
+            damaged[place..place + 4].copy_from_slice(first);
+            for second in FIELDS {
+                damaged[place + 4..place + 8].copy_from_slice(second);
+                compare_text(checker, random, &damaged, false)?;
+            }
         }
     }
     Ok(())
@@ -186,11 +209,13 @@ pub fn limits(checker: &mut Checker, random: &mut Random) -> Outcome {
     over_limit(checker, random, &full)
 }
 
-/// What a field is replaced by: lawful numbers, numbers out of range, and misspelt ones.
-const FIELDS: [&[u8]; 26] = [
+/// What a field is replaced by: lawful numbers, numbers out of range, and fields that are refused by 5, by 17 and by
+/// 18, in some of which a later one of these could be found as well.
+pub const FIELDS: [&[u8]; 40] = [
     b"   0", b"   1", b"   2", b"   3", b"  12", b"  13", b"  16", b"  17", b"  48", b"  49", b" -48", b" -49",
-    b" 244", b" 245", b" 248", b" 249", b"9999", b"-999", b"  -0", b"  01", b"    ", b" 1  ", b"+  1", b" - 1",
-    b"1 -1", b"  1\0",
+    b" 244", b" 245", b" 248", b" 249", b"9999", b"-999", b"+  1", b"  1\0", b"1 1x", b"01 x", b" - 1", b"-  1",
+    b"  1-", b" --1", b"-   ", b"   -", b"    ", b" 1  ", b"0   ", b"01 1", b"0  0", b"1 -1", b"  01", b" -01",
+    b"0001", b"  00", b" -00", b"  -0",
 ];
 
 /// Books with so many R, X and P lines, around each limit. In the last of them each field is replaced by each of the
@@ -245,6 +270,14 @@ fn damaged_lines(line: &[u8]) -> Vec<Vec<u8>> {
     all
 }
 
+/// The bytes of random fields. Zeros, spaces and minuses stand here more than once, so that 17 and 18 come up often.
+const SPELLING: &[u8] = b"      --0000123456789x+";
+
+/// Four random bytes, nearly all of them such as fields have.
+fn random_field(random: &mut Random) -> [u8; 4] {
+    std::array::from_fn(|_| random.pick(SPELLING))
+}
+
 /// Changes one field, byte or length of a line.
 fn damage_line(random: &mut Random, line: &mut Vec<u8>) {
     let fields = line.len().saturating_sub(2) / 4;
@@ -252,13 +285,14 @@ fn damage_line(random: &mut Random, line: &mut Vec<u8>) {
         return line.insert(0, random.pick(&BYTES));
     }
     let start = 1 + 4 * random.below(fields as u64) as usize;
-    match random.below(8) {
+    match random.below(10) {
         0 => line[start..start + 4].copy_from_slice(b"   0"),
         1 | 2 => line[start..start + 4].copy_from_slice(random.pick(&FIELDS)),
         3 => line[start] = random.pick(&BYTES),
         4 => line.insert(start, b' '),
         5 => drop(line.remove(start)),
         6 => line[0] = random.pick(b"BRXPZA"),
+        7 | 8 => line[start..start + 4].copy_from_slice(&random_field(random)),
         _ => line[start..start + 4].copy_from_slice(random.pick(&[b"   3", b"  16", b"  -3", b"   2"])),
     }
 }

@@ -1,5 +1,5 @@
 //! Checks of the test program itself: its reading, its order and its meaning against what document 01 states, and
-//! against document 02: the closing line (a), and sixteen exceptions (c).
+//! against document 02: the closing line (a), sixteen exceptions (c), and misspelt fields (d).
 
 use crate::book::*;
 use crate::meaning::{compare_pairs, Meaning, Oracle};
@@ -32,7 +32,9 @@ pub fn check() -> Result<u64, String> {
     check_exceptions()?;
     check_lines()?;
     check_spelling()?;
-    Ok(count + 8)
+    check_misspelling()?;
+    check_order_of_fields()?;
+    Ok(count + 10)
 }
 
 /// A named expectation.
@@ -118,7 +120,8 @@ fn check_limits() -> Result<(), String> {
     expect("201 R", plain(201) == Err(Refusal { number: 8, line: 202 }))
 }
 
-/// A field spells a number exactly if it is the number, right-justified after spaces.
+/// A field spells a number exactly if it is the number, right-justified after spaces, and exactly then it has no
+/// refusal of 5, 17 and 18.
 fn check_spelling() -> Result<(), String> {
     let alphabet = b" -+0129a";
     for code in 0..8usize.pow(4) {
@@ -127,6 +130,41 @@ fn check_spelling() -> Result<(), String> {
         let value: Option<i32> = text.trim_start_matches(' ').parse().ok();
         let wanted = value.filter(|value| format!("{value:>4}") == text);
         expect(&format!("the field '{text}'"), spelt(&field) == wanted)?;
+        expect(&format!("the refusal of '{text}'"), misspelling(&field).is_none() == wanted.is_some())?;
     }
     Ok(())
+}
+
+/// Fields by the refusal that they have: a later one may apply to them as well, but no earlier one.
+fn check_misspelling() -> Result<(), String> {
+    let all: [(u32, &[&str]); 3] = [
+        (5, &["1 1x", "01 x", "-  1", "  1-", " --1", "-   ", "   -", "- 1 ", " 1-1", "-0-0", "  +1", "+   ", "\t  1"]),
+        (17, &["    ", "0   ", " 0  ", "  1 ", "01 1", "0  0", "1 -1", "-1  ", "0 -0", "12 3"]),
+        (18, &["  01", " 010", "0001", " -01", "-010", "  00", "0000", " -00", "-000", "  -0"]),
+    ];
+    for (refusal, fields) in all {
+        for field in fields {
+            expect(&format!("{refusal} of '{field}'"), misspelling(field.as_bytes()) == Some(refusal))?;
+        }
+    }
+    Ok(())
+}
+
+/// All three refusals of misspelt fields stand where 5 stood: before 7 and 6 of the same field, after those of a field
+/// before it, after 4 and before the line as a whole. A field ends where the next begins.
+fn check_order_of_fields() -> Result<(), String> {
+    let read = |lines: &str| read_text(lines.as_bytes()).map_err(|refusal| (refusal.number, refusal.line)).err();
+    let rule = |fields: &str| read(&format!("B   1   3\nR{fields}   0   0   0   0   0   0   0\nZ   1\n"));
+    expect("17 before 7", read("B       1\n") == Some((17, 1)))?;
+    expect("18 before 7", read("B  02   1\n") == Some((18, 1)))?;
+    expect("7 before a later 17", read("B   2    \n") == Some((7, 1)))?;
+    expect("18 before 6", rule("0009   0") == Some((18, 2)))?;
+    expect("6 before a later 17", rule("   4    ") == Some((6, 2)))?;
+    expect("17 before a later 6", rule("       4") == Some((17, 2)))?;
+    expect("17 before a later 5", rule("       x") == Some((17, 2)))?;
+    expect("4 before 17", rule("        1") == Some((4, 2)))?;
+    expect("18 before 9", read("B   1   3\nX   0 -00   0   0   0   0   0   0   0\n") == Some((18, 2)))?;
+    expect("a minus before the next field's digit", rule("   -1000") == Some((5, 2)))?;
+    expect("a minus after the digit of the field before", rule("   1-100") == Some((6, 2)))?;
+    expect("a gap across two fields", rule("   1   2").is_none())
 }

@@ -1,5 +1,6 @@
 //! What a run prints at its end, and what it must have met.
 
+use crate::book::LAST_REFUSAL;
 use crate::compare::OPERATIONS;
 use crate::kinds::KINDS;
 use crate::large;
@@ -13,7 +14,7 @@ pub fn print(run: &Run) {
     let calls: Vec<String> =
         OPERATIONS.iter().zip(tally.calls).map(|(name, count)| format!("{name} {count}")).collect();
     println!("compared: {}", calls.join(", "));
-    println!("refusals 1 to 16: {:?}; verdicts 0 to 5: {:?}", &tally.refusals[1..], tally.verdicts);
+    println!("refusals 1 to {LAST_REFUSAL}: {:?}; verdicts 0 to 5: {:?}", &tally.refusals[1..], tally.verdicts);
     println!("First and After: {} pairs, {} Ends", tally.pairs, tally.ends);
     println!("Line: {} with 12 fields, {} with 16", tally.lines[0], tally.lines[1]);
     let walked = &run.walked;

@@ -328,7 +328,8 @@ impl Run {
     /// Texts at the limits, and every spelling of fields.
     fn limits(&mut self, random: &mut Random, _: u64) -> Outcome {
         damage::limits(&mut self.checker, random)?;
-        damage::spell_fields(&mut self.checker, random)
+        damage::spell_fields(&mut self.checker, random)?;
+        damage::spell_neighbours(&mut self.checker, random)
     }
 
     /// One faulty text, one of random bytes and one faulty table.
@@ -393,7 +394,7 @@ impl Run {
         self.ways_on(&text, &listing_of(&book, meaning.resolutions(), false))?;
         let mut faulty = text.clone();
         let spot = random.below(faulty.len() as u64) as usize;
-        faulty[spot] = random.pick(b"\n\0RXPZ9-+ ");
+        faulty[spot] = random.pick(b"\n\0RXPZ90-+ ");
         self.ways_refuses(&faulty)
     }
 
@@ -405,9 +406,15 @@ impl Run {
         }
     }
 
-    /// `ways` on K7, on texts that are empty or too long, and at the boundary of 9,999 lines.
+    /// `ways` on K7, on K7 with its first head misspelt, on texts that are empty or too long, and at the boundary of
+    /// 9,999 lines.
     fn ways_once(&mut self, random: &mut Random, _: u64) -> Outcome {
         self.ways_on(SEVENTH_TEXT.as_bytes(), SEVENTH_LISTING.as_bytes())?;
+        let mut misspelt = SEVENTH_TEXT.as_bytes().to_vec();
+        for field in damage::FIELDS {
+            misspelt[11..15].copy_from_slice(field);
+            self.ways_refuses(&misspelt)?;
+        }
         let full = text_of(&damage::full_book(random));
         let long = |length: usize| full.iter().copied().cycle().take(length - 1).chain([10]).collect::<Vec<u8>>();
         for text in [vec![], vec![10], vec![b'B'], full[..TEXT - 1].to_vec()] {

@@ -1,12 +1,25 @@
-//! Reading and writing of texts, number tables and A lines, straight from document 01.
-//! Nothing here was taken from the engine.
+//! Reading and writing of texts, number tables and A lines, straight from document 01, and of document 02 the three
+//! refusals of misspelt fields (d). Nothing here was taken from the engine.
 
 use crate::book::*;
 
 const LINE_FEED: u8 = 10;
 
-/// Reads a text, or gives the first refusal of 1 to 11 that applies.
+/// How a reading takes a field: the number that it spells, or the number of the refusal if it is misspelt.
+type Spelling = fn(&[u8]) -> Result<i32, u32>;
+
+/// Reads a text, or gives the first refusal of 1 to 11, 17 and 18 that applies.
 pub fn read_text(text: &[u8]) -> Result<Book, Refusal> {
+    read_by(told_finely, text)
+}
+
+/// Reads a text as document 01 alone has it: 5 is the one refusal of a misspelt field.
+pub fn read_coarsely(text: &[u8]) -> Result<Book, Refusal> {
+    read_by(told_coarsely, text)
+}
+
+/// Reads a text by one of the two ways to take a field.
+fn read_by(spelling: Spelling, text: &[u8]) -> Result<Book, Refusal> {
     if text.len() > TEXT {
         return Err(refused(1));
     }
@@ -18,7 +31,8 @@ pub fn read_text(text: &[u8]) -> Result<Book, Refusal> {
     let mut number = 0;
     for line in text[..text.len() - 1].split(|byte| *byte == LINE_FEED) {
         number += 1;
-        above = read_line(&mut book, above, line).map_err(|refusal| Refusal { number: refusal, line: number })?;
+        let read = read_line(spelling, &mut book, above, line);
+        above = read.map_err(|refusal| Refusal { number: refusal, line: number })?;
     }
     if above != b'Z' {
         return Err(Refusal { number: 3, line: number + 1 });
@@ -28,7 +42,7 @@ pub fn read_text(text: &[u8]) -> Result<Book, Refusal> {
 
 /// Reads one line, given without its line feed, below a line of the letter `above` (0: none).
 /// Answers its letter, or the number of the first refusal that applies.
-fn read_line(book: &mut Book, above: u8, line: &[u8]) -> Result<u8, u32> {
+fn read_line(spelling: Spelling, book: &mut Book, above: u8, line: &[u8]) -> Result<u8, u32> {
     let letter = *line.first().ok_or(3u32)?;
     if !letters_below(above).contains(&letter) {
         return Err(3);
@@ -36,7 +50,7 @@ fn read_line(book: &mut Book, above: u8, line: &[u8]) -> Result<u8, u32> {
     if line.len() + 1 != bytes_of_line(letter) {
         return Err(4);
     }
-    let fields = read_fields(book, letter, &line[1..])?;
+    let fields = read_fields(spelling, book, letter, &line[1..])?;
     take_line(book, letter, &fields)?;
     Ok(letter)
 }
@@ -61,15 +75,28 @@ fn bytes_of_line(letter: u8) -> usize {
     }
 }
 
-/// Reads the fields from left to right, each tested 5, 7, 6.
-fn read_fields(book: &Book, letter: u8, columns: &[u8]) -> Result<Vec<i32>, u32> {
+/// Reads the fields from left to right, each tested for its spelling first, then 7, 6.
+fn read_fields(spelling: Spelling, book: &Book, letter: u8, columns: &[u8]) -> Result<Vec<i32>, u32> {
     let mut fields = Vec::with_capacity(9);
     for (place, field) in columns.chunks(4).enumerate() {
-        let value = spelt(field).ok_or(5u32)?;
+        let value = spelling(field)?;
         test_field(book, letter, place, value)?;
         fields.push(value);
     }
     Ok(fields)
+}
+
+/// The number that a field spells, or 5.
+fn told_coarsely(field: &[u8]) -> Result<i32, u32> {
+    spelt(field).ok_or(5)
+}
+
+/// The number that a field spells if none of 5, 17 and 18 applies to it, else the first that applies.
+fn told_finely(field: &[u8]) -> Result<i32, u32> {
+    match misspelling(field) {
+        Some(refusal) => Err(refusal),
+        None => Ok(spelt(field).expect("a field to which none of 5, 17 and 18 applies spells a number")),
+    }
 }
 
 /// The number that a field of four columns spells, if it spells one.
@@ -83,6 +110,58 @@ pub fn spelt(field: &[u8]) -> Option<i32> {
     }
     let size = digits.iter().fold(0, |sum, digit| 10 * sum + i32::from(digit - b'0'));
     Some(if minus == 1 { -size } else { size })
+}
+
+/// The first of 5, 17 and 18 that applies to a field. Each is looked for in the whole field, and in the field alone.
+pub fn misspelling(field: &[u8]) -> Option<u32> {
+    if has_other_byte(field) || has_wrong_minus(field) {
+        Some(5)
+    } else if is_blank(field) || has_space_after_digit(field) {
+        Some(17)
+    } else if has_leading_zero(field) || is_minus_zero(field) {
+        Some(18)
+    } else {
+        None
+    }
+}
+
+/// "A byte other than space, digit or minus".
+fn has_other_byte(field: &[u8]) -> bool {
+    !field.iter().all(|byte| *byte == b' ' || byte.is_ascii_digit() || *byte == b'-')
+}
+
+/// "A minus directly after a digit or not directly before one".
+fn has_wrong_minus(field: &[u8]) -> bool {
+    let digit_at = |place: usize| field.get(place).is_some_and(u8::is_ascii_digit);
+    let wrong = |place: usize| place.checked_sub(1).is_some_and(digit_at) || !digit_at(place + 1);
+    (0..field.len()).any(|place| field[place] == b'-' && wrong(place))
+}
+
+/// "The field is blank".
+fn is_blank(field: &[u8]) -> bool {
+    field.iter().all(|byte| *byte == b' ')
+}
+
+/// "A space follows a digit", directly.
+fn has_space_after_digit(field: &[u8]) -> bool {
+    field.windows(2).any(|two| two[0].is_ascii_digit() && two[1] == b' ')
+}
+
+/// "It has a leading zero", also behind a minus: the first digit is a zero, and another digit follows it.
+fn has_leading_zero(field: &[u8]) -> bool {
+    let mut digits = field.iter().filter(|byte| byte.is_ascii_digit());
+    digits.next() == Some(&b'0') && digits.next().is_some()
+}
+
+/// It "is "-0"".
+fn is_minus_zero(field: &[u8]) -> bool {
+    field == b"  -0"
+}
+
+/// A refusal as it was before misspelt fields were told finely: 17 and 18 are taken for 5.
+pub fn coarse(refusal: &Refusal) -> Refusal {
+    let number = if matches!(refusal.number, 17 | 18) { 5 } else { refusal.number };
+    Refusal { number, ..*refusal }
 }
 
 /// Tests one field's value: 7 for the edition, 6 for the others.

@@ -2,6 +2,7 @@
  *
  * The Makefile renames the library's functions from bantameasel_ to true_; the functions here stand in their place.
  * They give the true answers, but for the fault that the environment variable FAULT names. */
+#include <ctype.h>
 #include <stdlib.h>
 #include <string.h>
 
@@ -90,18 +91,111 @@ static const uint8_t *changed(const uint8_t *text, size_t *length) {
 
 /* ---- refusals */
 
-/* The highest number in the fields of a line, counted from 1, of two fields. */
+enum { FIELD = 4 };
+
+/* The first field of a line, counted from 1. */
+static const uint8_t *fields_of(const uint8_t *text, uint64_t line) {
+    while (--line > 0) text = (const uint8_t *)strchr((const char *)text, '\n') + 1;
+    return text + 1;
+}
+
+/* The highest number in the fields of a line of two fields. */
 static int highest_of_two(const uint8_t *text, uint64_t line) {
     char fields[9] = {0};
-    while (--line > 0) text = (const uint8_t *)strchr((const char *)text, '\n') + 1;
-    memcpy(fields, text + 1, 8);
+    memcpy(fields, fields_of(text, line), 8);
     int second = atoi(fields + 4);
     fields[4] = 0;
     return atoi(fields) > second ? atoi(fields) : second;
 }
 
+/* ---- misspelt fields */
+
+#define DIGITS "0123456789"
+
+/* Whether the number is a refusal of a misspelt field. */
+static int of_spelling(uint32_t number) { return number == 5 || number == 17 || number == 18; }
+
+/* The refusal by which a field is misspelt, or 0: that of a small book with the field in the edition's place. */
+static uint32_t misspelt(const uint8_t *field) {
+    uint8_t small[] = "B   1   1\nZ   0\n";
+    memcpy(small + 1, field, FIELD);
+    uint32_t number = true_read(small, sizeof small - 1, NULL, 0).refusal;
+    return of_spelling(number) ? number : 0;
+}
+
+/* The first misspelt field of a line, or its line feed if there is none. */
+static const uint8_t *misspelt_field(const uint8_t *text, uint64_t line) {
+    const uint8_t *field = fields_of(text, line);
+    while (*field != '\n' && misspelt(field) == 0) field += FIELD;
+    return field;
+}
+
+/* Whether one of these bytes stands directly before one of those. */
+static int has(const char *field, const char *these, const char *those) {
+    for (; field[0] != 0 && field[1] != 0; field++) {
+        if (strchr(these, field[0]) != NULL && strchr(those, field[1]) != NULL) return 1;
+    }
+    return 0;
+}
+
+/* The refusal that is given to a misspelt field in the place of the true one. */
+static uint32_t other_misspelling(uint32_t number, const char *field) {
+    int gap = has(field, DIGITS, " "), zeros = field[strspn(field, " -")] == '0' && has(field, "0", DIGITS);
+    if (fault("every misspelt field is 5")) return 5;
+    if (fault("17 comes before 5") && number == 5 && gap) return 17;
+    if (fault("18 comes before 17") && number == 17 && zeros) return 18;
+    if (fault("a minus before a space is 17") && number == 5 && has(field, "-", " ")) return 17;
+    if (fault("a leading zero behind a minus is 5") && number == 18 && zeros && has(field, "-", "0")) return 5;
+    if (fault("a blank field is 5") && strcmp(field, "    ") == 0) return 5;
+    return number;
+}
+
+/* Changes the refusal of a line with a misspelt field, whether this is the first fault of the line or a later one. */
+static void change_spelling(uint32_t *number, uint64_t *line, const uint8_t *text) {
+    char field[FIELD + 1] = {0};
+    if (*number != 6 && !of_spelling(*number)) return;
+    const uint8_t *at = misspelt_field(text, *line);
+    if (*at == '\n') return;
+    if (fault("a line's spelling comes before its ranges")) *number = misspelt(at);
+    if (!of_spelling(*number)) return;
+    *number = other_misspelling(*number, memcpy(field, at, FIELD));
+    if (fault("7 comes before 17") && *number == 17 && at == text + 1) *number = 7;
+    if (fault("17 has line 0") && *number == 17) *line = 0;
+}
+
+/* Whether the fault is that a field is taken for another: these faults say what is seen. */
+static int seen_otherwise(void) {
+    const char *asked = getenv("FAULT");
+    return asked != NULL && strstr(asked, " is seen ") != NULL;
+}
+
+/* A field as it is seen: one that is wrongly taken becomes 0, and one that is wrongly refused gets an x. */
+static void see_field(uint8_t *field) {
+    if (fault("-0 is seen as 0") && memcmp(field, "  -0", FIELD) == 0) field[2] = ' ';
+    if (fault("a minus in the last column is seen before the next field's digit") &&
+        memcmp(field, "   -", FIELD) == 0 && isdigit(field[FIELD]))
+        field[3] = '0';
+    if (fault("a minus in the first column is seen after the digit of the field before") && field[0] == '-' &&
+        isdigit(field[-1]))
+        field[0] = 'x';
+}
+
+/* The text as it is seen, field by field. */
+static const uint8_t *seen(const uint8_t *text, size_t length) {
+    static uint8_t other[MOST_TEXT + 1];
+    if (!seen_otherwise() || length > MOST_TEXT) return text;
+    memcpy(other, text, length);
+    other[length] = '\n';
+    for (uint8_t *line = other, *end; line < other + length; line = end + 1) {
+        end = memchr(line, '\n', (size_t)(other + length + 1 - line));
+        for (uint8_t *field = line + 1; field + FIELD <= end; field += FIELD) see_field(field);
+    }
+    return other;
+}
+
 /* The refusal that is given in the place of the true one. */
 static void change_refusal(uint32_t *number, uint64_t *line, const uint8_t *text, size_t length) {
+    change_spelling(number, line, text);
     if (fault("lines are counted from 0") && *line > 0) --*line;
     if (fault("2 comes before 1") && *number == 1 && text[length - 1] != '\n') *number = 2;
     if (fault("3 comes after 4") && *number == 3 && *line == 1 && length < 10) *number = 4;
@@ -135,6 +229,7 @@ static void change_pair_refusal(uint32_t *number, bantameasel_pair pair) {
 bantameasel_book bantameasel_read(const uint8_t *text, size_t text_length, int32_t *table, size_t table_length) {
     if (fault("a text may be one byte longer") && text_length == MOST_TEXT + 1) text_length--;
     if (fault("a text is written") && text_length > 9) ((uint8_t *)text)[9] ^= 1;
+    text = seen(text, text_length);
     bantameasel_book answer = true_read(text, text_length, table, table_length);
     size_t numbers = 4 + ROW * (answer.plain + answer.exceptions) + 2 * answer.preferences;
     if (fault("Read writes before a refusal") && answer.refusal != 0 && table_length > 0) table[0] ^= 1;
@@ -243,7 +338,7 @@ bantameasel_answer bantameasel_after(const uint8_t *text, size_t length, bantame
 
 /* ---- the width of Line: 12 fields for exceptions in some books, 16 in others */
 
-enum { FIRST_FIELD = 5, FIELD = 4, NARROW = 12, WIDE = 16 };
+enum { FIRST_FIELD = 5, NARROW = 12, WIDE = 16 };
 
 /* How many fields a line has that is at fault: in a book of so many exceptions, of a pair that takes so many. */
 static int faulty_fields(uint64_t exceptions, int taken) {

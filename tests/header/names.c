@@ -17,9 +17,23 @@ static const faulty TEXTS[] = {
     {"R\n", BANTAMEASEL_REFUSED_LINE_PLACE, 1},
     {"B   1   1\n", BANTAMEASEL_REFUSED_LINE_PLACE, 2},
     {"B   1\n", BANTAMEASEL_REFUSED_LINE_LENGTH, 1},
-    {"B   1  01\n", BANTAMEASEL_REFUSED_FIELD_MISSPELT, 1},
+    {"B   1   x\n", BANTAMEASEL_REFUSED_FIELD_CHARACTER, 1},
+    {"B   11 1x\n", BANTAMEASEL_REFUSED_FIELD_CHARACTER, 1},
+    {"B   1-  1\n", BANTAMEASEL_REFUSED_FIELD_CHARACTER, 1},
+    {"B   -1000\n", BANTAMEASEL_REFUSED_FIELD_CHARACTER, 1},
+    {"B   1    \n", BANTAMEASEL_REFUSED_FIELD_GAP, 1},
+    {"B   101 1\n", BANTAMEASEL_REFUSED_FIELD_GAP, 1},
+    {"B       1\n", BANTAMEASEL_REFUSED_FIELD_GAP, 1},
+    {"B   1   1\nZ0   \n", BANTAMEASEL_REFUSED_FIELD_GAP, 2},
+    {"B   1  01\n", BANTAMEASEL_REFUSED_FIELD_ZERO, 1},
+    {"B   1 -01\n", BANTAMEASEL_REFUSED_FIELD_ZERO, 1},
+    {"B  02   1\n", BANTAMEASEL_REFUSED_FIELD_ZERO, 1},
+    {"B   1   1\nZ  -0\n", BANTAMEASEL_REFUSED_FIELD_ZERO, 2},
     {"B   1  49\n", BANTAMEASEL_REFUSED_OUT_OF_RANGE, 1},
+    {"B   1-100\n", BANTAMEASEL_REFUSED_OUT_OF_RANGE, 1},
+    {"B   1   1\nR   2       0   0   0   0   0   0   0\n", BANTAMEASEL_REFUSED_OUT_OF_RANGE, 2},
     {"B   2   1\n", BANTAMEASEL_REFUSED_EDITION, 1},
+    {"B   2    \n", BANTAMEASEL_REFUSED_EDITION, 1},
     {"B   1   1\nX   0   0   0   0   0   0   0   0   0\n", BANTAMEASEL_REFUSED_NO_HEAD, 2},
     {"B   1   1\nP   1   1\n", BANTAMEASEL_REFUSED_PREFERENCE, 2},
     {"B   1   1\nP  16   1\n", BANTAMEASEL_REFUSED_PREFERENCE, 2},
@@ -107,6 +121,7 @@ void test_refusals(void) {
         others_refuse(text, length, none, TEXTS[k].refusal, TEXTS[k].line);
         firsts_refuse(text, length, TEXTS[k].refusal, TEXTS[k].line);
     }
+    expect("the older name of 5", BANTAMEASEL_REFUSED_FIELD_MISSPELT, BANTAMEASEL_REFUSED_FIELD_CHARACTER);
     test_pairs();
     test_tables();
 }
@@ -154,6 +169,8 @@ static void test_words_of(const char *(*words)(uint32_t), uint32_t last) {
 void test_words(void) {
     test_words_of(bantameasel_refusal_words, BANTAMEASEL_LAST_REFUSAL);
     test_words_of(bantameasel_verdict_words, BANTAMEASEL_LAST_VERDICT);
+    expect("the words of 17", strstr(bantameasel_refusal_words(17), "blank") != NULL, 1);
+    expect("the words of 18", strstr(bantameasel_refusal_words(18), "leading zero") != NULL, 1);
     expect("the words of 11", strstr(bantameasel_refusal_words(11), "Z line") != NULL, 1);
     expect("the words of verdict 4", strstr(bantameasel_verdict_words(4), "outranks one taken here") != NULL, 1);
 }
