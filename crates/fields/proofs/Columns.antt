@@ -139,6 +139,11 @@ module _ (a b c d m : ℕ) (neg t : Bool) (em : m ≡ sizeOf a b c d) (en : neg 
   unfolding readColumns pick
   is-misspelt q e f = sym (spelt-is ∙ rw (← et, e, f))
 
+-- Columns that are known to be so.
+pub usual-spelt : (a b c d m : ℕ) (neg t : Bool) → m ≡ sizeOf a b c d → neg ≡ minusIn a b c → t ≡ true
+    → (t ≡ true → same (columns (minusIn a b c) (sizeOf a b c d)) (a ∷ b ∷ c ∷ d ∷ []) ≡ true) → (v : ℤ) → v ≡ signed neg m → Value v ≡ spelt a b c d
+usual-spelt a b c d m neg t em en et right v ev = is-spelt a b c d m neg true em en (rw (em, en) (sym (right et))) v refl ev
+
 -- ---- ranges
 -- what the machine reads back of a number that fits
 abbrev pub back : ℤ → ℤ

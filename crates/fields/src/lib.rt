@@ -1,6 +1,6 @@
 // Fields: four columns read and written, and the number of a field against what its content allows.
 ghost use mathlib.Core.Path.{_≡_};
-ghost use mathlib.Core.Bool.{false};
+ghost use mathlib.Core.Bool.{true, false};
 ghost use mathlib.Core.List.{[], _∷_};
 ghost use Prim.Native.Nat.{_+_, _*_, _<_, _≤_};
 ghost use lib.IntN.{pos};
@@ -164,10 +164,27 @@ pub fn misspelling(a: u8, b: u8, c: u8, d: u8) -> u32
 
 // ---- a field
 
+// One or two digits after spaces, a minus directly before them or not, and no leading zero: so most fields are, and all such columns are how
+// their number is written.
+pub fn is_usual(a: u8, b: u8, c: u8, d: u8) -> bool
+    ensures { λ r. ⌜ (r ≡ true → same (columns (minusIn a b c) (sizeOf a b c d)) (a ∷ b ∷ c ∷ d ∷ []) ≡ true) ⌝ }
+{
+    if (a != b' ') | !is_digit(d) {
+        return false;
+    }
+    if (b'1' <= c) & (c <= b'9') {
+        return (b == b' ') | (b == b'-');
+    }
+    (b == b' ') & ((c == b' ') | ((c == b'-') & (d != b'0')))
+}
+
 // What four columns are.
 pub fn spell(a: u8, b: u8, c: u8, d: u8) -> Field
     ensures { λ r. ⌜ r ≡ spelt a b c d ⌝ }
 {
+    if is_usual(a, b, c, d) {
+        return Field::Value(to_signed(minus_in(a, b, c), size(a, b, c, d)));
+    }
     let m = size(a, b, c, d);
     let neg = minus_in(a, b, c);
     if columns_are(neg, m, a, b, c, d) {
