@@ -297,7 +297,7 @@ static flaw gap_flaw(const char *columns)
     if (behind == COLUMNS) {
         return (flaw){ 0, COLUMNS, "the number does not stand at the right of its field" };
     }
-    return (flaw){ gap, behind - gap, "a space stands between digits; a field holds one number" };
+    return (flaw){ gap, behind - gap, "a space stands after a digit, and more follows; a field holds one number" };
 }
 
 /* 18: the minus of "-0", or the zeros that lead; a zero in the last column does not. */

@@ -5,7 +5,7 @@ use crate::book::*;
 use crate::engine;
 use crate::meaning::Oracle;
 use crate::process::{allow_seconds, MOST_SECONDS};
-use crate::text::{a_line_of, coarse, read_coarsely, read_table, table_of, text_of};
+use crate::text::{a_line_of, read_table, table_of, text_of};
 use std::fmt::Debug;
 use std::fs::File;
 use std::os::unix::fs::FileExt;
@@ -171,9 +171,7 @@ impl Checker {
         let mut lent = self.lend::<i32>(length);
         let answer = engine::read(known.text, lent.part());
         let expected = fitting.as_ref().map(|table| [0, 1, 2, 3].map(|place| table[place] as u64)).map_err(|r| *r);
-        let compared = same(&expected, &answer)
-            .and_then(|()| lent.holds(fitting.as_deref().unwrap_or(&[])))
-            .and_then(|()| same_coarsely(known.text, answer.err()));
+        let compared = same(&expected, &answer).and_then(|()| lent.holds(fitting.as_deref().unwrap_or(&[])));
         compared.map_err(|what| known.differs(format!("Read, {length} numbers lent: {what}")))
     }
 
@@ -283,14 +281,6 @@ fn compare_page(
     let count = expected.as_ref().map(|page| page.len() as u64 / 3).map_err(|refusal| *refusal);
     same(&count, &answer)?;
     lent.holds(expected.as_deref().unwrap_or(&[]))
-}
-
-/// Tests that a text is refused as it was before misspelt fields were told finely: with 17 and 18 taken for 5, and the
-/// lent buffer's 15 left out, the number and the line are those of document 01's reading.
-fn same_coarsely(text: &[u8], refusal: Option<Refusal>) -> Result<(), String> {
-    let of_text = refusal.filter(|refusal| refusal.number != 15);
-    let compared = same(&read_coarsely(text).err(), &of_text.as_ref().map(coarse));
-    compared.map_err(|what| format!("with 17 and 18 taken for 5: {what}"))
 }
 
 /// Tests that the engine's answer is the expected one.

@@ -5,21 +5,8 @@ use crate::book::*;
 
 const LINE_FEED: u8 = 10;
 
-/// How a reading takes a field: the number that it spells, or the number of the refusal if it is misspelt.
-type Spelling = fn(&[u8]) -> Result<i32, u32>;
-
 /// Reads a text, or gives the first refusal of 1 to 11, 17 and 18 that applies.
 pub fn read_text(text: &[u8]) -> Result<Book, Refusal> {
-    read_by(told_finely, text)
-}
-
-/// Reads a text as document 01 alone has it: 5 is the one refusal of a misspelt field.
-pub fn read_coarsely(text: &[u8]) -> Result<Book, Refusal> {
-    read_by(told_coarsely, text)
-}
-
-/// Reads a text by one of the two ways to take a field.
-fn read_by(spelling: Spelling, text: &[u8]) -> Result<Book, Refusal> {
     if text.len() > TEXT {
         return Err(refused(1));
     }
@@ -31,8 +18,7 @@ fn read_by(spelling: Spelling, text: &[u8]) -> Result<Book, Refusal> {
     let mut number = 0;
     for line in text[..text.len() - 1].split(|byte| *byte == LINE_FEED) {
         number += 1;
-        let read = read_line(spelling, &mut book, above, line);
-        above = read.map_err(|refusal| Refusal { number: refusal, line: number })?;
+        above = read_line(&mut book, above, line).map_err(|refusal| Refusal { number: refusal, line: number })?;
     }
     if above != b'Z' {
         return Err(Refusal { number: 3, line: number + 1 });
@@ -42,7 +28,7 @@ fn read_by(spelling: Spelling, text: &[u8]) -> Result<Book, Refusal> {
 
 /// Reads one line, given without its line feed, below a line of the letter `above` (0: none).
 /// Answers its letter, or the number of the first refusal that applies.
-fn read_line(spelling: Spelling, book: &mut Book, above: u8, line: &[u8]) -> Result<u8, u32> {
+fn read_line(book: &mut Book, above: u8, line: &[u8]) -> Result<u8, u32> {
     let letter = *line.first().ok_or(3u32)?;
     if !letters_below(above).contains(&letter) {
         return Err(3);
@@ -50,7 +36,7 @@ fn read_line(spelling: Spelling, book: &mut Book, above: u8, line: &[u8]) -> Res
     if line.len() + 1 != bytes_of_line(letter) {
         return Err(4);
     }
-    let fields = read_fields(spelling, book, letter, &line[1..])?;
+    let fields = read_fields(book, letter, &line[1..])?;
     take_line(book, letter, &fields)?;
     Ok(letter)
 }
@@ -76,23 +62,18 @@ fn bytes_of_line(letter: u8) -> usize {
 }
 
 /// Reads the fields from left to right, each tested for its spelling first, then 7, 6.
-fn read_fields(spelling: Spelling, book: &Book, letter: u8, columns: &[u8]) -> Result<Vec<i32>, u32> {
+fn read_fields(book: &Book, letter: u8, columns: &[u8]) -> Result<Vec<i32>, u32> {
     let mut fields = Vec::with_capacity(9);
     for (place, field) in columns.chunks(4).enumerate() {
-        let value = spelling(field)?;
+        let value = read_field(field)?;
         test_field(book, letter, place, value)?;
         fields.push(value);
     }
     Ok(fields)
 }
 
-/// The number that a field spells, or 5.
-fn told_coarsely(field: &[u8]) -> Result<i32, u32> {
-    spelt(field).ok_or(5)
-}
-
 /// The number that a field spells if none of 5, 17 and 18 applies to it, else the first that applies.
-fn told_finely(field: &[u8]) -> Result<i32, u32> {
+fn read_field(field: &[u8]) -> Result<i32, u32> {
     match misspelling(field) {
         Some(refusal) => Err(refusal),
         None => Ok(spelt(field).expect("a field to which none of 5, 17 and 18 applies spells a number")),
@@ -156,12 +137,6 @@ fn has_leading_zero(field: &[u8]) -> bool {
 /// It "is "-0"".
 fn is_minus_zero(field: &[u8]) -> bool {
     field == b"  -0"
-}
-
-/// A refusal as it was before misspelt fields were told finely: 17 and 18 are taken for 5.
-pub fn coarse(refusal: &Refusal) -> Refusal {
-    let number = if matches!(refusal.number, 17 | 18) { 5 } else { refusal.number };
-    Refusal { number, ..*refusal }
 }
 
 /// Tests one field's value: 7 for the edition, 6 for the others.

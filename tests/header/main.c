@@ -1,6 +1,6 @@
 /* Tests what the C header says against the library: names, limits, words, layout, NULL, its listings, stack, threads.
  *
- *     header VERSION    all of it; VERSION is that of people.mk, as 2.1
+ *     header VERSION    all of it; VERSION is that of people.mk, as 2.2
  *     header null       only NULL with length 0, to be run under valgrind */
 #include <stdio.h>
 #include <string.h>

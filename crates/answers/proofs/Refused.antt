@@ -18,7 +18,7 @@ use Rattle.book.specs.Kinds.{kinds, kind, unknown, fieldsOf, bytes, none, excep
 use Rattle.text.specs.declared.State.{State}
 use Rattle.text.specs.declared.Field.{Field}
 use Rattle.text.specs.declared.Field.the-variants.{Value, Misspelt}
-use Rattle.text.specs.Fields.{Misspells, is-stray, is-gapped, is-zeroed, firstField}
+use Rattle.text.specs.Fields.{Misspells, is-stray, is-gapped, is-wrong-zero, firstField}
 use Rattle.text.specs.Lines.{Numbers, numbers, fault, andThen, inside, testField, readFields, headless, missing, miscounted, wholeOf, Line, line, wrong, unless, judged, readRest, readKind, kindFor, readLine, lines, toFirst}
 use Rattle.text.specs.Reading.{Outcome, prepend, onLine, readEnd, readLines, step, rowOf, start, lastByte, readText, shapeOf}
 use Rattle.text.specs.Reading.Outcome.{accepted, refused}
@@ -68,7 +68,7 @@ Spelt (Misspelt q) = Fault q
 spelling-fault : (bs : List ℕ) (q : ℕ) → Misspells bs q → Fault q
 spelling-fault bs q (is-stray e) = record { low = omega arith; high = omega arith }
 spelling-fault bs q (is-gapped e f) = record { low = omega arith; high = omega arith }
-spelling-fault bs q (is-zeroed e f g) = record { low = omega arith; high = omega arith }
+spelling-fault bs q (is-wrong-zero e f g) = record { low = omega arith; high = omega arith }
 
 first-spelt : (bs : List ℕ) → Spelt (firstField bs)
 unfolding firstField

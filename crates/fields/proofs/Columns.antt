@@ -18,7 +18,7 @@ use borrow.Author.Needs.{sfits-of}
 use borrow.Author.Tests.{eq-eqb, ne-eqb, lt-ltb, le-ltb, le-leb, lt-leb, ltb-true, ltb-false}
 use Rattle.logic.specs.Tests.{both, either, pick}
 use Rattle.text.specs.declared.Field.the-variants.{Value, Misspelt}
-use Rattle.text.specs.Fields.{columnOf, columns, digitOf, sizeOf, minusIn, signed, same, readColumns, spelt, firstField, misspelling, inColumns}
+use Rattle.text.specs.Fields.{columnOf, columns, digitOf, sizeOf, minusIn, signed, same, readColumns, spelt, firstField, misspelling, isNumber, inColumns}
 use Rattle.text.specs.Lines.{between}
 
 module _ (b : ℕ) where
@@ -132,7 +132,7 @@ module _ (a b c d m : ℕ) (neg t : Bool) (em : m ≡ sizeOf a b c d) (en : neg 
   unfolding readColumns pick
   is-spelt v e f = sym (spelt-is ∙ rw (← et, e, f))
 
-  pub not-right : t ≡ false → same (columns (minusIn a b c) (sizeOf a b c d)) (a ∷ b ∷ c ∷ d ∷ []) ≡ false
+  pub not-right : t ≡ false → isNumber a b c d ≡ false
   not-right e = rw (← em, ← en, ← et) e
 
   pub is-misspelt : (q : ℕ) → t ≡ false → q ≡ misspelling (a ∷ b ∷ c ∷ d ∷ []) → Misspelt q ≡ spelt a b c d
@@ -141,7 +141,7 @@ module _ (a b c d m : ℕ) (neg t : Bool) (em : m ≡ sizeOf a b c d) (en : neg 
 
 -- Columns that are known to be so.
 pub usual-spelt : (a b c d m : ℕ) (neg t : Bool) → m ≡ sizeOf a b c d → neg ≡ minusIn a b c → t ≡ true
-    → (t ≡ true → same (columns (minusIn a b c) (sizeOf a b c d)) (a ∷ b ∷ c ∷ d ∷ []) ≡ true) → (v : ℤ) → v ≡ signed neg m → Value v ≡ spelt a b c d
+    → (t ≡ true → isNumber a b c d ≡ true) → (v : ℤ) → v ≡ signed neg m → Value v ≡ spelt a b c d
 usual-spelt a b c d m neg t em en et right v ev = is-spelt a b c d m neg true em en (rw (em, en) (sym (right et))) v refl ev
 
 -- ---- ranges

@@ -8,8 +8,8 @@ use lib.Dec.{eqb, leb}
 use borrow.Author.Tests.{eq-eqb, ne-eqb}
 use Rattle.logic.specs.Tests.{both, either, pick, every}
 use Rattle.logic.proofs.Tests.{and-both, or-either}
-use Rattle.text.specs.Fields.{isSpace, isMinus, isDigit, someFrom, someByte, otherByte, strayByte, stray, spaceAfterDigit, gapped, misspelling}
-use Rattle.text.proofs.Spelling.{right, left-over}
+use Rattle.text.specs.Fields.{isSpace, isMinus, isDigit, someFrom, someByte, otherByte, strayByte, stray, spaceAfterDigit, gapped, misspelling, isNumber}
+use Rattle.text.proofs.Spelling.{left-over}
 
 pub digit-is : (b : ℕ) → leb 48 b && leb b 57 ≡ isDigit b
 unfolding isDigit
@@ -76,5 +76,5 @@ module _ (a b c d : ℕ) where
     unfolding misspelling pick
     meets-17 h = rw (← e, f, ← g, h)
 
-    pub meets-18 : y ≡ false → right a b c d ≡ false → 18 ≡ misspelling (a ∷ b ∷ c ∷ d ∷ [])
+    pub meets-18 : y ≡ false → isNumber a b c d ≡ false → 18 ≡ misspelling (a ∷ b ∷ c ∷ d ∷ [])
     meets-18 h w = sym (left-over a b c d w (sym e ∙ f) (sym g ∙ h))

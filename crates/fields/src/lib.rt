@@ -10,7 +10,7 @@ ghost use lib.Signed.{leZ};
 ghost use Rattle.logic.specs.Tests.{both};
 ghost use Rattle.book.specs.Kinds.{rangeOf};
 ghost use Rattle.text.specs.Fields.{digitOf, columnOf, columns, minusIn, signed, sizeOf, same, spelt, firstField, written, writtenAll, Short};
-ghost use Rattle.text.specs.Fields.{isSpace, isDigit, strayByte, stray, gapped, misspelling as misspellingOf};
+ghost use Rattle.text.specs.Fields.{isSpace, isDigit, strayByte, stray, gapped, misspelling as misspellingOf, isNumber};
 ghost use Rattle.text.specs.Lines.{between, filledIn, headless};
 ghost use Rattle.text.specs.Reading.{toNat};
 ghost use Rattle.fields.specs.Checks.{numberIs, range, seeOf};
@@ -148,7 +148,7 @@ pub fn has_gap(a: u8, b: u8, c: u8, d: u8) -> bool
 
 // The refusal of columns that are misspelt: 5, 17, and for all that is left 18.
 pub fn misspelling(a: u8, b: u8, c: u8, d: u8) -> u32
-    requires { ⌜ same (columns (minusIn a b c) (sizeOf a b c d)) (a ∷ b ∷ c ∷ d ∷ []) ≡ false ⌝ }
+    requires { ⌜ isNumber a b c d ≡ false ⌝ }
     ensures { λ r. ⌜ r ≡ misspellingOf (a ∷ b ∷ c ∷ d ∷ []) ⌝ }
 {
     let stray = has_stray(a, b, c, d);
@@ -164,10 +164,10 @@ pub fn misspelling(a: u8, b: u8, c: u8, d: u8) -> u32
 
 // ---- a field
 
-// One or two digits after spaces, a minus directly before them or not, and no leading zero: so most fields are, and all such columns are how
-// their number is written.
+// One or two digits after spaces, a minus directly before them or not, no leading zero and no "-0": so most fields are, and all such columns
+// are how their number is written.
 pub fn is_usual(a: u8, b: u8, c: u8, d: u8) -> bool
-    ensures { λ r. ⌜ (r ≡ true → same (columns (minusIn a b c) (sizeOf a b c d)) (a ∷ b ∷ c ∷ d ∷ []) ≡ true) ⌝ }
+    ensures { λ r. ⌜ (r ≡ true → isNumber a b c d ≡ true) ⌝ }
 {
     if (a != b' ') | !is_digit(d) {
         return false;
@@ -178,7 +178,7 @@ pub fn is_usual(a: u8, b: u8, c: u8, d: u8) -> bool
     (b == b' ') & ((c == b' ') | ((c == b'-') & (d != b'0')))
 }
 
-// What four columns are.
+// What four columns are. The number of a usual field is made apart: what the look has told of its columns makes that cheap.
 pub fn spell(a: u8, b: u8, c: u8, d: u8) -> Field
     ensures { λ r. ⌜ r ≡ spelt a b c d ⌝ }
 {

@@ -10,15 +10,15 @@ use lib.ListN.{length, replicate}
 use Rattle.logic.specs.Lists.{Every}
 use Rattle.sets.specs.declared.Pair.{Pair}
 use Rattle.book.specs.declared.Shape.{Shape}
-use Rattle.text.specs.declared.Field.the-variants.{Misspelt}
-use Rattle.text.specs.Fields.{Misspells, WellSpelt, spelt}
+use Rattle.text.specs.declared.Field.the-variants.{Value, Misspelt}
+use Rattle.text.specs.Fields.{written, Misspells, Short, WellSpelt, spelt}
 use Rattle.text.specs.Lines.{lines}
 use Rattle.text.specs.Reading.{readText, readInto, tableOf}
 use Rattle.text.specs.Reading.Outcome.{accepted, refused as unread}
 use Rattle.text.specs.Tables.{testTable}
 use Rattle.text.specs.Writing.{textOf, writeInto}
 use Rattle.text.specs.Writing.Text.{noText}
-use Rattle.text.proofs.Spelling.{misspelt-iff, one-misspelling, well-spelt-iff}
+use Rattle.text.proofs.Spelling.{value-iff, misspelt-iff, well-spelt-iff}
 use Rattle.text.proofs.Inverse.{read-write, write-read}
 use Rattle.meaning.specs.Books.{Book, Lawful}
 use Rattle.meaning.specs.Meant.{bookOf}
@@ -94,15 +94,16 @@ pub record Contracts (M : Type 1) : Type 2 where
 
 -- Demand 1. Every operation ends on every input, turns down what is faulty by the number and line of the documents, and then leaves every lent
 -- buffer untouched: the contracts, in whose definitions a refused Read, Write, Line or page leaves the slice that it was lent. A text is never
--- refused with number 0, nor with a line past the one after its last. Four columns are refused as misspelt exactly by the one of 5, 17 and 18 that
--- they meet, which is never two of them; they are well spelt exactly where they meet none; and the three stand where 5 stood.
+-- refused with number 0, nor with a line past the one after its last. Four columns are read as a number exactly where they
+-- are how it is written, refused as misspelt exactly by the one of 5, 17 and 18 that they meet, and well spelt exactly where they meet none; and
+-- the three stand where 5 stood.
 pub record DemandOne : Type 1 where
   pub read-untouched : (l : List ℤ) (q at′ : ℕ) → readInto l (unread q at′) ≡ l
   pub write-untouched : (l : List ℕ) (q at′ : ℕ) → writeInto l (noText q at′) ≡ l
   pub left-untouched : (A : Type 0) (f : A → List ℕ) (l : List ℕ) (q at′ : ℕ) → left f l (turned q at′) ≡ l
   pub numbered : (bs : List ℕ) → Known (suc (length (lines bs))) (readText bs)
+  pub spelt-number : (a b c d : ℕ) (v : ℤ) → (spelt a b c d ≡ Value v) ↔ (Short v × (written v ≡ a ∷ b ∷ c ∷ d ∷ []))
   pub misspelt : (a b c d q : ℕ) → (spelt a b c d ≡ Misspelt q) ↔ Misspells (a ∷ b ∷ c ∷ d ∷ []) q
-  pub misspelt-once : (bs : List ℕ) (q r : ℕ) → Misspells bs q → Misspells bs r → q ≡ r
   pub well-spelt : (a b c d : ℕ) → WellSpelt (a ∷ b ∷ c ∷ d ∷ []) ↔ ((q : ℕ) → Misspells (a ∷ b ∷ c ∷ d ∷ []) q → ⊥)
   pub as-before : (bs : List ℕ) → readBefore bs ≡ toldBefore (readText bs)
 
@@ -166,8 +167,8 @@ demands = record {
     write-untouched = λ l q at′. refl;
     left-untouched = λ A f l q at′. refl;
     numbered = text-known;
+    spelt-number = value-iff;
     misspelt = misspelt-iff;
-    misspelt-once = one-misspelling;
     well-spelt = well-spelt-iff;
     as-before = where-five-stood;
   };

@@ -21,14 +21,14 @@ use Rattle.book.proofs.Counts.{many}
 use Rattle.text.specs.declared.State.{State}
 use Rattle.text.specs.declared.Field.{Field}
 use Rattle.text.specs.declared.Field.the-variants.{Value, Misspelt}
-use Rattle.text.specs.Fields.{Misspells, is-stray, is-gapped, is-zeroed, firstField}
+use Rattle.text.specs.Fields.{sizeOf, minusIn, signed, misspelling, Misspells, is-stray, is-gapped, is-wrong-zero, readColumns, isNumber, spelt, firstField}
 use Rattle.text.specs.Lines.{Numbers, Line, lines, kindFor, inside, andThen, testField, readFields, headless, missing, miscounted, wholeOf, unless, judged, readRest, readKind, readLine}
 use Rattle.text.specs.Lines.Numbers.{numbers, fault}
 use Rattle.text.specs.Lines.Line.{line, wrong}
 use Rattle.text.specs.Reading.{Outcome, start, step, rowOf, prepend, readEnd, onLine, readLines, lastByte, readText, shapeOf}
 use Rattle.text.specs.Reading.Outcome.{accepted, refused}
 use Rattle.text.proofs.Spelling.{misspelt-iff}
-use Rattle.promises.specs.Misspelt.{fieldBefore, fieldsBefore, restBefore, lineBefore, linesBefore, readBefore, numberBefore, toldBefore}
+use Rattle.promises.specs.Misspelt.{columnsBefore, speltBefore, firstBefore, fieldsBefore, restBefore, lineBefore, linesBefore, readBefore, numberBefore, toldBefore}
 
 -- A number that is told as before.
 abbrev Same : ℕ → Type 0
@@ -50,11 +50,26 @@ misspelt-before : (bs : List ℕ) (q : ℕ) → Misspells bs q → numberBefore 
 unfolding numberBefore either pick
 misspelt-before bs q (is-stray e) = refl
 misspelt-before bs q (is-gapped e f) = refl
-misspelt-before bs q (is-zeroed e f g) = refl
+misspelt-before bs q (is-wrong-zero e f g) = refl
 
-first-before : (bs : List ℕ) (q : ℕ) → firstField bs ≡ Misspelt q → numberBefore q ≡ 5
-unfolding firstField
-first-before bs q e = misspelt-before _ q (misspelt-iff (getD bs 0 0) (getD bs 1 0) (getD bs 2 0) (getD bs 3 0) q .0 e)
+-- Today's field, told as before: 5 for each of the three.
+abbrev toldField : Field → Field
+toldField (Value v) = Value v
+toldField (Misspelt q) = Misspelt (numberBefore q)
+
+-- What was read as a number is, and nothing else: the same columns are compared. What was 5 is one of the three.
+spelt-before : (a b c d : ℕ) → speltBefore a b c d ≡ toldField (spelt a b c d)
+unfolding speltBefore columnsBefore spelt readColumns pick
+spelt-before a b c d = go (isNumber a b c d) refl
+  where
+    go : (t : Bool) → isNumber a b c d ≡ t → pick t (Value (signed (minusIn a b c) (sizeOf a b c d))) (Misspelt 5)
+        ≡ toldField (pick t (Value (signed (minusIn a b c) (sizeOf a b c d))) (Misspelt (misspelling (a ∷ b ∷ c ∷ d ∷ []))))
+    go true p = refl
+    go false p = ap Misspelt (sym (misspelt-before (a ∷ b ∷ c ∷ d ∷ []) (misspelling (a ∷ b ∷ c ∷ d ∷ [])) (misspelt-iff a b c d (misspelling (a ∷ b ∷ c ∷ d ∷ [])) .0 (rw p))))
+
+first-before : (bs : List ℕ) → firstBefore bs ≡ toldField (firstField bs)
+unfolding firstBefore firstField
+first-before bs = spelt-before (getD bs 0 0) (getD bs 1 0) (getD bs 2 0) (getD bs 3 0)
 
 range-same : (c : Content) (n : ℕ) → Same (rangeOf c n .fault)
 unfolding rangeOf numberBefore either pick
@@ -74,17 +89,17 @@ unfolding andThen
 then-before v (numbers vs) = refl
 then-before v (fault q) = refl
 
-field-before : (f : Field) (r : Range) (ns : Numbers) → Same (r .fault) → ((q : ℕ) → f ≡ Misspelt q → numberBefore q ≡ 5)
-    → testField (fieldBefore f) r (numbersBefore ns) ≡ numbersBefore (testField f r ns)
-unfolding testField fieldBefore
-field-before (Misspelt q) r ns e g = ap fault (sym (g q refl))
-field-before (Value v) r ns e g =
+field-before : (f : Field) (r : Range) (ns : Numbers) → Same (r .fault) → testField (toldField f) r (numbersBefore ns) ≡ numbersBefore (testField f r ns)
+unfolding testField
+field-before (Misspelt q) r ns e = refl
+field-before (Value v) r ns e =
     rw (then-before v ns) (ap (λ (q : ℕ). pick (inside r v) (numbersBefore (andThen v ns)) (fault q)) (sym e) ∙ pick-map numbersBefore (inside r v) (andThen v ns) (fault (r .fault)))
 
 fields-before : (cs : List Content) (n : ℕ) (bs : List ℕ) → fieldsBefore cs n bs ≡ numbersBefore (readFields cs n bs)
 unfolding fieldsBefore readFields
 fields-before [] n bs = refl
-fields-before (c ∷ cs) n bs = rw (fields-before cs n (drop 4 bs)) (field-before (firstField bs) (rangeOf c n) (readFields cs n (drop 4 bs)) (range-same c n) (first-before bs))
+fields-before (c ∷ cs) n bs =
+    rw (first-before bs, fields-before cs n (drop 4 bs)) (field-before (firstField bs) (rangeOf c n) (readFields cs n (drop 4 bs)) (range-same c n))
 
 -- ---- a line
 -- A kind's own refusals are neither 17 nor 18.

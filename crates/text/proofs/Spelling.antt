@@ -17,7 +17,7 @@ use Rattle.logic.proofs.Decide.{clash}
 use Rattle.logic.proofs.Tests.{both-left, both-right, either-true, agree, agreed, all, all-at}
 use Rattle.text.specs.declared.Field.{Field}
 use Rattle.text.specs.declared.Field.the-variants.{Value, Misspelt}
-use Rattle.text.specs.Fields.{columnOf, inColumns, columns, written, digitOf, sizeOf, minusIn, signed, same, isSpace, isMinus, isDigit, someFrom, someByte, otherByte, strayByte, stray, spaceAfterDigit, gapped, leadingZero, zeroed, misspelling, Misspells, is-stray, is-gapped, is-zeroed, Short, WellSpelt, readColumns, spelt, firstField}
+use Rattle.text.specs.Fields.{columnOf, inColumns, columns, written, digitOf, sizeOf, minusIn, signed, same, isSpace, isMinus, isDigit, someFrom, someByte, otherByte, strayByte, stray, spaceAfterDigit, gapped, leadingZero, wrongZero, misspelling, Misspells, is-stray, is-gapped, is-wrong-zero, Short, WellSpelt, readColumns, isNumber, spelt, firstField}
 use Rattle.text.proofs.Fields.{same-eq, read-written, written-read}
 
 -- ---- the refusals of any bytes
@@ -26,29 +26,29 @@ misspells-is : (bs : List ℕ) (q : ℕ) → Misspells bs q → misspelling bs �
 unfolding misspelling pick
 misspells-is bs q (is-stray e) = rw e
 misspells-is bs q (is-gapped e f) = rw (e, f)
-misspells-is bs q (is-zeroed e f g) = rw (e, f, g)
+misspells-is bs q (is-wrong-zero e f g) = rw (e, f, g)
 
 misspells-some : (bs : List ℕ) (q : ℕ) → Misspells bs q → eqb q 0 ≡ false
 misspells-some bs q (is-stray e) = refl
 misspells-some bs q (is-gapped e f) = refl
-misspells-some bs q (is-zeroed e f g) = refl
+misspells-some bs q (is-wrong-zero e f g) = refl
 
 meets : (bs : List ℕ) → eqb (misspelling bs) 0 ≡ false → Misspells bs (misspelling bs)
 unfolding misspelling pick
-meets bs e = go (stray bs) refl (gapped bs) refl (zeroed bs) refl e
+meets bs e = go (stray bs) refl (gapped bs) refl (wrongZero bs) refl e
   where
-    go : (s : Bool) → stray bs ≡ s → (g : Bool) → gapped bs ≡ g → (z : Bool) → zeroed bs ≡ z → eqb (pick s 5 (pick g 17 (pick z 18 0))) 0 ≡ false
+    go : (s : Bool) → stray bs ≡ s → (g : Bool) → gapped bs ≡ g → (z : Bool) → wrongZero bs ≡ z → eqb (pick s 5 (pick g 17 (pick z 18 0))) 0 ≡ false
         → Misspells bs (pick s 5 (pick g 17 (pick z 18 0)))
     go true p g q z r e = is-stray p
     go false p true q z r e = is-gapped p q
-    go false p false q true r e = is-zeroed p q r
+    go false p false q true r e = is-wrong-zero p q r
     go false p false q false r e = absurd (clash (sym e))
 
 -- Bytes that meet a refusal, but neither 5 nor 17, meet 18.
 meets-last : (bs : List ℕ) (q : ℕ) → Misspells bs q → stray bs ≡ false → gapped bs ≡ false → q ≡ 18
 meets-last bs q (is-stray x) f g = absurd (clash (sym f ∙ x))
 meets-last bs q (is-gapped x y) f g = absurd (clash (sym g ∙ y))
-meets-last bs q (is-zeroed x y z) f g = refl
+meets-last bs q (is-wrong-zero x y z) f g = refl
 
 -- No field meets two.
 pub one-misspelling : (bs : List ℕ) (q r : ℕ) → Misspells bs q → Misspells bs r → q ≡ r
@@ -115,20 +115,17 @@ byte zero = 32
 byte (suc zero) = 45
 byte (suc (suc k)) = 48 + k
 
--- The columns are how the number of their sign and size is written; that number fits four columns.
-abbrev pub right : ℕ → ℕ → ℕ → ℕ → Bool
-right a b c d = same (columns (minusIn a b c) (sizeOf a b c d)) (a ∷ b ∷ c ∷ d ∷ [])
-
+-- The number of their sign and size fits four columns.
 abbrev fits : ℕ → ℕ → ℕ → ℕ → Bool
 fits a b c d = ltb (sizeOf a b c d) (pick (minusIn a b c) 1000 10000)
 
--- If they are, they meet no refusal and the number fits; if not, they meet one.
+-- If the columns are a number's, they meet no refusal and the number fits; if not, they meet one.
 abbrev agrees : Bool → ℕ → Bool → Bool
 agrees true q f = both (eqb q 0) f
 agrees false q f = not (eqb q 0)
 
 abbrev told : ℕ → ℕ → ℕ → ℕ → Bool
-told a b c d = agrees (right a b c d) (misspelling (a ∷ b ∷ c ∷ d ∷ [])) (fits a b c d)
+told a b c d = agrees (isNumber a b c d) (misspelling (a ∷ b ∷ c ∷ d ∷ [])) (fits a b c d)
 
 abbrev told-3 : ℕ → ℕ → ℕ → Bool
 told-3 a b c = all (λ (k : ℕ). told a b c (byte k)) 12
@@ -140,7 +137,7 @@ abbrev told-1 : ℕ → Bool
 told-1 a = all (λ (k : ℕ). told-2 a (byte k)) 12
 
 test : all (λ (k : ℕ). told-1 (byte k)) 12 ≡ true
-unfolding columnOf inColumns columns digitOf sizeOf minusIn same isSpace isMinus isDigit someFrom someByte otherByte strayByte stray spaceAfterDigit gapped leadingZero zeroed misspelling both either pick every
+unfolding columnOf inColumns columns digitOf sizeOf minusIn same isSpace isMinus isDigit someFrom someByte otherByte strayByte stray spaceAfterDigit gapped leadingZero wrongZero misspelling both either pick every
 test = refl
 
 -- ---- the bytes that the test does not know
@@ -229,54 +226,54 @@ module _ (a b c d : ℕ) where
   unfolding misspelling stray someByte pick
   other-meets e = rw (other-stray 0 four e)
 
-  right-known : right a b c d ≡ true → some otherByte four ≡ false
+  number-known : isNumber a b c d ≡ true → some otherByte four ≡ false
   unfolding columns
-  right-known e = ap (some otherByte) (sym (same-eq (columns (minusIn a b c) (sizeOf a b c d)) four e)) ∙ columns-known 4 (minusIn a b c) (sizeOf a b c d)
+  number-known e = ap (some otherByte) (sym (same-eq (columns (minusIn a b c) (sizeOf a b c d)) four e)) ∙ columns-known 4 (minusIn a b c) (sizeOf a b c d)
 
   -- They are how their number is written exactly where they meet no refusal; then the number fits.
-  right-is : right a b c d ≡ eqb (misspelling four) 0
-  right-is = go (some otherByte four) refl
+  number-is : isNumber a b c d ≡ eqb (misspelling four) 0
+  number-is = go (some otherByte four) refl
     where
-      wrong : (t : Bool) → right a b c d ≡ t → some otherByte four ≡ true → t ≡ false
-      wrong true p e = absurd (clash (sym (right-known p) ∙ e))
+      wrong : (t : Bool) → isNumber a b c d ≡ t → some otherByte four ≡ true → t ≡ false
+      wrong true p e = absurd (clash (sym (number-known p) ∙ e))
       wrong false p e = refl
 
       by : (t : Bool) → agrees t (misspelling four) (fits a b c d) ≡ true → t ≡ eqb (misspelling four) 0
       by true e = sym (both-left _ (fits a b c d) e)
       by false e = agreed false (eqb (misspelling four) 0) e
 
-      go : (t : Bool) → some otherByte four ≡ t → right a b c d ≡ eqb (misspelling four) 0
-      go true p = wrong (right a b c d) refl p ∙ rw (other-meets p)
-      go false p = by (right a b c d) (tested p)
+      go : (t : Bool) → some otherByte four ≡ t → isNumber a b c d ≡ eqb (misspelling four) 0
+      go true p = wrong (isNumber a b c d) refl p ∙ rw (other-meets p)
+      go false p = by (isNumber a b c d) (tested p)
 
-  right-fits : right a b c d ≡ true → fits a b c d ≡ true
-  right-fits e = by (right a b c d) e (tested (right-known e))
+  number-fits : isNumber a b c d ≡ true → fits a b c d ≡ true
+  number-fits e = by (isNumber a b c d) e (tested (number-known e))
     where
       by : (t : Bool) → t ≡ true → agrees t (misspelling four) (fits a b c d) ≡ true → fits a b c d ≡ true
       by true e f = both-right (eqb (misspelling four) 0) (fits a b c d) f
       by false e f = absurd (clash e)
 
   -- Columns that are no number's and meet neither 5 nor 17 meet 18.
-  pub left-over : right a b c d ≡ false → stray four ≡ false → gapped four ≡ false → misspelling four ≡ 18
-  left-over e f g = meets-last four (misspelling four) (meets four (sym right-is ∙ e)) f g
+  pub left-over : isNumber a b c d ≡ false → stray four ≡ false → gapped four ≡ false → misspelling four ≡ 18
+  left-over e f g = meets-last four (misspelling four) (meets four (sym number-is ∙ e)) f g
 
   -- ---- reading
   -- They are refused as misspelt exactly by the refusal that they meet.
   pub misspelt-iff : (q : ℕ) → (spelt a b c d ≡ Misspelt q) ↔ Misspells four q
   unfolding spelt readColumns pick
-  misspelt-iff q = (λ e. there (right a b c d) refl e, λ x. rw (right-is, misspells-is four q x, misspells-some four q x))
+  misspelt-iff q = (λ e. there (isNumber a b c d) refl e, λ x. rw (number-is, misspells-is four q x, misspells-some four q x))
     where
-      there : (t : Bool) → right a b c d ≡ t → pick t (Value number) (Misspelt (misspelling four)) ≡ Misspelt q → Misspells four q
+      there : (t : Bool) → isNumber a b c d ≡ t → pick t (Value number) (Misspelt (misspelling four)) ≡ Misspelt q → Misspells four q
       there true p e = absurd (let z : _≡_ {A = ℕ} 0 1 = cc in omega arith)
-      there false p e = let w : misspelling four ≡ q = cc in rw w at (meets four (sym right-is ∙ p))
+      there false p e = let w : misspelling four ≡ q = cc in rw w at (meets four (sym number-is ∙ p))
 
   -- They are read as a number exactly where they are how it is written.
   pub value-iff : (v : ℤ) → (spelt a b c d ≡ Value v) ↔ (Short v × (written v ≡ four))
   unfolding spelt readColumns pick firstField
-  value-iff v = (λ e. (short (right a b c d) refl e, written-read a b c d v e), λ x. rw (x .1) at (read-written v [] (x .0)))
+  value-iff v = (λ e. (short (isNumber a b c d) refl e, written-read a b c d v e), λ x. rw (x .1) at (read-written v [] (x .0)))
     where
-      short : (t : Bool) → right a b c d ≡ t → pick t (Value number) (Misspelt (misspelling four)) ≡ Value v → Short v
-      short true p e = let w : number ≡ v = cc in rw w at (signed-short (minusIn a b c) (sizeOf a b c d) (right-fits p))
+      short : (t : Bool) → isNumber a b c d ≡ t → pick t (Value number) (Misspelt (misspelling four)) ≡ Value v → Short v
+      short true p e = let w : number ≡ v = cc in rw w at (signed-short (minusIn a b c) (sizeOf a b c d) (number-fits p))
       short false p e = absurd (let z : _≡_ {A = ℕ} 0 1 = cc in omega arith)
 
   -- They are well spelt exactly where none of the three applies.

@@ -12,7 +12,7 @@ use lib.ListN.{length}
 use Rattle.logic.specs.Tests.{both, either, pick, consIf, every, some}
 use Rattle.book.specs.Kinds.{kinds, kind, unknown, contents, fieldsOf, numbersOf, bytes, most, longest, rowOnce, mostRows, rangeOf}
 use Rattle.book.specs.Counts.{countsOf, frontOf, allCounts, countAt, shapeFrom, sumTo}
-use Rattle.text.specs.Fields.{columnOf, columns, digitOf, sizeOf, minusIn, signed, same, isSpace, isMinus, isDigit, someFrom, someByte, otherByte, strayByte, stray, spaceAfterDigit, gapped, leadingZero, zeroed, misspelling, readColumns, spelt, firstField, inColumns}
+use Rattle.text.specs.Fields.{columnOf, columns, digitOf, sizeOf, minusIn, signed, same, isSpace, isMinus, isDigit, someFrom, someByte, otherByte, strayByte, stray, spaceAfterDigit, gapped, leadingZero, wrongZero, misspelling, readColumns, spelt, firstField, inColumns}
 use Rattle.text.specs.Lines.{toFirst, lines, seek, kindFor, between, inside, andThen, testField, readFields, code, numbersIn, filledIn, headless, missing, miscounted, wholeOf, unless, judged, readRest, readKind, readLine}
 use Rattle.text.specs.Reading.{Outcome, start, toNat, lastOr, after, step, rowOf, prepend, readEnd, onLine, readLines, lastByte, readText, tableOf}
 use Rattle.text.specs.Reading.Outcome.{accepted, refused}
@@ -72,7 +72,7 @@ pub texts-right : T (texts
     (17, 2, "B   1   1\nR 1 0   0   0   0   0   0   0   0   0\nZ   1\n") ∷
     (5, 2, "B   1   1\nZ  +0\n") ∷
     (17, 2, "B   1   1\nZ    \n") ∷
-    (6, 1, "B   1  49\nZ    \n") ∷
+    (6, 2, "B   1   1\nR   2       0   0   0   0   0   0   0\nZ   1\n") ∷
     (7, 1, "B   2  01\nZ   0\n") ∷
     (18, 1, "B  02   1\nZ   0\n") ∷
     (7, 1, "B   2   1\nZ   0\n") ∷
@@ -92,7 +92,7 @@ pub texts-right : T (texts
     (11, 2, "B   1   1\nZ   1\n") ∷
     (11, 2, "B   1   1\nZ 248\n") ∷
     (11, 4, "B   1   1\nR   0   0   0   0   0   0   0   0   0\nR   0   0   0   0   0   0   0   0   0\nZ   1\n") ∷ []))
-unfolding kinds kind unknown contents fieldsOf bytes most longest rowOnce mostRows shapeFrom frontOf rangeOf both either pick consIf every some columnOf columns inColumns digitOf sizeOf minusIn signed same isSpace isMinus isDigit someFrom someByte otherByte strayByte stray spaceAfterDigit gapped leadingZero zeroed misspelling readColumns spelt firstField toFirst lines seek kindFor between inside andThen testField readFields code numbersIn filledIn headless missing miscounted wholeOf unless judged readRest readKind readLine start toNat lastOr after step rowOf prepend readEnd onLine readLines lastByte readText tableOf
+unfolding kinds kind unknown contents fieldsOf bytes most longest rowOnce mostRows shapeFrom frontOf rangeOf both either pick consIf every some columnOf columns inColumns digitOf sizeOf minusIn signed same isSpace isMinus isDigit someFrom someByte otherByte strayByte stray spaceAfterDigit gapped leadingZero wrongZero misspelling readColumns spelt firstField toFirst lines seek kindFor between inside andThen testField readFields code numbersIn filledIn headless missing miscounted wholeOf unless judged readRest readKind readLine start toNat lastOr after step rowOf prepend readEnd onLine readLines lastByte readText tableOf
 texts-right = tt
 
 pub tables-right : T (tables

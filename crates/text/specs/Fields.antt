@@ -101,18 +101,18 @@ gapped bs = either (every isSpace bs) (someByte spaceAfterDigit bs)
 unfoldable pub leadingZero : ℕ → ℕ → ℕ → Bool
 leadingZero before b after = both (not (isDigit before)) (both (eqb b 48) (isDigit after))
 
-unfoldable pub zeroed : List ℕ → Bool
-zeroed bs = either (someByte leadingZero bs) (same bs (32 ∷ 32 ∷ 45 ∷ 48 ∷ []))
+unfoldable pub wrongZero : List ℕ → Bool
+wrongZero bs = either (someByte leadingZero bs) (same bs (32 ∷ 32 ∷ 45 ∷ 48 ∷ []))
 
 -- The refusal of a misspelt field: 5; 17 "when, failing that"; 18 "when, failing both"; 0 where none of the three applies.
 unfoldable pub misspelling : List ℕ → ℕ
-misspelling bs = pick (stray bs) 5 (pick (gapped bs) 17 (pick (zeroed bs) 18 0))
+misspelling bs = pick (stray bs) 5 (pick (gapped bs) 17 (pick (wrongZero bs) 18 0))
 
 -- The same as propositions: the field meets this refusal.
 pub data Misspells (bs : List ℕ) : ℕ → Type 0 where
   is-stray : stray bs ≡ true → Misspells bs 5
   is-gapped : stray bs ≡ false → gapped bs ≡ true → Misspells bs 17
-  is-zeroed : stray bs ≡ false → gapped bs ≡ false → zeroed bs ≡ true → Misspells bs 18
+  is-wrong-zero : stray bs ≡ false → gapped bs ≡ false → wrongZero bs ≡ true → Misspells bs 18
 
 -- ---- a field read
 -- A number that four columns can hold, from -999 to 9999; and a field that is well spelt: how such a number is written.
@@ -128,6 +128,10 @@ pub record WellSpelt (bs : List ℕ) : Type 0 where
 -- Columns that are how the number of this sign and size is written have that number; all others are misspelt, by the refusal that they meet.
 unfoldable pub readColumns : Bool → ℕ → List ℕ → Field
 readColumns neg m bs = pick (same (columns neg m) bs) (Value (signed neg m)) (Misspelt (misspelling bs))
+
+-- Four columns are how the number of their sign and size is written.
+abbrev pub isNumber : ℕ → ℕ → ℕ → ℕ → Bool
+isNumber a b c d = same (columns (minusIn a b c) (sizeOf a b c d)) (a ∷ b ∷ c ∷ d ∷ [])
 
 -- What four columns are: the number that they are how to write, or misspelt.
 unfoldable pub spelt : ℕ → ℕ → ℕ → ℕ → Field
