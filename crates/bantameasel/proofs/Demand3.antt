@@ -14,9 +14,9 @@ use Rattle.meaning.specs.Listings.{Operation, first, after, onward, Call, goOn,
 use Rattle.answers.specs.Operations.{firstAnswer, afterAnswer, asks}
 use Rattle.answers.proofs.Means.{first-means, after-means}
 use Rattle.answers.proofs.Listed.{demand3-of-text, point-alone-of-texts}
-use Rattle.bantameasel.specs.declared.PairAnswer.{PairAnswer}
-use Rattle.bantameasel.specs.Across.{answerIn, answerFrom, HandedBack, pairsFrom}
-use Rattle.bantameasel.proofs.Across.{answer-same}
+use Rattle.across.specs.declared.PairAnswer.{PairAnswer}
+use Rattle.across.specs.Across.{answerIn, answerFrom, HandedBack, pairsFrom}
+use Rattle.across.proofs.Across.{answer-same}
 use Rattle.bantameasel.proofs.bantameasel_first.Statement as first-c
 use Rattle.bantameasel.proofs.bantameasel_first.Met as first-met
 use Rattle.bantameasel.proofs.bantameasel_after.Statement as after-c

@@ -1,2 +1,1 @@
-pub mod Across
 pub mod Demand3

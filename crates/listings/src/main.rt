@@ -1,8 +1,8 @@
 // Lists of calls, made by `run` from several beginnings with refused calls among them, and lines by the second form of Line. Of each list: a
 // heading; each answer, A and the pair, E, or F with number and line; then the pairs handed out, behind =; then the point reached, behind @.
 // Both slices are lent full of sevens; the last number of each is printed at the end, since it should still be there.
-use operations::Calling;
-use operations::Spot;
+use calls::Calling;
+use calls::Spot;
 use sets::Pair;
 use text::Refusal;
 
@@ -94,7 +94,7 @@ fn show(text: &[u8], calls: &[u64], spot: Spot) {
     let mut pairs = [7u64; 25];
     word(b"from ");
     point(spot);
-    let r = operations::run(text, calls, spot, &mut answers, &mut pairs);
+    let r = calls::run(text, calls, spot, &mut answers, &mut pairs);
     match r {
         Calling::Refused(q) => refused(q),
         Calling::Made(h) => {
@@ -121,11 +121,11 @@ fn show_short(text: &[u8], calls: &[u64]) {
     let mut few_answers = [7u64; 11];
     let mut pairs = [7u64; 9];
     let mut few_pairs = [7u64; 8];
-    let r = operations::run(text, calls, Spot::Start, &mut answers, &mut few_pairs);
+    let r = calls::run(text, calls, Spot::Start, &mut answers, &mut few_pairs);
     made_or_not(r);
-    let s = operations::run(text, calls, Spot::Start, &mut few_answers, &mut pairs);
+    let s = calls::run(text, calls, Spot::Start, &mut few_answers, &mut pairs);
     made_or_not(s);
-    let t = operations::run(text, calls, Spot::Start, &mut answers, &mut pairs);
+    let t = calls::run(text, calls, Spot::Start, &mut answers, &mut pairs);
     made_or_not(t);
 }
 

@@ -1,4 +1,2 @@
 pub mod Loading
 pub mod Answers
-pub mod Calls
-pub mod Demand3

@@ -50,7 +50,7 @@ use Rattle.operations.proofs.first_page.Statement as first-page
 use Rattle.operations.proofs.first_page.Met as first-page-met
 use Rattle.operations.proofs.page_after.Statement as page-after
 use Rattle.operations.proofs.page_after.Met as page-after-met
-use Rattle.operations.proofs.Demand3 as engine
+use Rattle.calls.proofs.Demand3 as engine
 use Rattle.listing.proofs.Whole as ways
 use Rattle.bantameasel.proofs.Demand3 as across
 use Rattle.bantameasel.proofs.bantameasel_version.Statement as version-c

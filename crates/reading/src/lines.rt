@@ -252,18 +252,13 @@ pub fn strays() {
     field(6, 5, b" --1");
     field(6, 5, b"  1-");
     field(6, 5, b" 1-1");
-    field(6, 5, b"1- 1");
-    field(6, 5, b"-   ");
     field(6, 5, b"\t  1");
     field(6, 5, b"  \x001");
     field(6, 5, b"  \xb21");
-    field(6, 5, b"  \r1");
-    field(6, 5, b" 0x1");
     field(6, 5, b"   /");
     field(6, 5, b"   :");
     field(6, 5, b"1 1x");
     field(6, 5, b"01 x");
-    field(6, 5, b"0 -x");
     fields(6, 5, b"   -   1");
 }
 
@@ -276,8 +271,6 @@ pub fn gaps() {
     field(6, 5, b"1 -1");
     field(6, 5, b"01 1");
     field(6, 5, b"0  0");
-    field(6, 5, b" -0 ");
-    field(6, 5, b"-01 ");
     fields(6, 5, b"   4    ");
 }
 
@@ -285,11 +278,9 @@ pub fn gaps() {
 pub fn zeros() {
     field(6, 5, b"  01");
     field(6, 5, b"0000");
-    field(6, 5, b"  00");
     field(6, 5, b"  -0");
     field(6, 5, b" -01");
     field(6, 5, b" -00");
-    field(6, 5, b"-001");
     fields(6, 5, b"  01   x");
 }
 
@@ -297,14 +288,11 @@ pub fn zeros() {
 pub fn misspelt() {
     field(2, 1, b"   o");
     field(4, 9, b" - 3");
-    field(7, 9, b"   _");
     field(7, 1, b"0  1");
     field(8, 1, b"  01");
     field(9, 2, b"3   ");
     field(10, 2, b"  +3");
-    field(11, 1, b"  +9");
     field(11, 1, b"    ");
-    field(11, 1, b"0009");
     field(11, 1, b"  -0");
 }
 

@@ -1,7 +1,7 @@
 use mathlib.Core.Path.{refl, ap, _∙_}
 use Rattle.answers.proofs.Means.{first-means}
-use Rattle.bantameasel.proofs.Across.{answer-across}
-use Rattle.bantameasel.specs.Across.{answerIn}
+use Rattle.across.proofs.Across.{answer-across}
+use Rattle.across.specs.Across.{answerIn}
 use borrow.Author.Needs.{needs}
 use Rattle.bantameasel.proofs.bantameasel_first.Statement.{statement}
 use Rattle.bantameasel.proofs.bantameasel_first.Tie as tie

@@ -1,7 +1,7 @@
 use mathlib.Core.Path.{refl, ap, _∙_}
 use Rattle.answers.proofs.Means.{judge-means}
-use Rattle.bantameasel.proofs.Across.{verdict-across}
-use Rattle.bantameasel.specs.Across.{verdictIn}
+use Rattle.across.proofs.Across.{verdict-across}
+use Rattle.across.specs.Across.{verdictIn}
 use borrow.Author.Needs.{needs}
 use Rattle.bantameasel.proofs.bantameasel_judge.Statement.{statement}
 use Rattle.bantameasel.proofs.bantameasel_judge.Tie as tie

@@ -1,5 +1,5 @@
 use mathlib.Core.Path.{ap, _∙_}
-use Rattle.bantameasel.specs.Across.{amountIn}
+use Rattle.across.specs.Across.{amountIn}
 use borrow.Author.Needs.{needs}
 use Rattle.bantameasel.proofs.bantameasel_page_after.Statement.{statement}
 use Rattle.bantameasel.proofs.bantameasel_page_after.Tie as tie

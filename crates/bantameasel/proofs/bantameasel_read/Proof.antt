@@ -1,5 +1,5 @@
 use mathlib.Core.Path.{ap, _∙_}
-use Rattle.bantameasel.specs.Across.{bookIn}
+use Rattle.across.specs.Across.{bookIn}
 use borrow.Author.Needs.{needs}
 use Rattle.bantameasel.proofs.bantameasel_read.Statement.{statement}
 use Rattle.bantameasel.proofs.bantameasel_read.Tie as tie

@@ -1,6 +1,6 @@
 use mathlib.Core.Path.{ap, _∙_}
 use Rattle.answers.specs.Operations.{lengthOf}
-use Rattle.bantameasel.specs.Across.{amountIn}
+use Rattle.across.specs.Across.{amountIn}
 use borrow.Author.Needs.{needs}
 use Rattle.bantameasel.proofs.bantameasel_write.Statement.{statement}
 use Rattle.bantameasel.proofs.bantameasel_write.Tie as tie
