@@ -8,6 +8,7 @@
 #include <string.h>
 
 #include "faults.h"
+#include "names.h"
 
 enum {
     READ_MOST = 65536,   /* a file that fills this is longer than any book: the engine refuses it by 1 */
@@ -112,7 +113,17 @@ bool write_line(const book *b, pair p, uint8_t *line)
     return answer.length == line_length(b) || fail(b->name, "the engine's line has another length than the book's");
 }
 
+uint32_t line_refusal(const book *b, pair p, uint8_t *line)
+{
+    return bantameasel_line(b->text, b->length, p, line, line_length(b)).refusal;
+}
+
 /* ---- pages ---- */
+
+bool same_pair(pair p, pair q)
+{
+    return p.taken == q.taken && p.held == q.held && p.denied == q.denied;
+}
 
 pair pair_at(const uint64_t *pairs, uint64_t k)
 {
@@ -185,11 +196,6 @@ typedef struct {
     point reached;
 } walk;
 
-static bool same(pair p, pair q)
-{
-    return p.taken == q.taken && p.held == q.held && p.denied == q.denied;
-}
-
 static void walk_from_start(walk *w, const book *b)
 {
     memset(w, 0, sizeof *w);
@@ -229,7 +235,7 @@ bool place_of(const book *b, pair p, uint64_t *place)
         if (!found) {
             return fail(b->name, "the listing from its start does not meet the listing from the point");
         }
-    } while (!same(p, q));
+    } while (!same_pair(p, q));
     *place = w.place;
     return true;
 }
@@ -254,12 +260,56 @@ bool resolution_at(const book *b, uint64_t place, pair *p)
 
 /* ---- verdicts ---- */
 
-bool print_verdict(const book *b, pair p)
+bool verdict_on(const book *b, pair p, uint32_t *verdict)
 {
     bantameasel_verdict answer = bantameasel_judge(b->text, b->length, p);
     if (answer.refusal != 0) {
         return refused(b->name, answer.refusal, answer.line);
     }
-    printf("Verdict %" PRIu32 ": %s.\n", answer.verdict, bantameasel_verdict_words(answer.verdict));
+    *verdict = answer.verdict;
     return true;
+}
+
+/* ---- names ---- */
+
+/* Says which refusal the engine gave for a store and a word, and what to do. */
+static bool refused_name(const store *s, const char *word, uint32_t refusal)
+{
+    refused(s->name, refusal, 0);
+    show_store_fault(s, word, refusal);
+    return false;
+}
+
+/* Whatever the name, Go looks at the store's bytes first. */
+bool check_store(const store *s)
+{
+    const char *word = "A";
+    bantameasel_answer answer = bantameasel_go(s->bytes, s->length, bantameasel_name_of(word));
+    return answer.refusal != BANTAMEASEL_REFUSED_STORE || refused_name(s, word, answer.refusal);
+}
+
+bool set_name(store *s, const char *word, pair p)
+{
+    bantameasel_done answer = bantameasel_set(s->bytes, s->length, bantameasel_name_of(word), p);
+    return answer.refusal == 0 || refused_name(s, word, answer.refusal);
+}
+
+bool find_name(const store *s, const char *word, pair *p)
+{
+    bantameasel_answer answer = bantameasel_go(s->bytes, s->length, bantameasel_name_of(word));
+    *p = answer.pair;
+    return answer.refusal == 0;
+}
+
+bool go_to_name(const store *s, const char *word, pair *p)
+{
+    bantameasel_answer answer = bantameasel_go(s->bytes, s->length, bantameasel_name_of(word));
+    *p = answer.pair;
+    return answer.refusal == 0 || refused_name(s, word, answer.refusal);
+}
+
+bool drop_name(store *s, const char *word)
+{
+    bantameasel_done answer = bantameasel_drop(s->bytes, s->length, bantameasel_name_of(word));
+    return answer.refusal == 0 || refused_name(s, word, answer.refusal);
 }

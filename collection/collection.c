@@ -1,11 +1,13 @@
 /*
- * collection: shows a book's resolutions one or a page at a time, as a museum's collection program would.
+ * collection: shows a book's resolutions one or a page at a time, and keeps them under names, as a museum's collection
+ * program would.
  * It uses the functions of bantameasel.h and nothing else of the engine.
  *
  *   collection.c   the commands
  *   books.c        a book in memory; every call of the engine
  *   faults.c       what is wrong with a book that was refused, in words
  *   points.c       how far a listing was shown, from one run to the next
+ *   names.c        resolutions under names, from one run to the next
  */
 #include <inttypes.h>
 #include <stdbool.h>
@@ -15,12 +17,19 @@
 #include <string.h>
 
 #include "books.h"
+#include "names.h"
 #include "points.h"
 
 enum {
     PAGE_USUAL = 10,     /* resolutions shown where no count is given */
     PAGE_MOST = 9999     /* the most that may be asked for at once */
 };
+
+/* The files that are kept from one run to the next: the point of the listing, and the store of names. */
+typedef struct {
+    const char *point;
+    const char *store;
+} files;
 
 /* Writes out what was printed so far; a full disk or a closed pipe is a failure. */
 static bool printed(void)
@@ -169,6 +178,12 @@ static bool pick(const book *b, uint64_t place)
 
 /* ---- judge ---- */
 
+/* Prints a verdict and what it means. */
+static void print_verdict(uint32_t verdict)
+{
+    printf("Verdict %" PRIu32 ": %s.\n", verdict, bantameasel_verdict_words(verdict));
+}
+
 /* Reads a field of an A line: digits after spaces. Its spelling is compared later with the engine's own line. */
 static bool read_field(const char *field, uint64_t *number)
 {
@@ -263,31 +278,219 @@ static bool same_line(const book *b, pair p, const char *line)
 static bool judge(const book *b, const char *line)
 {
     pair p;
+    uint32_t verdict;
     size_t length = strlen(line);
     if (length > 0 && line[length - 1] == '\n') {
         length--;
     }
-    if (!read_a_line(b, line, length, &p) || !same_line(b, p, line)) {
+    if (!read_a_line(b, line, length, &p) || !same_line(b, p, line) || !verdict_on(b, p, &verdict)) {
         return false;
     }
-    return print_verdict(b, p) && printed();
+    print_verdict(verdict);
+    return printed();
+}
+
+/* ---- name, go, names, drop ---- */
+
+/* Reads the store and has the engine look at its bytes. */
+static bool open_store(const char *store_name, store *s)
+{
+    return read_store(store_name, s) && check_store(s);
+}
+
+/* Prints the A line of a named pair; where it is not lawful for the book, its numbers and the refusal. */
+static bool print_pair(const book *b, pair p)
+{
+    uint8_t *line = malloc(line_length(b));
+    if (line == NULL) {
+        return fail(b->name, "there is no memory for a line");
+    }
+    uint32_t refusal = line_refusal(b, p, line);
+    if (refusal == 0) {
+        fwrite(line, 1, line_length(b), stdout);
+    } else {
+        printf("taken %" PRIu64 ", held %" PRIu64 ", denied %" PRIu64 ": refusal %" PRIu32 ": %s.\n", p.taken, p.held,
+               p.denied, refusal, bantameasel_refusal_words(refusal));
+    }
+    free(line);
+    return true;
+}
+
+/* Prints which resolution a name stands for: its place in the listing and its A line. */
+static bool print_named(const book *b, const char *word, pair p, uint64_t place)
+{
+    uint64_t pairs[3] = { p.taken, p.held, p.denied };
+    printf("%s is resolution %" PRIu64 " of %s.\n", word, place, b->name);
+    return print_page(b, pairs, 1, place);
+}
+
+/* Prints the pair that a name no longer stands for. */
+static bool print_former(const book *b, const char *words, pair p)
+{
+    printf("%s\n        ", words);
+    return print_pair(b, p);
+}
+
+/* The resolution that was shown last, and its place. */
+static bool shown_last(const book *b, const char *point_name, pair *p, uint64_t *place)
+{
+    point last;
+    uint32_t verdict;
+    if (!read_point(point_name, &last)) {
+        return false;
+    }
+    if (!last.begun) {
+        return fail(b->name, "no resolution was shown yet; show some by next, or give the place of the one to name");
+    }
+    *p = last.at;
+    if (!verdict_on(b, *p, &verdict)) {
+        return fail(point_name, "the point was written down for another book; give the place of the one to name");
+    }
+    if (verdict != BANTAMEASEL_VERDICT_RESOLUTION) {
+        return fail(point_name, "the point is no resolution of the book; give the place of the one to name");
+    }
+    return place_of(b, *p, place);
+}
+
+/* collection BOOK name NAME [N]: place is 0 where N is not given. */
+static bool name(const book *b, const files *f, const char *word, uint64_t place)
+{
+    store s;
+    pair p, former;
+    if (!open_store(f->store, &s)) {
+        return false;
+    }
+    if (!(place != 0 ? resolution_at(b, place, &p) : shown_last(b, f->point, &p, &place))) {
+        return false;
+    }
+    bool replaced = find_name(&s, word, &former) && !same_pair(p, former);
+    if (!set_name(&s, word, p) || !write_store(&s) || !print_named(b, word, p, place)) {
+        return false;
+    }
+    if (replaced && !print_former(b, "Before, it was this one:", former)) {
+        return false;
+    }
+    return printed();
+}
+
+/* Shows the pair of a name, which has this verdict: as a resolution with its place, or why it is none. */
+static bool show_named(const book *b, const char *word, pair p, uint32_t verdict)
+{
+    uint64_t place;
+    if (verdict == BANTAMEASEL_VERDICT_RESOLUTION) {
+        return place_of(b, p, &place) && print_named(b, word, p, place);
+    }
+    printf("%s is no resolution of %s.\n        ", word, b->name);
+    if (!print_line(b, p)) {
+        return false;
+    }
+    print_verdict(verdict);
+    return true;
+}
+
+/* collection BOOK go NAME: the point is moved once the named resolution was shown; a file that holds no point is left
+   as it is. */
+static bool go(const book *b, const files *f, const char *word)
+{
+    store s;
+    point at;
+    uint32_t verdict;
+    if (!read_point(f->point, &at) || !read_store(f->store, &s) || !go_to_name(&s, word, &at.at)) {
+        return false;
+    }
+    at.begun = true;
+    if (!verdict_on(b, at.at, &verdict)) {
+        return fail(word, "it was named for another book, or for this one as it was before; name it anew or drop it");
+    }
+    if (!show_named(b, word, at.at, verdict)) {
+        return false;
+    }
+    puts("The next page begins after it.");
+    return printed() && write_point(f->point, at);
+}
+
+/* collection BOOK names */
+static bool names(const book *b, const char *store_name)
+{
+    store s;
+    pair p;
+    size_t k;
+    char word[NAME + 1];
+    if (!open_store(store_name, &s)) {
+        return false;
+    }
+    for (k = 0; name_at(&s, k, word); k++) {
+        printf("%-*s  ", NAME, word);
+        if (!go_to_name(&s, word, &p) || !print_pair(b, p)) {
+            return false;
+        }
+    }
+    printf("%zu %s; there is room for %zu more.\n", k, k == 1 ? "name" : "names", BANTAMEASEL_MOST_NAMES - k);
+    return printed();
+}
+
+/* collection BOOK drop NAME */
+static bool drop(const book *b, const char *store_name, const char *word)
+{
+    store s;
+    pair p;
+    if (!read_store(store_name, &s) || !go_to_name(&s, word, &p) || !drop_name(&s, word) || !write_store(&s)) {
+        return false;
+    }
+    printf("%s is dropped. ", word);
+    return print_former(b, "It was this one:", p) && printed();
 }
 
 /* ---- the command line ---- */
 
 static void usage(FILE *to)
 {
-    fputs("usage: collection [-p POINT] BOOK next [COUNT]   show the next COUNT resolutions (10 if not given)\n"
-          "       collection [-p POINT] BOOK from-start     let the next page begin with the first resolution\n"
-          "       collection [-p POINT] BOOK pick N         print the catalogue entry of resolution N, from 1\n"
-          "       collection [-p POINT] BOOK judge 'A ...'  print the verdict on a pasted A line\n"
+    fputs("usage: collection [-p POINT] [-s STORE] BOOK COMMAND\n"
+          "The commands:\n"
+          "    next [COUNT]     show the next COUNT resolutions (10 if not given)\n"
+          "    from-start       let the next page begin with the first resolution\n"
+          "    pick N           print the catalogue entry of resolution N, from 1\n"
+          "    judge 'A ...'    print the verdict on a pasted A line\n"
+          "    name NAME [N]    name resolution N, or the one that was shown last if N is not given\n"
+          "    go NAME          show the named resolution, and let the next page begin after it\n"
+          "    names            list the names\n"
+          "    drop NAME        forget a name\n"
+          "A name has 1 to 8 characters: letters and digits. Small letters are taken for capitals.\n"
           "The point reached is kept in the file POINT, or in BOOK.point where -p is not given.\n"
+          "The names are kept in the file STORE, or in BOOK.names where -s is not given.\n"
           "The exit status is 0 if all went well, 1 if not, 2 if the command line is wrong.\n",
           to);
 }
 
+/* Does what the words after BOOK say about names: 0 done, 1 failed, 2 not understood. */
+static int obey_names(const book *b, const files *f, int count, char **words)
+{
+    uint64_t place = 0;
+    const char *what = words[0];
+    if (count >= 2) {
+        capitals(words[1]);
+    }
+    if (strcmp(what, "name") == 0 && (count == 2 || count == 3)) {
+        if (count == 3 && !read_count(words[2], UINT64_MAX, &place)) {
+            return 2;
+        }
+        return name(b, f, words[1], place) ? 0 : 1;
+    }
+    if (strcmp(what, "go") == 0 && count == 2) {
+        return go(b, f, words[1]) ? 0 : 1;
+    }
+    if (strcmp(what, "names") == 0 && count == 1) {
+        return names(b, f->store) ? 0 : 1;
+    }
+    if (strcmp(what, "drop") == 0 && count == 2) {
+        return drop(b, f->store, words[1]) ? 0 : 1;
+    }
+    usage(stderr);
+    return 2;
+}
+
 /* Does what the words after BOOK say: 0 done, 1 failed, 2 not understood. */
-static int obey(const book *b, const char *point_name, int count, char **words)
+static int obey(const book *b, const files *f, int count, char **words)
 {
     uint64_t number = PAGE_USUAL;
     const char *what = words[0];
@@ -295,10 +498,10 @@ static int obey(const book *b, const char *point_name, int count, char **words)
         if (count == 2 && !read_count(words[1], PAGE_MOST, &number)) {
             return 2;
         }
-        return next_page(b, point_name, number) ? 0 : 1;
+        return next_page(b, f->point, number) ? 0 : 1;
     }
     if (strcmp(what, "from-start") == 0 && count == 1) {
-        return from_start(point_name) ? 0 : 1;
+        return from_start(f->point) ? 0 : 1;
     }
     if (strcmp(what, "pick") == 0 && count == 2) {
         if (!read_count(words[1], UINT64_MAX, &number)) {
@@ -309,41 +512,56 @@ static int obey(const book *b, const char *point_name, int count, char **words)
     if (strcmp(what, "judge") == 0 && count == 2) {
         return judge(b, words[1]) ? 0 : 1;
     }
-    usage(stderr);
-    return 2;
+    return obey_names(b, f, count, words);
 }
 
-/* Opens the book and obeys; point_name is NULL where the point is kept beside the book. */
-static int run(const char *book_name, const char *point_name, int count, char **words)
+/* Opens the book and obeys; a file whose name is not given is kept beside the book. */
+static int run(const char *book_name, files f, int count, char **words)
 {
     book b = { 0 };
     int status = 1;
-    char *beside = joined(book_name, ".point");
-    if (beside == NULL) {
+    char *point_beside = joined(book_name, ".point");
+    char *store_beside = joined(book_name, ".names");
+    if (point_beside == NULL || store_beside == NULL) {
         fail(book_name, "there is no memory for its name");
     } else if (open_book(book_name, &b)) {
-        status = obey(&b, point_name != NULL ? point_name : beside, count, words);
+        f.point = f.point != NULL ? f.point : point_beside;
+        f.store = f.store != NULL ? f.store : store_beside;
+        status = obey(&b, &f, count, words);
     }
     close_book(&b);
-    free(beside);
+    free(point_beside);
+    free(store_beside);
     return status;
+}
+
+/* Reads the options in front of BOOK, each with a file's name; answers where BOOK stands. */
+static int read_options(int argc, char **argv, files *f)
+{
+    int at = 1;
+    for (; at + 1 < argc; at += 2) {
+        if (strcmp(argv[at], "-p") == 0) {
+            f->point = argv[at + 1];
+        } else if (strcmp(argv[at], "-s") == 0) {
+            f->store = argv[at + 1];
+        } else {
+            break;
+        }
+    }
+    return at;
 }
 
 int main(int argc, char **argv)
 {
-    const char *point_name = NULL;
-    int first = 1;
+    files f = { NULL, NULL };
     if (argc == 2 && strcmp(argv[1], "--help") == 0) {
         usage(stdout);
         return printed() ? 0 : 1;
     }
-    if (argc > 2 && strcmp(argv[1], "-p") == 0) {
-        point_name = argv[2];
-        first = 3;
-    }
+    int first = read_options(argc, argv, &f);
     if (argc < first + 2) {
         usage(stderr);
         return 2;
     }
-    return run(argv[first], point_name, argc - first - 1, argv + first + 1);
+    return run(argv[first], f, argc - first - 1, argv + first + 1);
 }

@@ -185,12 +185,111 @@ check_picks() {
 check_refused() {
     number=$(sed -n 's/^F *\([0-9]*\) .*/\1/p' "$EXAMPLES/$1.out")
     at=$(sed -n 's/^F.* \([0-9]*\)$/\1/p' "$EXAMPLES/$1.out")
-    for what in next from-start 'pick 1' 'judge A'; do
+    for what in next from-start 'pick 1' 'judge A' 'name A 1' 'go A' names 'drop A'; do
         # shellcheck disable=SC2086
         run 1 "$work/$1.book" $what
         said "refusal $number at line $at: "
     done
     [ ! -e "$work/$1.book.point" ] || fail "$1: a point was written for a refused book"
+    [ ! -e "$work/$1.book.names" ] || fail "$1: a store was written for a refused book"
+}
+
+# bytes_of NUMBER: its 8 bytes in a store, the least first.
+bytes_of() {
+    shift_by=0
+    while [ "$shift_by" -lt 64 ]; do
+        # shellcheck disable=SC2059
+        printf "\\$(printf %03o $(($1 >> shift_by & 255)))"
+        shift_by=$((shift_by + 8))
+    done
+}
+
+# entry NAME TAKEN HELD DENIED: the 32 bytes of an entry; filled: the entries given, with zeros behind, are a store.
+entry() {
+    printf '%-8s' "$1"
+    bytes_of "$2"
+    bytes_of "$3"
+    bytes_of "$4"
+}
+filled() { cat - /dev/zero | head -c 1024; }
+
+# holds WHAT: the store in names has the bytes of right.
+holds() { same "$work/right" "$work/names" "the bytes of the store: $1"; }
+
+# named BOOK WORD..: the words are done with the store in names and the point in point.
+named() {
+    book=$work/$1.book
+    shift
+    run 0 -s "$work/names" -p "$work/point" "$book" "$@"
+}
+
+# not_named BOOK NUMBER WORD..: the words are refused by this number, and neither file is changed.
+not_named() {
+    book=$work/$1.book
+    number=$2
+    shift 2
+    cp "$work/names" "$work/names-before"
+    cp "$work/point" "$work/point-before"
+    run 1 -s "$work/names" -p "$work/point" "$book" "$@"
+    [ ! -s "$work/out" ] || fail "something was printed, though it was refused: $*"
+    said "refusal $number: "
+    same "$work/names-before" "$work/names" "a store was changed, though it was refused: $*"
+    same "$work/point-before" "$work/point" "a point was changed, though it was refused: $*"
+    no_new_file
+}
+
+# No new file is left beside the store.
+no_new_file() {
+    set -- "$work"/names.new*
+    [ ! -e "$1" ] || fail "a new file was left behind: $1"
+    passed
+}
+
+# check_names NAME: every resolution of the book can be named by its place and, once shown, without it; the names are
+# listed with their lines; going to each shows it, and the next page has what follows it; each is dropped.
+check_names() {
+    a_lines "$EXAMPLES/$1.out" >"$work/all"
+    all=$(wc -l <"$work/all")
+    rm -f "$work/names" "$work/point"
+    k=0
+    while [ "$k" -lt "$all" ]; do
+        k=$((k + 1))
+        named "$1" next 1
+        if [ $((k % 2)) -eq 0 ]; then named "$1" name "$(printf 'n%02d' "$k")"
+        else named "$1" name "$(printf 'n%02d' "$k")" "$k"; fi
+        printed "$(printf 'N%02d is resolution %d of ' "$k" "$k")"
+    done
+    named "$1" names
+    sed -n 's/^N[0-9]* *A/A/p' "$work/out" >"$work/listed"
+    same "$work/all" "$work/listed" "$1: the lines of the names"
+    sed -n 's/^N0*\([0-9]*\) .*/\1/p' "$work/out" >"$work/places"
+    awk '{ print NR }' "$work/all" >"$work/numbers"
+    same "$work/numbers" "$work/places" "$1: the names in order"
+    printed "there is room for $((32 - all)) more."
+    while [ "$k" -gt 0 ]; do
+        check_return "$1" "$(printf 'N%02d' "$k")" "$k"
+        k=$((k - 1))
+    done
+    : | filled >"$work/right"
+    [ "$all" -eq 0 ] || holds "$1, when all names are dropped"
+}
+
+# check_return NAME WORD PLACE: going to the name shows the resolution at this place, and the next page what follows it;
+# then the name is dropped.
+check_return() {
+    named "$1" go "$2"
+    page_lines "$work/out" >"$work/page"
+    sed -n "$3p" "$work/all" >"$work/line"
+    same "$work/line" "$work/page" "$1: going to $2"
+    printed 'The next page begins after it.'
+    named "$1" next 9999
+    page_lines "$work/out" >"$work/page"
+    sed "1,$3d" "$work/all" >"$work/line"
+    same "$work/line" "$work/page" "$1: going on from $2"
+    printed 'End of the listing'
+    named "$1" drop "$2"
+    printed "$2 is dropped."
+    grep -q -F -- "$(sed -n "$3p" "$work/all")" "$work/out" || fail "$1: dropping $2 does not show its line"
 }
 
 # judged BOOK LINE VERDICT
@@ -278,7 +377,8 @@ for stored in "$EXAMPLES"/*.out; do
         check_pages "$name"
         check_picks "$name"
         check_all_steps "$name"
-        echo "$name: listed by pages and by next 1, picked and judged; resolutions: $(wc -l <"$work/right")" ;;
+        check_names "$name"
+        echo "$name: listed by pages and by next 1, picked, judged and named; resolutions: $all" ;;
     esac
     books=$((books + 1))
 done
@@ -331,8 +431,19 @@ run 2 "$work/k7.book" next 0
 run 2 "$work/k7.book" next 2x
 run 2 "$work/k7.book" pick 99999999999999999999
 run 2 "$work/k7.book" show
+run 2 "$work/k7.book" name
+run 2 "$work/k7.book" name a 0
+run 2 "$work/k7.book" name a x
+run 2 "$work/k7.book" name a 1 2
+run 2 "$work/k7.book" go
+run 2 "$work/k7.book" go a b
+run 2 "$work/k7.book" names a
+run 2 "$work/k7.book" drop
 run 2 "$work/k7.book"
+run 2 -s "$work/k7.book" names
+run 2 -s
 run 2
+[ ! -e "$work/k7.book.names" ] || fail "a store was written though the command line is wrong"
 run 1 "$work/no-such.book" next
 run 1 "$work" next
 run 0 --help
@@ -362,6 +473,351 @@ page_lines "$work/out" >"$work/page"
 a_lines "$EXAMPLES/k7.out" | head -n 1 >"$work/line"
 same "$work/line" "$work/page" "the page after a point that is no resolution"
 echo "refused files that hold no point, and points of another book; went on from a pair that is no resolution"
+
+# ---- names ----
+
+# The calls of the worked examples that commands can make: the one resolution of first is 1, 5, 2, that of second 2, 4, 8.
+cat >"$work/first.book" <<'BOOK'
+B   1   3
+R   0   0   0   0   0   1   0   0   0
+R   3   1   0   0   0   0   0   0   0
+R  -2   1   0   0   0   0   0   0   0
+X   1   0   0   0   0   0   0   0   0
+Z   4
+BOOK
+cat >"$work/second.book" <<'BOOK'
+B   1   4
+R   0   0   0   0   0   3   0   0   0
+R  -4   3   0   0   0   0   0   0   0
+X   1   0   0   0   0   0   0   0   0
+X   3   0   0   0   0   0   0   0   0
+Z   4
+BOOK
+rm -f "$work/names"
+printf 'start\n' >"$work/point"
+named first names
+printed '0 names; there is room for 32 more.'
+[ ! -e "$work/names" ] || fail "names wrote a store"
+named first name b 1
+entry B 1 5 2 | filled >"$work/right"
+holds 'B is set'
+{ entry A1 65535 3 3; entry B 1 5 2; } | filled >"$work/names"
+not_named first 25 go c
+said 'There is no name C. The names are: A1 B'
+named second name A1 1
+printed 'Before, it was this one:'
+printed 'taken 65535, held 3, denied 3: refusal 12: '
+{ entry A1 2 4 8; entry B 1 5 2; } | filled >"$work/right"
+holds 'A1 is set again'
+{ entry A 0 0 281474976710656; entry A1 2 4 8; entry B 1 5 2; } | filled >"$work/names"
+named second names
+printed 'A         taken 0, held 0, denied 281474976710656: refusal 13: '
+printed "A1        A   1   2   0   0   0$z8..+-"
+printed 'B         A   1   1   0   0   0'
+printed '3 names; there is room for 29 more.'
+named second drop a
+printed 'A is dropped. It was this one:'
+{ entry A1 2 4 8; entry B 1 5 2; } | filled >"$work/right"
+holds 'A is dropped'
+not_named second 25 drop a
+not_named second 25 name 'A B' 1
+not_named second 25 name '        ' 1
+named first drop b
+entry A1 2 4 8 | filled >"$work/right"
+holds 'B is dropped'
+named first drop A1
+: | filled >"$work/right"
+holds 'all are dropped'
+named second names
+printed '0 names; there is room for 32 more.'
+not_named second 25 go a1
+said 'There are no names yet.'
+for place in 'b 2' 'aa 1' 'a 1' 'a0 2' 'A 1' 'Aa 1'; do
+    # shellcheck disable=SC2086
+    named k7 name $place
+done
+{ entry A 1 5 0; entry A0 2 2 0; entry AA 1 5 0; entry B 2 2 0; } | filled >"$work/right"
+holds 'names in the order of their bytes'
+echo "the store has the bytes of the worked examples"
+
+# The most names, one more, and one that is there already.
+rm -f "$work/names"
+k=0
+while [ "$k" -lt 32 ]; do
+    named gown name "$(printf 'x%d' $((k + 10)))" $((1 + k % 5))
+    k=$((k + 1))
+done
+not_named gown 26 name y 1
+said 'It has 32 names. Drop one that is no longer needed'
+not_named gown 25 name y- 1
+named gown names
+printed '32 names; there is room for 0 more.'
+named gown name x20 3
+printed 'X20 is resolution 3 of '
+printed 'Before, it was this one:'
+named gown name x20 3
+grep -q Before "$work/out" && fail "a name that was the same before is said to have been another"
+named gown drop x11
+named gown name y 1
+not_named gown 26 name x11 1
+echo "refused a 33rd name, and took it once another was dropped"
+
+# Names that are misspelt, and such as fill their 8 characters.
+rm -f "$work/names"
+named gown name abcdefgh 1
+named gown name 01234567 2
+printed '01234567 is resolution 2 of '
+named gown name 'a  ' 3
+named gown go a
+for word in '' ' ' 'a b' ' a' 'a-b' 'a_' 'a.' 'abcdefghi' 'a        ' 'é' 'A/B' '['; do
+    for what in name go drop; do
+        not_named gown 25 "$what" "$word"
+        said 'is no name. A name has 1 to 8 characters: letters A to Z and digits 0 to 9.'
+    done
+done
+echo "refused names that are misspelt"
+
+# The point: what was shown last, what is none, and a file that is no point.
+rm -f "$work/names"
+printf 'start\n' >"$work/point"
+run 1 -s "$work/names" -p "$work/point" "$work/gown.book" name a
+said 'no resolution was shown yet'
+printf '1 0 0\n' >"$work/point"
+run 1 -s "$work/names" -p "$work/point" "$work/gown.book" name a
+said 'the point is no resolution of the book'
+printf '32 0 0\n' >"$work/point"
+run 1 -s "$work/names" -p "$work/point" "$work/gown.book" name a
+said 'refusal 12: '
+said 'the point was written down for another book'
+[ ! -e "$work/names" ] || fail "a store was written though nothing was named"
+named gown name a 2
+printf 'no point' >"$work/point"
+cp "$work/point" "$work/before"
+for what in 'name b' 'go a'; do
+    # shellcheck disable=SC2086
+    run 1 -p "$work/point" -s "$work/names" "$work/gown.book" $what
+    said 'this is not a point'
+    same "$work/before" "$work/point" "a file that is no point was changed: $what"
+done
+rm "$work/point"
+named gown go a
+named gown name b
+printed 'B is resolution 2 of '
+run 0 "$work/gown.book" name beside 4
+run 0 "$work/gown.book" go beside
+run 0 "$work/gown.book" next
+printed '     5  A'
+[ "$(wc -c <"$work/gown.book.names")" -eq 1024 ] || fail "the store beside the book"
+run 0 "$work/gown.book" drop beside
+echo "named what was shown last, and kept names beside the book"
+
+# A store of another book: each of 12 to 14 in words, and the point stays. A lawful pair that is no resolution: its
+# verdict, and the next page has what follows it.
+{ entry BOTH 0 2 2; entry DENIED 0 0 8; entry HELD 0 8 0; entry NONE 0 0 0; entry OTHER 3 7 0; entry TAKEN 4 0 0; } |
+    filled >"$work/names"
+printf 'start\n' >"$work/point"
+for case in 'both|14' 'denied|13' 'held|13' 'taken|12'; do
+    not_named k7 "${case#*|}" go "${case%|*}"
+    said 'it was named for another book, or for this one as it was before'
+done
+named k7 names
+printed 'BOTH      taken 0, held 2, denied 2: refusal 14: the pair both holds and denies a statement.'
+printed 'DENIED    taken 0, held 0, denied 8: refusal 13: '
+printed 'HELD      taken 0, held 8, denied 0: refusal 13: '
+printed 'TAKEN     taken 4, held 0, denied 0: refusal 12: '
+printed "OTHER     A   2   1   2   0   0$z8+++"
+named k7 go none
+printed 'NONE is no resolution of '
+printed 'Verdict 1: '
+named k7 next
+page_lines "$work/out" >"$work/page"
+a_lines "$EXAMPLES/k7.out" >"$work/line"
+same "$work/line" "$work/page" "the page after a named pair that is no resolution"
+named k7 go other
+printed 'OTHER is no resolution of '
+printed "        A   2   1   2   0   0$z8+++"
+printed 'Verdict 5: '
+named k7 next
+printed 'End of the listing: no resolution is later than the point.'
+named k7 drop both
+printed 'taken 0, held 2, denied 2: refusal 14: '
+
+# The book is changed after its resolutions were named: one stands elsewhere in the listing, one is none any more, one
+# takes an exception that is gone.
+rm -f "$work/names" "$work/point"
+named gown name lace 4
+named gown name label 3
+cp "$work/names" "$work/names-before"
+sed 's/^Z  20$/P   1   2\nZ  21/' "$EXAMPLES/gown.book" >"$work/changed.book"
+named changed go lace
+printed 'LACE is resolution 1 of '
+named changed next
+printed 'End of the listing: no resolution is later than the point.'
+named changed go label
+printed 'LABEL is no resolution of '
+printed 'Verdict 2: '
+named changed next
+printed "     1  A   4   1   3   4   5$z8-+---"
+sed '21d; s/^Z  20$/Z  19/' "$EXAMPLES/gown.book" >"$work/changed.book"
+not_named changed 12 go lace
+not_named changed 12 go label
+same "$work/names-before" "$work/names" "the names of a book that was changed"
+echo "said of names of another or a changed book, and of pairs that are no resolution, what they are"
+
+# Files that are no store: whatever is asked, they stay as they are.
+no_store() {
+    cp "$work/names" "$work/damaged"
+    for what in 'name a 1' 'name a' 'go a' 'drop a' names; do
+        # shellcheck disable=SC2086
+        not_named k7 24 $what
+        said "$1"
+        said 'It was left as it is. Put back a copy from before'
+    done
+    watched 1 -s "$work/names" "$work/k7.book" go a
+    same "$work/damaged" "$work/names" "a file that is no store was changed"
+    refusals=$((refusals + 1))
+}
+refusals=0
+: >"$work/names"
+no_store 'It has 0 bytes; a store has 1024.'
+{ entry A 1 5 0; entry B 2 2 0; } | filled >"$work/good"
+head -c 1023 "$work/good" >"$work/names"
+no_store 'It has 1023 bytes; a store has 1024.'
+{ cat "$work/good"; printf '\n'; } >"$work/names"
+no_store 'It has more than 1024 bytes; a store has 1024.'
+head -c 70000 /dev/zero >"$work/names"
+no_store 'It has more than 1024 bytes; a store has 1024.'
+cp "$EXAMPLES/gown.book" "$work/names"
+no_store 'It has 776 bytes; a store has 1024.'
+head -c 1024 "$EXAMPLES/many.book" >"$work/names"
+no_store 'Its name number 1 is misspelt.'
+for word in 'A B' ' A' '' a A- 'A\0'; do
+    { entry 0 1 5 0; printf '%b' "$word"; entry '' 1 5 0 | tail -c +$((1 + $(printf '%b' "$word" | wc -c))); } |
+        filled >"$work/names"
+    no_store 'Its name number 2 is misspelt.'
+done
+{ entry A 1 5 0; entry A 2 2 0; } | filled >"$work/names"
+no_store 'Its names do not ascend: number 2 does not come after number 1.'
+{ entry A 1 5 0; entry C 1 5 0; entry B 2 2 0; } | filled >"$work/names"
+no_store 'Its names do not ascend: number 3 does not come after number 2.'
+{ head -c 32 /dev/zero; entry B 2 2 0; } | filled >"$work/names"
+no_store 'Behind its last name stand bytes other than 0.'
+{ entry A 1 5 0; head -c 991 /dev/zero; printf x; } >"$work/names"
+no_store 'Behind its last name stand bytes other than 0.'
+k=0
+while [ "$k" -lt 31 ]; do
+    entry "$(printf 'X%d' $((k + 10)))" 1 5 0
+    k=$((k + 1))
+done >"$work/most"
+{ cat "$work/most"; entry A 1 5 0; } >"$work/names"
+no_store 'Its names do not ascend: number 32 does not come after number 31.'
+{ cat "$work/most"; entry Y 1 5 0; } >"$work/names"
+named k7 names
+printed '32 names; there is room for 0 more.'
+rm "$work/names"
+mkdir "$work/names"
+for what in 'name a 1' 'go a' 'drop a' names; do
+    # shellcheck disable=SC2086
+    run 1 -s "$work/names" "$work/k7.book" $what
+    said 'it could not be read'
+done
+rmdir "$work/names"
+echo "refused $refusals files that are no store, and left them as they were"
+
+# Writing fails: the old store stays whole, and nothing is left beside it.
+cp "$work/good" "$work/names"
+run 1 -s "$work/none/names" "$work/k7.book" name c 1
+said 'No such file or directory'
+said 'the names are as they were before'
+if [ "$(id -u)" -ne 0 ]; then
+    mkdir "$work/closed"
+    cp "$work/good" "$work/closed/names"
+    chmod 555 "$work/closed"
+    run 1 -s "$work/closed/names" "$work/k7.book" name c 1
+    same "$work/good" "$work/closed/names" "a store in a folder that may not be written to"
+    chmod 755 "$work/closed"
+fi
+# A file may have 512 bytes here: half of a store is written before the failure, or before the run is killed.
+failing() { (trap '' XFSZ; ulimit -f 1; exec "$program" "$@"); }
+killed() { (ulimit -f 1; exec "$program" "$@"); }
+for what in 'name c 1' 'name a 2' 'drop b'; do
+    # shellcheck disable=SC2086
+    ends 1 failing -s "$work/names" "$work/k7.book" $what
+    said 'File too large'
+    said 'the names are as they were before'
+    same "$work/good" "$work/names" "a store that could not be written: $what"
+    no_new_file
+done
+for what in 'name c 1' 'drop b'; do
+    status=0
+    # shellcheck disable=SC2086
+    killed -s "$work/names" "$work/k7.book" $what >"$work/out" 2>"$work/err" || status=$?
+    [ "$status" -gt 128 ] || fail "a run that was to be killed midway ended with $status: $what"
+    same "$work/good" "$work/names" "a store whose writing was killed: $what"
+done
+set -- "$work"/names.new*
+[ "$(wc -c <"$1")" -eq 512 ] || fail "no half file was left by a run that was killed: $1"
+echo "a store that could not be written, or whose writing was killed, is as it was"
+
+# The program with a rename of its own, which ends the run as a crash would, or fails. The new file is on the disk by then.
+cat >"$work/crash.c" <<'CODE'
+#include <errno.h>
+#include <stdio.h>
+#include <stdlib.h>
+#include <unistd.h>
+static int flushed;
+int fsync(int file) { (void)file; flushed = 1; return 0; }
+int rename(const char *old, const char *new) {
+    (void)old, (void)new;
+    if (!flushed) _exit(8);
+    if (getenv("RENAME_FAILS") == NULL) _exit(9);
+    errno = EACCES;
+    return -1;
+}
+CODE
+"$CC" -std=c11 -O2 -D_POSIX_C_SOURCE=200809L -I"$INCLUDE" "$here"/*.c "$work/crash.c" "$LIB" -o "$work/crashing"
+for what in 'name c 1' 'drop b'; do
+    rm -f "$work"/names.new*
+    # shellcheck disable=SC2086
+    RENAME_FAILS=yes ends 1 "$work/crashing" -s "$work/names" "$work/k7.book" $what
+    said 'Permission denied'
+    said 'the names are as they were before'
+    same "$work/good" "$work/names" "a store whose new file could not take its place: $what"
+    no_new_file
+    status=0
+    # shellcheck disable=SC2086
+    "$work/crashing" -s "$work/names" "$work/k7.book" $what >"$work/out" 2>"$work/err" || status=$?
+    [ "$status" -eq 9 ] || fail "a crash between the new file and the rename ended with $status: $what"
+    same "$work/good" "$work/names" "a store after a crash: $what"
+    set -- "$work"/names.new*
+    [ "$(wc -c <"$1")" -eq 1024 ] || fail "no new file was left by a crash: $1"
+    cp "$1" "$work/left"
+    printf 'whatever' >"$work/names.new"
+    named k7 names
+    printed '2 names; there is room for 30 more.'
+    named k7 name d 1
+    named k7 drop d
+    same "$work/good" "$work/names" "a store that was used after a crash: $what"
+    same "$work/left" "$1" "the file that a crash left behind: $what"
+done
+rm -f "$work"/names.new*
+echo "a crash between the new file and the rename loses nothing, and what it leaves does no harm"
+
+# Many runs at once: each is done, and the store is whole, though the change of one may be lost to another.
+for round in 1 2 3 4 5; do
+    rm -f "$work/names"
+    runs=
+    for k in 1 2 3 4 5 6 7 8; do
+        "$program" -s "$work/names" "$work/gown.book" name "p$k" "$((1 + k % 5))" >"$work/out" 2>"$work/err" &
+        runs="$runs $!"
+    done
+    for one in $runs; do
+        wait "$one" || fail "one of many runs at once, round $round"
+    done
+    named gown names
+    no_new_file
+done
+echo "many runs at once leave a whole store"
 
 gown=$EXAMPLES/gown.book
 ranked=$EXAMPLES/gown-ranked.book
@@ -514,9 +970,28 @@ each_field 19 1
 echo "pointed at each field of a line of each kind"
 
 (cd "$EXAMPLES" && "$program" faulty.book next) >"$work/out" 2>"$work/err" || true
-awk '/^```/ { inside = 0 } /^collection: / { inside = 1 } inside' "$PAGE" >"$work/page"
+awk '/^```/ { first = NR + 1; inside = 0 } NR == first && /^collection: / { inside = 1 } inside' "$PAGE" >"$work/page"
 same "$work/err" "$work/page" "$PAGE shows another message than the program"
 echo "the page about books shows the program's message"
+
+# The sessions of the page, blocks with a line that begins with a dollar sign, are run from the first to the last beside
+# copies of the examples.
+mkdir "$work/session"
+cp "$EXAMPLES"/*.book "$work/session"
+awk '/^```/ { inside = !inside; session = 0; next } inside && /^[$] / { session = 1 } session' "$PAGE" >"$work/page"
+sessions=0
+: >"$work/shown"
+while IFS= read -r line; do
+    case $line in
+    '$ '*)
+        printf '%s\n' "$line" >>"$work/shown"
+        (cd "$work/session" && PATH=$work:$PATH sh -c "${line#??}") >>"$work/shown" 2>&1 </dev/null || true
+        sessions=$((sessions + 1)) ;;
+    esac
+done <"$work/page"
+same "$work/shown" "$work/page" "$PAGE shows another session than the program"
+[ "$sessions" -ge 8 ] || fail "only $sessions commands were found on $PAGE"
+echo "the page about books shows $sessions commands and what they print"
 
 for words in 'next 1' 'next 1' 'next 2' 'next' 'next 1' 'pick 2' 'from-start' 'next 1'; do
     # shellcheck disable=SC2086
@@ -530,6 +1005,15 @@ watched 1 -p "$work/vpoint" "$work/k7.book" next 1
 said 'the point was written down for another book'
 watched 0 "$work/k7.book" judge "A   2   1   2   0   0$z8+++"
 printed 'Verdict 5: '
-echo "ran next, pick, from-start and judge under valgrind"
+rm -f "$work/vpoint"
+for words in 'names' 'next 2' 'name lace' 'name lining 5' 'name lace 4' 'go lining' 'next' 'names' 'drop lining' 'go lace'; do
+    # shellcheck disable=SC2086
+    watched 0 -p "$work/vpoint" -s "$work/vnames" "$work/gown.book" $words
+done
+watched 1 -p "$work/vpoint" -s "$work/vnames" "$work/gown.book" go lining
+said 'refusal 25: '
+watched 1 -p "$work/vpoint" -s "$work/vnames" "$work/k7.book" go lace
+said 'refusal 12: '
+echo "ran next, pick, from-start, judge, name, go, names and drop under valgrind"
 
 printf 'collection: %s examples, %s checks passed\n' "$books" "$checks"

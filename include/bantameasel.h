@@ -18,7 +18,7 @@
  *   call at once, with the same text too, as long as no two of them lend the same buffer and none writes what another
  *   call reads.
  * - It takes no memory but the stack: less than BANTAMEASEL_MOST_STACK bytes (256 KB). A thread that is given less may
- *   crash. Read, Write and Line take less than 32 KB.
+ *   crash. Read, Write and Line take less than 32 KB, Set, Go and Drop less than 8 KB.
  * - Each answer has a refusal and a line. Look at refusal first. If it is 0, the call was not refused, and line is 0.
  *   Otherwise it is one of the numbers below, line is the line of the book's text that it is about, counted from 1, or
  *   0 where it is about no single line, and all other fields are 0.
@@ -39,6 +39,9 @@
  * - From 2.1 to 2.2: a misspelt field was 5 in every case; now it is 5, 17 or 18, with the same line and in the same
  *   place of the order. Every book that was accepted is accepted as before. A program that treats 5 specially wants to
  *   treat 17 and 18 so too.
+ * - From 2.2 to 2.3: Set, Go and Drop are new, with the refusals 24 to 26, which only these three give. Every other
+ *   function answers as before. The numbers 19 to 23 are kept for later versions, and this one never gives them: the
+ *   refusals up to BANTAMEASEL_LAST_REFUSAL have a gap there.
  *
  * THE REFUSALS, IN THE ORDER IN WHICH THEY ARE LOOKED FOR; the first that applies is given. The names are below.
  *
@@ -76,6 +79,11 @@
  *   10  a preference names an exception that the book does not have
  * Of a lent buffer, after everything else:
  *   15  it is shorter than the answer (line 0)
+ * Of a store and a name, in Set, Go and Drop, which take no text (line 0):
+ *   24  the bytes are not a store, or are not 1,024; what a store is stands below
+ *   25  the name is misspelt; for Go and Drop also: the store does not have it
+ *   26  Set: the store has 32 names, and this is none of them
+ * 19 to 23 are not given by this version.
  *
  * A PAIR is three numbers: the exceptions taken, the statements held, the statements denied. Number i is worth 2^(i-1)
  * in each, so exception 1 and statement 1 have the lowest bit. A pair is lawful for a book if none of 12 to 14 applies.
@@ -102,6 +110,44 @@
  *         if (page.count < 100) break;
  *         page = bantameasel_pairs_after(text, length, pairs[99], pairs, 100);
  *     }
+ *
+ * A STORE OF STOPPING POINTS keeps up to 32 pairs under names, so that a curator can name a resolution and return to
+ * it next week. It is 1,024 bytes, the same on every machine; your program keeps them as they are, mostly in a file.
+ *
+ * - An entry is 32 bytes: a name of 8, then taken, held and denied, 8 bytes each, the least byte first.
+ * - A name is one or more of the letters A to Z and the digits 0 to 9, then spaces, 8 bytes in all. A space in front or
+ *   inside, a small letter, a 0 byte or any other makes it misspelt.
+ * - The entries stand one after another from the first byte on, in strictly ascending order of their names, compared
+ *   byte by byte: a space comes before the digits, and these before the letters, so A before A0 before AA before B.
+ * - Every byte behind the last entry is 0. The empty store is 1,024 bytes of 0.
+ *
+ * Other bytes are not a store (24). Two stores with the same names and pairs are the same bytes. A store knows nothing
+ * of the book: keep one for each book. Set tests nothing in the pair: any three numbers are kept, and Go gives them
+ * back. Only going on, which is After with Go's pair, looks at a book. A pair that is not lawful for it is refused
+ * there by 12 to 14, as where the name was set for another book. From a pair that is lawful but no resolution, as where
+ * the book was changed, After goes on to the first resolution later than it. The pair 0, 0, 0 is a pair like any other;
+ * the point before the first resolution cannot be named.
+ *
+ * To name a resolution, here in an empty store; if one was kept before, read its bytes into store first, or its names
+ * are lost:
+ *
+ *     uint8_t store[BANTAMEASEL_STORE] = {0};
+ *     bantameasel_done done = bantameasel_set(store, BANTAMEASEL_STORE, bantameasel_name_of("LINING"), pair);
+ *     if (done.refusal == 0) keep(store);
+ *     else tell(bantameasel_refusal_words(done.refusal));
+ *
+ * To keep it in a file, write a new file beside the old one, flush it to the disk, and rename it to the old one's name:
+ * whatever fails in between, the file is then the old store or the new one, and whole.
+ *
+ * To go on from it next week, with the store that was kept:
+ *
+ *     bantameasel_answer a = bantameasel_go(store, BANTAMEASEL_STORE, bantameasel_name_of("LINING"));
+ *     if (a.refusal == 0) a = bantameasel_after(text, length, a.pair);
+ *     while (a.refusal == 0 && a.found) {
+ *         show(a.pair);
+ *         a = bantameasel_after(text, length, a.pair);
+ *     }
+ *     if (a.refusal != 0) tell(bantameasel_refusal_words(a.refusal));
  */
 #ifndef BANTAMEASEL_H
 #define BANTAMEASEL_H
@@ -113,8 +159,8 @@
 extern "C" {
 #endif
 
-/* The version of this header: 100 for each whole version and 1 for each part of one, so that 202 is version 2.2. */
-#define BANTAMEASEL_VERSION 202
+/* The version of this header: 100 for each whole version and 1 for each part of one, so that 203 is version 2.3. */
+#define BANTAMEASEL_VERSION 203
 
 /* The limits of a book, and what follows from them. */
 #define BANTAMEASEL_MOST_STATEMENTS 48  /* statements, n */
@@ -124,6 +170,10 @@ extern "C" {
 #define BANTAMEASEL_MOST_TEXT 8544      /* bytes of a text */
 #define BANTAMEASEL_MOST_TABLE 2012     /* numbers of a number table */
 #define BANTAMEASEL_MOST_LINE 118       /* bytes of an A line, its line feed included */
+
+/* A store of stopping points. */
+#define BANTAMEASEL_STORE 1024    /* its bytes, always as many */
+#define BANTAMEASEL_MOST_NAMES 32 /* its names, and so its entries */
 
 /* Bytes of stack: more than any call takes. */
 #define BANTAMEASEL_MOST_STACK 262144
@@ -150,7 +200,10 @@ enum {
     BANTAMEASEL_REFUSED_TABLE_LENGTH = 16,
     BANTAMEASEL_REFUSED_FIELD_GAP = 17,
     BANTAMEASEL_REFUSED_FIELD_ZERO = 18,
-    BANTAMEASEL_LAST_REFUSAL = 18 /* the highest number of this version */
+    BANTAMEASEL_REFUSED_STORE = 24,
+    BANTAMEASEL_REFUSED_NAME = 25,
+    BANTAMEASEL_REFUSED_STORE_FULL = 26,
+    BANTAMEASEL_LAST_REFUSAL = 26 /* the highest number of this version, which does not give 19 to 23 */
 };
 
 /* The verdicts of Judge. What each one means stands at bantameasel_verdict. */
@@ -205,12 +258,15 @@ typedef struct {
     uint64_t line;    /* the refusal's line, or 0 */
 } bantameasel_verdict;
 
-/* What First and After answer: the refusal and its line, or a resolution, or the End. */
+/*
+ * What First, After and Go answer: the refusal and its line, or a resolution, or the End. Go answers the pair of a
+ * name, which need not be a resolution of any book, and never the End.
+ */
 typedef struct {
     uint32_t refusal;      /* 0: not refused */
-    uint32_t found;        /* 1: the pair below is the resolution; 0: End, and the pair below is 0, 0, 0 */
+    uint32_t found;        /* 1: the pair below is the answer; 0: End, and the pair below is 0, 0, 0 */
     uint64_t line;         /* the refusal's line, or 0 */
-    bantameasel_pair pair; /* the resolution */
+    bantameasel_pair pair; /* the resolution, or the pair of the name */
 } bantameasel_answer;
 
 /* What a page answers: the refusal and its line, or how many pairs were written. */
@@ -219,6 +275,17 @@ typedef struct {
     uint64_t line;    /* the refusal's line, or 0 */
     uint64_t count;   /* the pairs written, three numbers each */
 } bantameasel_page;
+
+/* A name: letters A to Z and digits 0 to 9, at least one, then spaces. bantameasel_name_of makes it from a string. */
+typedef struct {
+    uint8_t bytes[8];
+} bantameasel_name;
+
+/* What Set and Drop answer: the refusal, or that it was done. */
+typedef struct {
+    uint32_t refusal; /* 0: done */
+    uint64_t line;    /* 0: no refusal of Set and Drop is about a line */
+} bantameasel_done;
 
 /* The version of the library, by the rule of BANTAMEASEL_VERSION. */
 uint32_t bantameasel_version(void);
@@ -339,6 +406,58 @@ static inline bantameasel_page bantameasel_pairs_after(const uint8_t *text, size
     return bantameasel_page_after(text, text_length, pair, (uint64_t *)pairs, 3 * room);
 }
 
+/*
+ * Set: puts a pair under a name, in the place of the pair that the name had before, if it had one.
+ *
+ * Takes    a lent store, store_length being BANTAMEASEL_STORE, a name, and a pair, which may be any three numbers.
+ * Answers  that it was done.
+ * Writes   the store: the entries that it had, and this one, as is laid down above for all of its bytes.
+ * Refuses  24 for the store; then 25 if the name is misspelt; then 26 if the store has BANTAMEASEL_MOST_NAMES names and
+ *          this is none of them. The store is then unchanged.
+ */
+bantameasel_done bantameasel_set(uint8_t *store, size_t store_length, bantameasel_name name, bantameasel_pair pair);
+
+/*
+ * Go: the pair that was last set under a name.
+ *
+ * Takes    a store, store_length being BANTAMEASEL_STORE, and a name.
+ * Answers  found 1 and the pair. To go on from it in a book, pass it to After or to the page after.
+ * Writes   nothing; the store is only read.
+ * Refuses  24 for the store; then 25 if the name is misspelt or the store does not have it.
+ */
+bantameasel_answer bantameasel_go(const uint8_t *store, size_t store_length, bantameasel_name name);
+
+/*
+ * Drop: takes a name and its pair out of the store.
+ *
+ * Takes    a lent store, store_length being BANTAMEASEL_STORE, and a name.
+ * Answers  that it was done.
+ * Writes   the store: the entries that it had, without this one, as is laid down above for all of its bytes; those
+ *          behind it move up, and the last 32 bytes become 0.
+ * Refuses  24 for the store; then 25 if the name is misspelt or the store does not have it. The store is then
+ *          unchanged.
+ */
+bantameasel_done bantameasel_drop(uint8_t *store, size_t store_length, bantameasel_name name);
+
+/*
+ * The name of a word of 1 to 8 characters, filled up with spaces. Where the word is empty or longer than 8, the name
+ * begins with a space: it is misspelt, and each of the three functions refuses it by 25. Nothing else is tested or
+ * changed here; a small letter stays one, and is refused so too.
+ */
+static inline bantameasel_name bantameasel_name_of(const char *word)
+{
+    bantameasel_name name = {{' ', ' ', ' ', ' ', ' ', ' ', ' ', ' '}};
+    size_t length = 0;
+    while (length < sizeof name.bytes && word[length] != '\0') {
+        name.bytes[length] = (uint8_t)word[length];
+        length++;
+    }
+    if (word[length] != '\0') {
+        name.bytes[0] = ' ';
+    }
+    return name;
+}
+
 /* What a refusal means, in words for the people who write books. */
 static inline const char *bantameasel_refusal_words(uint32_t refusal)
 {
@@ -363,6 +482,9 @@ static inline const char *bantameasel_refusal_words(uint32_t refusal)
     case BANTAMEASEL_REFUSED_TABLE_LENGTH: return "the number table has another length than its counts ask for";
     case BANTAMEASEL_REFUSED_FIELD_GAP: return "a field is blank, or a space stands after a digit";
     case BANTAMEASEL_REFUSED_FIELD_ZERO: return "a number has a leading zero, or is -0";
+    case BANTAMEASEL_REFUSED_STORE: return "this is not a store of named resolutions, or it is damaged";
+    case BANTAMEASEL_REFUSED_NAME: return "the name is misspelt, or there is no such name";
+    case BANTAMEASEL_REFUSED_STORE_FULL: return "the store is full, and this name would be one more than it may have";
     default: return "a refusal that this version does not know";
     }
 }

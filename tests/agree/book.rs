@@ -81,8 +81,10 @@ pub struct Pair {
     pub denied: u64,
 }
 
-/// The highest number of a refusal.
-pub const LAST_REFUSAL: usize = 18;
+/// The highest number of a refusal. 19 to 23 are kept for requests to come, and nothing is refused by them.
+pub const LAST_REFUSAL: usize = 26;
+pub const OF_BOOKS: std::ops::RangeInclusive<usize> = 1..=18;
+pub const OF_STORES: std::ops::RangeInclusive<usize> = 24..=26;
 
 /// A refusal of document 01 or 02, by number and line.
 #[derive(Clone, Copy, PartialEq, Eq, Debug)]

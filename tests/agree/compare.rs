@@ -10,8 +10,9 @@ use std::fmt::Debug;
 use std::fs::File;
 use std::os::unix::fs::FileExt;
 
-/// How many numbers beside a lent buffer are watched, on each side.
-const MARGIN: usize = 8;
+/// How many numbers beside a lent buffer are watched, on each side: more than an entry of a store has bytes, and an odd
+/// number, so that lent bytes begin at an odd address.
+const MARGIN: usize = 33;
 
 /// A difference between the engine and document 01, with the input that shows it.
 pub struct Difference {
@@ -69,7 +70,7 @@ impl Cell for u64 {
 }
 
 /// Memory with known content: a margin, the lent buffer, a margin.
-struct Lent<T: Cell> {
+pub struct Lent<T: Cell> {
     before: Vec<T>,
     now: Vec<T>,
 }
@@ -82,14 +83,21 @@ impl<T: Cell> Lent<T> {
         Lent { now: before.clone(), before }
     }
 
+    /// Memory whose lent part has this content.
+    fn with(content: &[T], salt: u64) -> Lent<T> {
+        let mut lent = Lent::new(content.len(), salt);
+        lent.part().copy_from_slice(content);
+        lent
+    }
+
     /// The part that is lent.
-    fn part(&mut self) -> &mut [T] {
+    pub fn part(&mut self) -> &mut [T] {
         let end = self.now.len() - MARGIN;
         &mut self.now[MARGIN..end]
     }
 
     /// Tests that the lent part begins with the answer and that nothing else has changed.
-    fn holds(&self, answer: &[T]) -> Result<(), String> {
+    pub fn holds(&self, answer: &[T]) -> Result<(), String> {
         let end = MARGIN + answer.len();
         let same = self.now[MARGIN..end] == *answer
             && self.now[..MARGIN] == self.before[..MARGIN]
@@ -116,7 +124,7 @@ impl<T: Cell> Lent<T> {
 /// How often each operation was compared, and which answers came up.
 #[derive(Default)]
 pub struct Tally {
-    pub calls: [u64; 8],
+    pub calls: [u64; OPERATIONS.len()],
     pub refusals: [u64; LAST_REFUSAL + 1],
     pub verdicts: [u64; 6],
     pub ends: u64,
@@ -126,26 +134,31 @@ pub struct Tally {
 }
 
 /// The operations, in the order of `Tally::calls`.
-pub const OPERATIONS: [&str; 8] = ["Read", "Write", "Judge", "First", "After", "Line", "first page", "page after"];
+pub const OPERATIONS: [&str; 11] =
+    ["Read", "Write", "Judge", "First", "After", "Line", "first page", "page after", "Set", "Go", "Drop"];
 
 /// Compares operations and counts what was compared.
 pub struct Checker {
     pub tally: Tally,
     /// The text at hand, kept in a file so that it is there if the engine stops the program.
     running: File,
+    /// How many bytes that file has.
+    noted: usize,
     salt: u64,
 }
 
 impl Checker {
     /// A checker that keeps the text at hand in this file.
     pub fn new(running: File) -> Checker {
-        Checker { tally: Tally::default(), running, salt: 0 }
+        Checker { tally: Tally::default(), running, noted: 0, salt: 0 }
     }
 
     /// Notes the text that the next calls are about, and gives them some time.
     pub fn begin(&mut self, text: &[u8]) {
-        let noted = self.running.set_len(text.len() as u64).and_then(|()| self.running.write_all_at(text, 0));
+        let cut = if text.len() < self.noted { self.running.set_len(text.len() as u64) } else { Ok(()) };
+        let noted = cut.and_then(|()| self.running.write_all_at(text, 0));
         noted.expect("the text at hand can be written to its file");
+        self.noted = text.len();
         allow_seconds(MOST_SECONDS);
     }
 
@@ -155,8 +168,14 @@ impl Checker {
         Lent::new(length, self.salt)
     }
 
+    /// Memory whose lent part has this content, with other content beside it at each call.
+    pub fn lend_with(&mut self, content: &[u8]) -> Lent<u8> {
+        self.salt += 1_000_003;
+        Lent::with(content, self.salt)
+    }
+
     /// Counts one comparison of the operation with this number, and its refusal if it has one.
-    fn count<T>(&mut self, operation: usize, expected: &Result<T, Refusal>) {
+    pub fn count<T>(&mut self, operation: usize, expected: &Result<T, Refusal>) {
         self.tally.calls[operation] += 1;
         if let Err(refusal) = expected {
             self.tally.refusals[refusal.number as usize] += 1;
@@ -284,7 +303,7 @@ fn compare_page(
 }
 
 /// Tests that the engine's answer is the expected one.
-fn same<T: PartialEq + Debug>(expected: &T, answer: &T) -> Result<(), String> {
+pub fn same<T: PartialEq + Debug>(expected: &T, answer: &T) -> Result<(), String> {
     if expected == answer {
         Ok(())
     } else {

@@ -44,6 +44,18 @@ struct PageAnswer {
     count: u64,
 }
 
+/// A name of a stopping point, handed over by value.
+#[repr(C)]
+struct NameBytes {
+    bytes: [u8; 8],
+}
+
+#[repr(C)]
+struct DoneAnswer {
+    refusal: u32,
+    line: u64,
+}
+
 extern "C" {
     fn bantameasel_read(text: *const u8, text_length: usize, table: *mut i32, table_length: usize) -> BookAnswer;
     fn bantameasel_write(table: *const i32, table_length: usize, text: *mut u8, text_length: usize) -> LengthAnswer;
@@ -65,6 +77,9 @@ extern "C" {
         pairs: *mut u64,
         pairs_length: usize,
     ) -> PageAnswer;
+    fn bantameasel_set(store: *mut u8, store_length: usize, name: NameBytes, pair: Pair) -> DoneAnswer;
+    fn bantameasel_go(store: *const u8, store_length: usize, name: NameBytes) -> PairAnswer;
+    fn bantameasel_drop(store: *mut u8, store_length: usize, name: NameBytes) -> DoneAnswer;
 }
 
 /// The answer if there is no refusal. By the engine's contract the line is 0 beside an answer, and the answer is 0
@@ -138,4 +153,21 @@ pub fn first_page(text: &[u8], pairs: &mut [u64]) -> Result<u64, Refusal> {
 pub fn page_after(text: &[u8], pair: &Pair, pairs: &mut [u64]) -> Result<u64, Refusal> {
     let answer = unsafe { bantameasel_page_after(text.as_ptr(), text.len(), *pair, pairs.as_mut_ptr(), pairs.len()) };
     unless_refused(answer.refusal, answer.line, answer.count)
+}
+
+/// Set: that the pair now stands in the store under the name.
+pub fn set(store: &mut [u8], name: [u8; 8], pair: &Pair) -> Result<(), Refusal> {
+    let answer = unsafe { bantameasel_set(store.as_mut_ptr(), store.len(), NameBytes { bytes: name }, *pair) };
+    unless_refused(answer.refusal, answer.line, ())
+}
+
+/// Go: the pair that stands in the store under the name. None would be an End, which Go doesn't have.
+pub fn go(store: &[u8], name: [u8; 8]) -> Result<Option<Pair>, Refusal> {
+    found(unsafe { bantameasel_go(store.as_ptr(), store.len(), NameBytes { bytes: name }) })
+}
+
+/// Drop: that no pair stands in the store under the name any longer.
+pub fn drop(store: &mut [u8], name: [u8; 8]) -> Result<(), Refusal> {
+    let answer = unsafe { bantameasel_drop(store.as_mut_ptr(), store.len(), NameBytes { bytes: name }) };
+    unless_refused(answer.refusal, answer.line, ())
 }

@@ -6,16 +6,19 @@
 //!     agree library SEED COUNT   the same without `ways` and without clingo
 //!     agree clingo SEED COUNT    so many small and as many larger books against clingo
 //!     agree ways SEED COUNT      `ways`, on so many small and as many larger books
+//!     agree points SEED COUNT    named stopping points alone: so many lists of calls
 //!
 //! Options: --ways PATH (needed by gate solver, long and ways), --clingo PATH, --save FOLDER.
-//! At the first difference it saves the book, says what differs, and ends with status 1.
+//! At the first difference it saves the book or the store, says what differs, and ends with status 1.
 
 mod blocks;
 mod book;
 mod clingo;
 mod compare;
 mod damage;
+mod damaged_stores;
 mod engine;
+mod going_on;
 mod kinds;
 mod known;
 mod large;
@@ -24,15 +27,19 @@ mod listing;
 mod loops;
 mod maker;
 mod meaning;
+mod names;
 mod own;
 mod pairs;
 mod plain;
+mod points;
 mod process;
 mod random;
 mod report;
 mod sections;
 mod small_books;
 mod solved;
+mod store;
+mod store_examples;
 mod text;
 mod tiny;
 mod ways;
@@ -87,13 +94,13 @@ fn inside(arguments: Vec<String>) {
     exit(worker.expect("a thread can be started").join().unwrap_or(3));
 }
 
-/// Saves the book of a failure and says what differs.
+/// Saves the book or the store of a failure and says what differs.
 fn save(path: &Path, failure: &Failure) -> i32 {
     let saved = std::fs::write(path, &failure.text);
     println!("FAILED in {}: {}", failure.section, failure.what);
     match saved {
-        Ok(()) => println!("the book is in {}", path.display()),
-        Err(error) => println!("the book could not be saved: {error}"),
+        Ok(()) => println!("the book or the store is in {}", path.display()),
+        Err(error) => println!("it could not be saved: {error}"),
     }
     1
 }
@@ -152,6 +159,7 @@ fn plan(plain: &[&str]) -> Result<(u64, Counts), String> {
         ["library", seed, count] => Ok((number(seed)?, Counts::library(number(count)?))),
         ["clingo", seed, count] => Ok((number(seed)?, Counts::clingo(number(count)?))),
         ["ways", seed, count] => Ok((number(seed)?, Counts::only_ways(number(count)?))),
-        _ => Err("use: agree gate library|solver, or agree long|library|clingo|ways SEED COUNT".to_string()),
+        ["points", seed, count] => Ok((number(seed)?, Counts::points(number(count)?))),
+        _ => Err("use: agree gate library|solver, or agree long|library|clingo|ways|points SEED COUNT".to_string()),
     }
 }

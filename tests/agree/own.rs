@@ -1,9 +1,11 @@
 //! Checks of the test program itself: its reading, its order and its meaning against what document 01 states, and
-//! against document 02: the closing line (a), sixteen exceptions (c), and misspelt fields (d).
+//! against document 02: the closing line (a), sixteen exceptions (c), misspelt fields (d), and named stopping points
+//! (h).
 
 use crate::book::*;
 use crate::meaning::{compare_pairs, Meaning, Oracle};
 use crate::small_books::{small_books, SEVENTH_LISTING, SEVENTH_TEXT};
+use crate::store_examples;
 use crate::text::*;
 use crate::ways::{listing_of, MOST};
 
@@ -34,7 +36,8 @@ pub fn check() -> Result<u64, String> {
     check_spelling()?;
     check_misspelling()?;
     check_order_of_fields()?;
-    Ok(count + 10)
+    store_examples::check().or_else(|name| expect(name, false))?;
+    Ok(count + 11)
 }
 
 /// A named expectation.

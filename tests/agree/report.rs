@@ -1,10 +1,11 @@
 //! What a run prints at its end, and what it must have met.
 
-use crate::book::LAST_REFUSAL;
+use crate::book::{OF_BOOKS, OF_STORES};
 use crate::compare::OPERATIONS;
 use crate::kinds::KINDS;
 use crate::large;
 use crate::library::Outcomes;
+use crate::points::Stored;
 use crate::sections::{Counts, Failure, Run};
 use crate::wide;
 
@@ -14,7 +15,8 @@ pub fn print(run: &Run) {
     let calls: Vec<String> =
         OPERATIONS.iter().zip(tally.calls).map(|(name, count)| format!("{name} {count}")).collect();
     println!("compared: {}", calls.join(", "));
-    println!("refusals 1 to {LAST_REFUSAL}: {:?}; verdicts 0 to 5: {:?}", &tally.refusals[1..], tally.verdicts);
+    let [of_books, of_stores] = [OF_BOOKS, OF_STORES].map(|numbers| &tally.refusals[numbers]);
+    println!("refusals 1 to 18: {of_books:?}; 24 to 26: {of_stores:?}; verdicts 0 to 5: {:?}", tally.verdicts);
     println!("First and After: {} pairs, {} Ends", tally.pairs, tally.ends);
     println!("Line: {} with 12 fields, {} with 16", tally.lines[0], tally.lines[1]);
     let walked = &run.walked;
@@ -27,7 +29,26 @@ pub fn print(run: &Run) {
     if run.ways_skipped > 0 {
         println!("SKIPPED: {} runs of ways (none was given)", run.ways_skipped);
     }
+    print_stored(&run.stored);
     print_outcomes(run);
+}
+
+/// Prints what was done with stores, if anything was.
+fn print_stored(stored: &Stored) {
+    let Stored { lists, calls: [sets, goes, drops], refused: [by_25, by_26], full, .. } = stored;
+    if *lists == 0 {
+        return;
+    }
+    println!(
+        "stores: {lists} lists of calls, with Set {sets}, Go {goes}, Drop {drops}; refused by 25 {by_25}, by 26 {by_26}; \
+         {full} lists with a full store"
+    );
+    let Stored { damaged, still_stores, other_lengths, gone_on, resolutions, ends, unlawful, .. } = stored;
+    println!("stores damaged: {damaged}, of which {still_stores} are stores; {other_lengths} slices of other lengths");
+    println!(
+        "going on from names: {gone_on} points, with {resolutions} resolutions and {ends} Ends; \
+         refused by 12 to 14 {unlawful:?}"
+    );
 }
 
 /// Prints what the books were like, kind by kind.
@@ -67,6 +88,9 @@ pub fn all_met(run: &Run, counts: &Counts) -> Result<(), Failure> {
     if counts.small >= 500 {
         needed.extend(needed_answers(run));
     }
+    if counts.lists >= 500 {
+        needed.extend(needed_stores(run));
+    }
     if counts.ways >= 50 && run.ways_skipped == 0 {
         needed.extend(needed_closings(run));
     }
@@ -93,15 +117,33 @@ fn needed_outcomes(run: &Run) -> [(&'static str, u64); 7] {
     ]
 }
 
+/// The least of some counts.
+fn least(counts: &[u64]) -> u64 {
+    counts.iter().copied().min().unwrap_or(0)
+}
+
 /// The answers that the library must have been asked for.
 fn needed_answers(run: &Run) -> [(&'static str, u64); 5] {
     let tally = &run.checker.tally;
     [
-        ("a refusal", tally.refusals[1..].iter().copied().min().unwrap_or(0)),
-        ("a verdict", tally.verdicts.iter().copied().min().unwrap_or(0)),
+        ("a refusal", least(&tally.refusals[OF_BOOKS])),
+        ("a verdict", least(&tally.verdicts)),
         ("a pair or End", tally.pairs.min(tally.ends)),
         ("a refused call of a listing", run.walked.refused),
         ("a line with 12 or with 16 fields", tally.lines[0].min(tally.lines[1])),
+    ]
+}
+
+/// What stores must have met.
+fn needed_stores(run: &Run) -> [(&'static str, u64); 6] {
+    let stored = &run.stored;
+    [
+        ("a refusal of a store", least(&run.checker.tally.refusals[OF_STORES])),
+        ("25 or 26 in a list", least(&stored.refused)),
+        ("a list with a full store", stored.full),
+        ("a damaged store that is a store or is none", stored.still_stores.min(stored.damaged - stored.still_stores)),
+        ("a resolution or End after a name", stored.resolutions.min(stored.ends)),
+        ("an unlawful point", least(&stored.unlawful)),
     ]
 }
 

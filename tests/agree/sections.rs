@@ -5,6 +5,8 @@ use crate::book::{Book, Pair, TEXT};
 use crate::clingo::Clingo;
 use crate::compare::{Checker, Difference, Known, Outcome};
 use crate::damage;
+use crate::damaged_stores;
+use crate::going_on;
 use crate::kinds::{book_of_kind, small_book, KINDS};
 use crate::known::known_book;
 use crate::large;
@@ -14,11 +16,13 @@ use crate::loops;
 use crate::meaning::{Meaning, Oracle};
 use crate::own;
 use crate::plain;
+use crate::points::{self, Stored};
 use crate::process::{allow_seconds, MOST_SECONDS};
 use crate::random::Random;
 use crate::report;
 use crate::small_books::{small_books, SEVENTH_LISTING, SEVENTH_TEXT};
 use crate::solved::{self, Solved};
+use crate::store_examples;
 use crate::text::{read_text, refusal_line, table_of, text_of};
 use crate::tiny;
 use crate::ways::{self, listing_of, Closed};
@@ -46,6 +50,10 @@ pub struct Counts {
     pub large: u64,
     pub known: u64,
     pub ways: u64,
+    pub lists: u64,
+    pub moved: u64,
+    pub stores: u64,
+    pub named: u64,
 }
 
 impl Counts {
@@ -62,6 +70,10 @@ impl Counts {
             full_texts: 1,
             faulty: 40_000,
             lengths: 45,
+            lists: 5_000,
+            moved: 60_000,
+            stores: 1,
+            named: 800,
             ..none()
         }
     }
@@ -92,8 +104,14 @@ impl Counts {
             full_texts: part(50_000),
             faulty: count * 2,
             lengths: part(500),
-            ..none()
+            ..Counts::points(count)
         }
+    }
+
+    /// Named stopping points alone.
+    pub fn points(count: u64) -> Counts {
+        let part = |of: u64| (count / of).max(1);
+        Counts { lists: count, moved: count * 10, stores: part(50_000), named: part(10), ..none() }
     }
 
     /// Larger books by clingo alone.
@@ -143,6 +161,7 @@ pub struct Run {
     pub large: Vec<Outcomes>,
     pub closed: Closed,
     pub ways_skipped: u64,
+    pub stored: Stored,
 }
 
 /// Outcomes of so many kinds of book, before any came up.
@@ -170,6 +189,7 @@ impl Run {
             large: no_outcomes(large::KINDS.len() + 1),
             closed: Closed::default(),
             ways_skipped: 0,
+            stored: Stored::default(),
         }
     }
 
@@ -190,6 +210,12 @@ impl Run {
         self.section("texts and tables with several faults", counts.faulty, Run::faulty)?;
         self.section("every length of lent buffers", counts.lengths, Run::lengths)?;
         self.section("full texts and tables, damaged everywhere", counts.full_texts, Run::full_text)?;
+        self.section("stopping points as in the worked example", counts.lists.min(1), store_examples::compare)?;
+        self.section("lists of Set, Go and Drop from empty stores", counts.lists, points::list)?;
+        self.section("stores with bytes replaced and entries moved", counts.moved, damaged_stores::moved)?;
+        self.section("stores of every length", counts.stores, damaged_stores::every_length)?;
+        self.section("stores damaged at every byte", counts.stores, damaged_stores::every_byte)?;
+        self.section("going on from names", counts.named, going_on::from_names)?;
         self.section("brute force against clingo", counts.by_clingo, Run::by_clingo)?;
         self.section("larger books against clingo, to 48 statements", counts.large, Run::large_books)?;
         self.section("books of 12 to 16 exceptions whose views are known", counts.known, Run::known_books)?;
@@ -284,7 +310,7 @@ impl Run {
     }
 
     /// A random small book; of every sixteen one has 12 to 16 exceptions. It comes with the outcomes of its kind.
-    fn next_book(&mut self, random: &mut Random, place: u64) -> (Book, &mut Outcomes) {
+    pub fn next_book(&mut self, random: &mut Random, place: u64) -> (Book, &mut Outcomes) {
         let place = place as usize;
         if place % 16 == 15 {
             let kind = place / 16 % wide::KINDS.len();

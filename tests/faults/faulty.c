@@ -1,39 +1,14 @@
-/* The engine's library with a deliberate fault, to show that the test program can fail.
- *
- * The Makefile renames the library's functions from bantameasel_ to true_; the functions here stand in their place.
- * They give the true answers, but for the fault that the environment variable FAULT names. */
+/* The engine's library with a deliberate fault, to show that the test program can fail: what it does with books. The
+ * functions here stand in the place of the true ones, and give their answers but for the fault that is asked for. */
 #include <ctype.h>
-#include <stdlib.h>
-#include <string.h>
 
-#define bantameasel_read true_read
-#define bantameasel_write true_write
-#define bantameasel_judge true_judge
-#define bantameasel_first true_first
-#define bantameasel_after true_after
-#define bantameasel_line true_line
-#define bantameasel_first_page true_first_page
-#define bantameasel_page_after true_page_after
-#include "bantameasel.h"
-#undef bantameasel_read
-#undef bantameasel_write
-#undef bantameasel_judge
-#undef bantameasel_first
-#undef bantameasel_after
-#undef bantameasel_line
-#undef bantameasel_first_page
-#undef bantameasel_page_after
+#include "true.h"
 
 enum { MOST_TEXT = BANTAMEASEL_MOST_TEXT, MOST_TABLE = BANTAMEASEL_MOST_TABLE, ROW = 9 };
 enum { MOST_LINE = BANTAMEASEL_MOST_LINE, SIXTEEN = BANTAMEASEL_MOST_EXCEPTIONS };
 
 /* The limits before there were sixteen exceptions. */
 enum { TWELVE = 12, SHORTER_TEXT = 8392 };
-
-static int fault(const char *name) {
-    const char *asked = getenv("FAULT");
-    return asked != NULL && strcmp(asked, name) == 0;
-}
 
 /* ---- meaning: the book that a faulty reader of rules would see */
 
@@ -326,7 +301,9 @@ bantameasel_answer bantameasel_after(const uint8_t *text, size_t length, bantame
     static int moved;
     const uint8_t *searched = changed(text, &length);
     bantameasel_answer answer = in_other_order(searched, length, &pair, true_after(searched, length, pair));
-    int over = fault("After passes one over") || (fault("a refused call moves the point") && moved);
+    int from_name = memcmp(&pair, &gone_to, sizeof pair) == 0;
+    int over = fault("After passes one over") || (fault("a refused call moves the point") && moved) ||
+               (fault("After passes one over from the point that Go gave") && from_name);
     if (over && answer.found) answer = true_after(searched, length, answer.pair);
     moved = answer.refusal != 0;
     if (fault("After repeats its point") && answer.refusal == 0 &&

@@ -24,6 +24,8 @@ void expect_refusal(const char *what, uint32_t got, uint32_t wanted) {
 
 int provoked(uint32_t refusal) { return seen[refusal]; }
 
+int given(uint32_t refusal) { return refusal <= BANTAMEASEL_LAST_REFUSAL && (refusal < 19 || refusal > 23); }
+
 static void put(book *b, char letter, const int *numbers, int count) {
     char *at = (char *)b->bytes + b->length;
     size_t needed = 2 + 4 * (size_t)count;

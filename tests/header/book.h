@@ -37,6 +37,9 @@ unsigned checks(void);
 void expect_refusal(const char *what, uint32_t got, uint32_t wanted);
 int provoked(uint32_t refusal);
 
+/* Whether this version gives a refusal with this number, or 0 for none: 19 to 23 are kept for later ones. */
+int given(uint32_t refusal);
+
 /* The tests. */
 void test_refusals(void);
 void test_verdicts(void);
@@ -45,6 +48,7 @@ void test_limits(void);
 void test_layout(void);
 void test_null(void);
 void test_listings(void);
+void test_stores(void);
 void test_stack(void);
 void test_threads(void);
 

@@ -110,6 +110,9 @@ void test_layout(void) {
     expect("its pair", offsetof(bantameasel_answer, pair), 16);
     expect("the size of a page's answer", sizeof(bantameasel_page), 24);
     expect("its count", offsetof(bantameasel_page, count), 16);
+    expect("the size of a name", sizeof(bantameasel_name), 8);
+    expect("the size of Set's answer", sizeof(bantameasel_done), 16);
+    expect("its line", offsetof(bantameasel_done, line), 8);
     book b;
     begin(&b, 3);
     add(&b, 'X', (row){.head = 1});

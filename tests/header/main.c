@@ -1,6 +1,7 @@
-/* Tests what the C header says against the library: names, limits, words, layout, NULL, its listings, stack, threads.
+/* Tests what the C header says against the library: names, limits, words, layout, NULL, its listings, stores, stack,
+ * threads.
  *
- *     header VERSION    all of it; VERSION is that of people.mk, as 2.2
+ *     header VERSION    all of it; VERSION is that of people.mk, as 2.3
  *     header null       only NULL with length 0, to be run under valgrind */
 #include <stdio.h>
 #include <string.h>
@@ -25,7 +26,9 @@ int main(int count, char **arguments) {
     test_limits();
     test_layout();
     test_listings();
-    for (uint32_t number = 0; number <= BANTAMEASEL_LAST_REFUSAL; number++) expect("provoked", provoked(number), 1);
+    test_stores();
+    for (uint32_t number = 0; number <= BANTAMEASEL_LAST_REFUSAL; number++)
+        expect("provoked", provoked(number), given(number));
     test_stack();
     test_threads();
     printf("header: %u checks passed\n", checks());

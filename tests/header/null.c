@@ -33,10 +33,33 @@ static void test_no_room(const uint8_t *text, size_t length, bantameasel_pair pa
     expect("no room for a pair", bantameasel_first_pairs(text, length, NULL, 0).count, 0);
 }
 
+/* Set, Go and Drop without a store, and with one of their own on the heap, so that nothing past it can be read or
+ * written unseen. */
+static void test_no_store(bantameasel_pair pair) {
+    const uint32_t none = BANTAMEASEL_REFUSED_STORE;
+    bantameasel_name name = bantameasel_name_of("LINING");
+    expect_refusal("Set", bantameasel_set(NULL, 0, name, pair).refusal, none);
+    expect_refusal("Go", bantameasel_go(NULL, 0, name).refusal, none);
+    expect_refusal("Drop", bantameasel_drop(NULL, 0, name).refusal, none);
+    uint8_t *store = calloc(1, BANTAMEASEL_STORE);
+    expect("memory", store != NULL, 1);
+    for (int k = 0; k < BANTAMEASEL_MOST_NAMES; k++) {
+        char word[3] = {(char)('A' + k % 26), (char)('0' + k / 26), '\0'};
+        expect("Set", bantameasel_set(store, BANTAMEASEL_STORE, bantameasel_name_of(word), pair).refusal, 0);
+    }
+    expect_refusal("one name more", bantameasel_set(store, BANTAMEASEL_STORE, name, pair).refusal,
+                   BANTAMEASEL_REFUSED_STORE_FULL);
+    expect_refusal("no such name", bantameasel_go(store, BANTAMEASEL_STORE, name).refusal, BANTAMEASEL_REFUSED_NAME);
+    expect("Drop", bantameasel_drop(store, BANTAMEASEL_STORE, bantameasel_name_of("A0")).refusal, 0);
+    expect("Go", bantameasel_go(store, BANTAMEASEL_STORE, bantameasel_name_of("Z0")).found, 1);
+    free(store);
+}
+
 void test_null(void) {
     bantameasel_pair pair = {0, 1, 0};
     book b;
     test_no_text(pair);
+    test_no_store(pair);
     choices(&b, 3, 3);
     finish(&b);
     uint8_t *text = malloc(b.length);

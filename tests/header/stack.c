@@ -8,7 +8,7 @@
 
 #include "book.h"
 
-enum { SMALL_STACK = 32768, GUARD = 4096, PAINT = 0xA5, ROOM = 64, THREADS = 8, ROUNDS = 20 };
+enum { SMALL_STACK = 32768, LEAST_STACK = 8192, GUARD = 4096, PAINT = 0xA5, ROOM = 64, THREADS = 8, ROUNDS = 20 };
 
 /* What one thread is to do: a function on a book and a pair. */
 typedef struct task task;
@@ -35,6 +35,23 @@ static void call_write(task *t) {
 static void call_line(task *t) {
     t->count = bantameasel_line(t->of->bytes, t->of->length, t->pair, written, BANTAMEASEL_MOST_LINE).refusal;
 }
+
+/* The store that these three work on is full but for one name, between the others. */
+static uint8_t store[BANTAMEASEL_STORE];
+
+static void call_set(task *t) {
+    t->count = bantameasel_set(store, BANTAMEASEL_STORE, bantameasel_name_of("M"), t->pair).refusal;
+}
+
+static void call_go(task *t) {
+    t->count = bantameasel_go(store, BANTAMEASEL_STORE, bantameasel_name_of("M")).refusal;
+}
+
+static void call_drop(task *t) {
+    t->count = bantameasel_drop(store, BANTAMEASEL_STORE, bantameasel_name_of("M")).refusal;
+}
+
+static void call_nothing(task *t) { t->count = BANTAMEASEL_NOT_REFUSED; }
 
 static void call_judge(task *t) { t->count = bantameasel_judge(t->of->bytes, t->of->length, t->pair).verdict; }
 
@@ -182,6 +199,26 @@ static void test_small(book *b) {
     }
 }
 
+/* Set, Go and Drop on a store that Set makes full: what a thread takes that calls nothing is not theirs. */
+static void test_stores_small(void) {
+    static job *const calls[] = {call_set, call_go, call_drop};
+    task none = {.call = call_nothing};
+    size_t own = deepest(&none, SMALL_STACK), most = 0;
+    for (int k = 1; k < BANTAMEASEL_MOST_NAMES; k++) {
+        char word[3] = {(char)('A' + k % 26), (char)('0' + k / 26), '\0'};
+        expect("Set", bantameasel_set(store, BANTAMEASEL_STORE, bantameasel_name_of(word), none.pair).refusal, 0);
+    }
+    for (size_t k = 0; k < sizeof calls / sizeof calls[0]; k++) {
+        task t = {.call = calls[k], .count = BANTAMEASEL_LAST_REFUSAL};
+        size_t used = deepest(&t, SMALL_STACK);
+        expect("not refused", t.count, BANTAMEASEL_NOT_REFUSED);
+        if (used > most) most = used;
+    }
+    printf("stack: Set, Go and Drop used at most %zu bytes beside the %zu of a thread that calls nothing\n",
+           most > own ? most - own : 0, own);
+    expect("the stack of Set, Go and Drop", most < own + LEAST_STACK, 1);
+}
+
 /* A call that takes more stack than this ends the program by a signal. */
 void test_stack(void) {
     static size_t (*const tests[])(book *) = {test_denied, test_dead_ends, test_needed, test_judged, test_choices};
@@ -195,6 +232,7 @@ void test_stack(void) {
     }
     printf("stack: at most %zu bytes were used, the thread's own included\n", most);
     test_small(&b);
+    test_stores_small();
 }
 
 /* Each thread asks for the first page again and again. */

@@ -1,8 +1,11 @@
 -- Each case of an answer, as C has it; and the way back, which loses nothing, since no refusal has number 0.
-use mathlib.Core.Path.{_≡_, refl}
-use mathlib.Core.List.{List}
+use mathlib.Core.Path.{_≡_, refl, ap, _∙_}
+use mathlib.Core.Bool.{Bool, true, false}
+use mathlib.Core.List.{List, [], _∷_, map}
 use Prim.Native.Nat.{ℕ, _<_}
 use native.Mathlib.Omega.{arith}
+use lib.Dec.{eqb}
+use lib.ListN.{length}
 use borrow.Author.Tests.{ne-eqb}
 use Rattle.logic.specs.Tests.{pick}
 use Rattle.sets.specs.declared.Pair.{Pair}
@@ -24,9 +27,19 @@ use Rattle.answers.proofs.Refused.{means-numbered}
 use Rattle.meaning.specs.Books.{Book}
 use Rattle.meaning.specs.Order.{Point, start, at}
 use Rattle.meaning.specs.Listings.{Answer, found, end, refused, FirstLater}
+use Rattle.entry.specs.Names.{isName}
+use Rattle.points.specs.declared.Kept.{Kept}
+use Rattle.points.specs.declared.Kept.the-variants.{Done as IsDone, Refused as NotDone}
+use Rattle.points.specs.declared.Went.{Went}
+use Rattle.points.specs.declared.Went.the-variants.{Point as ThePoint, Refused as NotGone}
+use Rattle.points.specs.Points.{Entry, OfStore, Goes, leaves}
+use Rattle.points.specs.Stores.{Held, holds, nothing, Maybe, some, none, storeOf, lookup, setIn, dropIn, ifThere, onStore, goTold, setTold, dropTold, wentIs, wentTold, keptIs, Met, Meant}
+use Rattle.points.specs.Calls.{PointCall, set, go, drop, given, answerTo, leftBy, answersTo}
+use Rattle.points.proofs.Means.{told-back}
+use Rattle.across.specs.declared.Done.{Done}
 use Rattle.across.specs.declared.PairAnswer.{PairAnswer}
 use Rattle.across.specs.declared.VerdictAnswer.{VerdictAnswer}
-use Rattle.across.specs.Across.{bookIn, amountIn, verdictIn, answerIn, verdictFrom, answerFrom}
+use Rattle.across.specs.Across.{bookIn, amountIn, verdictIn, answerIn, doneOf, goneOf, verdictFrom, answerFrom, goneFrom, PointStruct, done, gone, structTo, pointFrom, StoreBack}
 
 pub book-is : (r : Reading) (s : Shape) → r ≡ Accepted s → bookIn (Accepted s) ≡ bookIn r
 book-is r s e = rw e refl
@@ -69,6 +82,20 @@ answer-end r e = rw e refl
 pub answer-not : (r : Found) (q : Refusal) → r ≡ NotFound q → answerIn (refused (q .number) (q .line)) ≡ answerIn (answerOf r)
 unfolding answerOf
 answer-not r q e = rw e refl
+
+pub done-is : (k : Kept) → k ≡ IsDone → doneOf IsDone ≡ doneOf k
+done-is k e = rw e refl
+
+pub done-not : (k : Kept) (q : Refusal) → k ≡ NotDone q → doneOf (NotDone q) ≡ doneOf k
+done-not k q e = rw e refl
+
+pub gone-is : (w : Went) (p : Pair) (r : PairAnswer) → w ≡ ThePoint p → r ≡ answerIn (answerOf (Resolution p)) → r ≡ goneOf w
+unfolding goneOf answerOf
+gone-is w p r e d = rw e d
+
+pub gone-not : (w : Went) (q : Refusal) (r : PairAnswer) → w ≡ NotGone q → r ≡ answerIn (answerOf (NotFound q)) → r ≡ goneOf w
+unfolding goneOf answerOf
+gone-not w q r e d = rw e d
 
 -- ---- the way back
 -- An answer that is a pair, End, or a refusal whose number is not 0.
@@ -115,3 +142,85 @@ module _ (bs : List ℕ) (from : Point) (x : Told ℕ) (m : Means turned Judges 
       right b at′ (told k) f = tt
       right b start (turned q l) f = absurd f
       right b (at p) (turned q l) f = absurd f
+
+-- ---- a store
+-- No refusal of Set, Go or Drop has number 0.
+abbrev NumberedOf : {A : Type 0} → Told A → Type 0
+NumberedOf (told x) = Unit {0}
+NumberedOf (turned q l) = 0 < q
+
+numbered-on : {A : Type 0} (h : Held) (n : List ℕ) (g : List Entry → Told A) → ((es : List Entry) → NumberedOf (g es)) → NumberedOf (onStore h n g)
+unfolding onStore pick
+numbered-on nothing n g f = omega arith
+numbered-on (holds es) n g f = by (isName n)
+  where
+    by : (t : Bool) → NumberedOf (pick t (g es) (turned 25 0))
+    by true = f es
+    by false = omega arith
+
+numbered-there : {A : Type 0} (m : Maybe) (f : Pair → Told A) (x : Told A) → ((p : Pair) → NumberedOf (f p)) → NumberedOf x → NumberedOf (ifThere m f x)
+unfolding ifThere
+numbered-there (some p) f x h k = h p
+numbered-there none f x h k = k
+
+numbered-pick : {A : Type 0} (t : Bool) (x y : Told A) → NumberedOf x → NumberedOf y → NumberedOf (pick t x y)
+unfolding pick
+numbered-pick true x y h k = h
+numbered-pick false x y h k = k
+
+go-numbered : (h : Held) (n : List ℕ) → NumberedOf (goTold h n)
+unfolding goTold
+go-numbered h n = numbered-on h n _ (λ es. numbered-there (lookup es n) told (turned 25 0) (λ p. tt) (omega arith))
+
+set-numbered : (h : Held) (n : List ℕ) (p : Pair) → NumberedOf (setTold h n p)
+unfolding setTold
+set-numbered h n p =
+    numbered-on h n _ (λ es. numbered-there (lookup es n) (λ q. told (setIn es n p)) (pick (eqb (length es) 32) (turned 26 0) (told (setIn es n p))) (λ q. tt) (numbered-pick (eqb (length es) 32) (turned 26 0) (told (setIn es n p)) (omega arith) tt))
+
+drop-numbered : (h : Held) (n : List ℕ) → NumberedOf (dropTold h n)
+unfolding dropTold
+drop-numbered h n = numbered-on h n _ (λ es. numbered-there (lookup es n) (λ q. told (dropIn es n)) (turned 25 0) (λ q. tt) (omega arith))
+
+gone-back : (t : Told Pair) → NumberedOf t → goneFrom (goneOf (wentIs t)) ≡ t
+unfolding goneFrom goneOf wentIs answerIn pick
+gone-back (told p) n = refl
+gone-back (turned q l) n = rw (ne-eqb q 0 (λ e. omega arith)) refl
+
+done-back : (t : Told (List Entry)) → NumberedOf t → pointFrom (done (doneOf (keptIs t))) ≡ given (λ (es : List Entry). none) t
+unfolding pointFrom doneOf keptIs given pick
+done-back (told es) n = refl
+done-back (turned q l) n = rw (ne-eqb q 0 (λ e. omega arith)) refl
+
+pair-given : (r : PairAnswer) → pointFrom (gone r) ≡ given some (goneFrom r)
+unfolding pointFrom
+pair-given r = refl
+
+-- What is read off the struct of a call is what it answered.
+pub struct-back : (bs : List ℕ) (c : PointCall) → pointFrom (structTo bs c) ≡ answerTo bs c
+unfolding structTo answerTo
+struct-back bs (set n p) = done-back (setTold (storeOf bs) n p) (set-numbered (storeOf bs) n p)
+struct-back bs (go n) = gone-given
+  where
+    gone-given : pointFrom (gone (goneOf (wentIs (goTold (storeOf bs) n)))) ≡ given some (goTold (storeOf bs) n)
+    gone-given = pair-given (goneOf (wentIs (goTold (storeOf bs) n))) ∙ ap (given some) (gone-back (goTold (storeOf bs) n) (go-numbered (storeOf bs) n))
+struct-back bs (drop n) = done-back (dropTold (storeOf bs) n) (drop-numbered (storeOf bs) n)
+
+-- And of a whole list: the answers are the remembered ones.
+pub all-back : (cs : List PointCall) (bs : List ℕ) (rs : List PointStruct) → StoreBack bs cs rs → map pointFrom rs ≡ answersTo bs cs
+unfolding answersTo
+all-back [] bs [] h = refl
+all-back [] bs (r ∷ rs) h = absurd h
+all-back (c ∷ cs) bs [] h = absurd h
+all-back (c ∷ cs) bs (r ∷ rs) h = rw (h .0, struct-back bs c, all-back cs (leftBy bs c) rs (h .1)) refl
+
+-- What Go answers, as a struct, and what is read off it; and what Set and Drop do.
+pub gone-across : (bs n : List ℕ) (w : Went) (r : PairAnswer) → r ≡ goneOf w → w ≡ wentIs (goTold (storeOf bs) n) → OfStore (Goes n) bs n (wentTold w)
+    → (r ≡ goneOf (wentIs (goTold (storeOf bs) n))) × OfStore (Goes n) bs n (goneFrom r)
+gone-across bs n w r e d m =
+    let t = goTold (storeOf bs) n in
+    let f = e ∙ ap goneOf d in
+    (f, rw (f, gone-back t (go-numbered (storeOf bs) n)) (rw (d, told-back t) at m))
+
+pub done-across : (bs n : List ℕ) (right : List Entry → Told (List Entry) → Type 0) (t : Told (List Entry)) (k : Kept) (bs′ : List ℕ) (r : Done) → r ≡ doneOf k → Met bs t k bs′ → Meant keptIs right bs n k bs′
+    → (r ≡ doneOf (keptIs t)) × ((bs′ ≡ leaves bs t) × Meant (λ (x : Told (List Entry)). doneOf (keptIs x)) right bs n r bs′)
+done-across bs n right t k bs′ r e m a = (e ∙ ap doneOf (m .answer), (m .store, record { gives = a .gives; means = a .means; answer = e ∙ ap doneOf (a .answer); store = a .store }))

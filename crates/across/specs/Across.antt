@@ -13,14 +13,21 @@ use Rattle.meaning.specs.Books.{Book}
 use Rattle.meaning.specs.Order.{Point}
 use Rattle.meaning.specs.Listings.{Answer, found, end, refused, Call, handed, moved, answered, OfKind}
 use Rattle.answers.specs.Operations.{Told, told, turned, asks}
+use Rattle.points.specs.declared.Kept.{Kept}
+use Rattle.points.specs.declared.Kept.the-variants.{Done as IsDone, Refused as NotDone}
+use Rattle.points.specs.declared.Went.{Went}
+use Rattle.points.specs.declared.Went.the-variants.{Point as ThePoint, Refused as NotGone}
+use Rattle.points.specs.Stores.{some, none, storeOf, goTold, setTold, dropTold, wentIs, keptIs}
+use Rattle.points.specs.Calls.{PointCall, set, go, drop, PointAnswer, given, leftBy}
 use Rattle.across.specs.declared.BookAnswer.{BookAnswer}
 use Rattle.across.specs.declared.Amount.{Amount}
 use Rattle.across.specs.declared.VerdictAnswer.{VerdictAnswer}
 use Rattle.across.specs.declared.PairAnswer.{PairAnswer}
+use Rattle.across.specs.declared.Done.{Done}
 
--- The version as one number, 100 for each whole version and 1 for each part of one: 2.2.
+-- The version as one number, 100 for each whole version and 1 for each part of one: 2.3.
 abbrev pub versionNumber : ℕ
-versionNumber = 202
+versionNumber = 203
 
 -- The pair beside an answer that has none.
 unfoldable pub noPair : Pair
@@ -65,12 +72,24 @@ answerIn (found p) = record { refusal = 0; found = 1; line = 0; pair = p }
 answerIn end = record { refusal = 0; found = 0; line = 0; pair = noPair }
 answerIn (refused q l) = record { refusal = q; found = 0; line = l; pair = noPair }
 
+-- Of Set and Drop: that it is done. Of Go: found 1 and the pair.
+unfoldable pub doneOf : Kept → Done
+doneOf IsDone = record { refusal = 0; line = 0 }
+doneOf (NotDone q) = record { refusal = q .number; line = q .line }
+
+unfoldable pub goneOf : Went → PairAnswer
+goneOf (ThePoint p) = answerIn (found p)
+goneOf (NotGone q) = answerIn (refused (q .number) (q .line))
+
 -- ---- the way back: what a program in C reads off a struct
 unfoldable pub verdictFrom : VerdictAnswer → Told ℕ
 verdictFrom r = pick (eqb (r .refusal) 0) (told (r .verdict)) (turned (r .refusal) (r .line))
 
 unfoldable pub answerFrom : PairAnswer → Answer
 answerFrom r = pick (eqb (r .refusal) 0) (pick (eqb (r .found) 0) end (found (r .pair))) (refused (r .refusal) (r .line))
+
+unfoldable pub goneFrom : PairAnswer → Told Pair
+goneFrom r = pick (eqb (r .refusal) 0) (told (r .pair)) (turned (r .refusal) (r .line))
 
 -- The structs rs are what a program in C gets for the calls cs of a listing of the book's text bs, made one after the other from the point: each
 -- call is of its kind at the point; its struct is what the contract of First or of After says of it; the next call finds the point as it is read
@@ -85,3 +104,27 @@ HandedBack b bs (c ∷ cs) from (r ∷ rs) = OfKind b 0 c from × (r ≡ answerI
 unfoldable pub pairsFrom : List PairAnswer → List Pair
 pairsFrom [] = []
 pairsFrom (r ∷ rs) = handed (answerFrom r) ++ pairsFrom rs
+
+-- ---- a store
+-- What a program in C gets for a call of Set, Go or Drop: a struct of either kind.
+pub data PointStruct : Type 0 where
+  done : Done → PointStruct
+  gone : PairAnswer → PointStruct
+
+unfoldable pub structTo : List ℕ → PointCall → PointStruct
+structTo bs (set n p) = done (doneOf (keptIs (setTold (storeOf bs) n p)))
+structTo bs (go n) = gone (goneOf (wentIs (goTold (storeOf bs) n)))
+structTo bs (drop n) = done (doneOf (keptIs (dropTold (storeOf bs) n)))
+
+-- What it reads off the struct.
+unfoldable pub pointFrom : PointStruct → PointAnswer
+pointFrom (done r) = pick (eqb (r .refusal) 0) (told none) (turned (r .refusal) (r .line))
+pointFrom (gone r) = given some (goneFrom r)
+
+-- The structs rs are what a program in C gets for the calls cs on the store bs, made one after the other: each is what the contract of its function
+-- says, and the next call finds the bytes that the one before has left.
+abbrev pub StoreBack : List ℕ → List PointCall → List PointStruct → Type 0
+StoreBack bs [] [] = Unit {0}
+StoreBack bs [] (r ∷ rs) = ⊥
+StoreBack bs (c ∷ cs) [] = ⊥
+StoreBack bs (c ∷ cs) (r ∷ rs) = (r ≡ structTo bs c) × StoreBack (leftBy bs c) cs rs

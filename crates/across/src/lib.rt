@@ -2,10 +2,12 @@
 // else in it is 0 where it was refused.
 ghost use mathlib.Core.Path.{_≡_};
 ghost use Rattle.answers.specs.Operations.{answerOf, verdictOf, countOf, lengthOf};
-ghost use Rattle.across.specs.Across.{bookIn, amountIn, verdictIn, answerIn};
+ghost use Rattle.across.specs.Across.{bookIn, amountIn, verdictIn, answerIn, doneOf, goneOf};
 use answers::Found;
 use answers::Judged;
 use answers::Paged;
+use points::Kept;
+use points::Went;
 use sets::Pair;
 use text::Reading;
 use text::Writing;
@@ -46,6 +48,13 @@ pub struct PairAnswer {
     pub found: u32,
     pub line: u64,
     pub pair: Pair,
+}
+
+// What Set and Drop answer: done, or the refusal.
+#[repr(C)]
+pub struct Done {
+    pub refusal: u32,
+    pub line: u64,
 }
 
 // What stands in the place of counts to come.
@@ -159,5 +168,30 @@ pub fn pair_in(f: Found) -> PairAnswer
                 denied: 0,
             },
         },
+    }
+}
+
+pub fn done_in(k: Kept) -> Done
+    ensures { λ a. ⌜ a ≡ doneOf k ⌝ }
+{
+    match k {
+        Kept::Done => Done {
+            refusal: 0,
+            line: 0,
+        },
+        Kept::Refused(q) => Done {
+            refusal: q.number,
+            line: q.line as u64,
+        },
+    }
+}
+
+// Go's pair is found; a name that is not there is refused, so that there is no End.
+pub fn gone_in(w: Went) -> PairAnswer
+    ensures { λ a. ⌜ a ≡ goneOf w ⌝ }
+{
+    match w {
+        Went::Point(p) => pair_in(Found::Resolution(p)),
+        Went::Refused(q) => pair_in(Found::Refused(q)),
     }
 }

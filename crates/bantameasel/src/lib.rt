@@ -9,16 +9,20 @@ ghost use Rattle.sets.specs.Pairs.{flat};
 ghost use Rattle.meaning.specs.Order.{start, at};
 ghost use Rattle.meaning.specs.Listings.{refused, FirstLater};
 ghost use Rattle.answers.specs.Means.{Means, Judges};
-ghost use Rattle.answers.specs.Operations.{turned, answerOf, verdictOf, countOf, lengthOf, counted, left, firstAnswer, afterAnswer, judgeAnswer, lineAnswer, firstPage, pageAfter};
-ghost use Rattle.across.specs.Across.{bookIn, amountIn, verdictIn, answerIn, verdictFrom, answerFrom, versionNumber};
+ghost use Rattle.answers.specs.Operations.{Told, turned, answerOf, verdictOf, countOf, lengthOf, counted, left, firstAnswer, afterAnswer, judgeAnswer, lineAnswer, firstPage, pageAfter};
+ghost use Rattle.points.specs.Points.{Entry, OfStore, Goes, Sets, Drops, leaves};
+ghost use Rattle.points.specs.Stores.{storeOf, goTold, setTold, dropTold, wentIs, keptIs, Meant};
+ghost use Rattle.across.specs.Across.{bookIn, amountIn, verdictIn, answerIn, doneOf, goneOf, verdictFrom, answerFrom, goneFrom, versionNumber};
 use across::Amount;
 use across::BookAnswer;
+use across::Done;
 use across::PairAnswer;
 use across::VerdictAnswer;
+use entry::Name;
 use sets::Pair;
 
-// The version as one number, 100 for each whole version and 1 for each part of one: 2.2. include/bantameasel.h and people.mk have it too.
-const VERSION: u32 = 202;
+// The version as one number, 100 for each whole version and 1 for each part of one: 2.3. include/bantameasel.h and people.mk have it too.
+const VERSION: u32 = 203;
 
 // The version of this library.
 #[no_mangle]
@@ -98,4 +102,33 @@ pub extern "C" fn bantameasel_page_after(text: &[u8], p: Pair, pairs: &mut [u64]
     ensures { λ r. ⌜ now (pairs .exit) ≡ left flat (now (pairs .entry)) (pageAfter (now (text .entry)) p (length (now (pairs .entry)))) ⌝ }
 {
     across::count_in(operations::page_after(text, p, pairs))
+}
+
+// Set: a pair under a name in a store of stopping points.
+#[no_mangle]
+pub extern "C" fn bantameasel_set(store: &mut [u8], name: Name, p: Pair) -> Done
+    ensures { λ r. ⌜ r ≡ doneOf (keptIs (setTold (storeOf (now (store .entry))) (name .bytes) p)) ⌝ }
+    ensures { λ r. ⌜ now (store .exit) ≡ leaves (now (store .entry)) (setTold (storeOf (now (store .entry))) (name .bytes) p) ⌝ }
+    ensures { λ r. ⌜ Meant (λ (t : Told (List Entry)). doneOf (keptIs t)) (Sets (name .bytes) p) (now (store .entry)) (name .bytes) r (now (store .exit)) ⌝ }
+{
+    across::done_in(points::set_point(store, name, p))
+}
+
+// Go: the pair under a name.
+#[no_mangle]
+pub extern "C" fn bantameasel_go(store: &[u8], name: Name) -> PairAnswer
+    ensures { λ r. ⌜ r ≡ goneOf (wentIs (goTold (storeOf (now (store .entry))) (name .bytes))) ⌝ }
+    ensures { λ r. ⌜ OfStore (Goes (name .bytes)) (now (store .entry)) (name .bytes) (goneFrom r) ⌝ }
+{
+    across::gone_in(points::go_to(store, name))
+}
+
+// Drop: a name and its pair taken out.
+#[no_mangle]
+pub extern "C" fn bantameasel_drop(store: &mut [u8], name: Name) -> Done
+    ensures { λ r. ⌜ r ≡ doneOf (keptIs (dropTold (storeOf (now (store .entry))) (name .bytes))) ⌝ }
+    ensures { λ r. ⌜ now (store .exit) ≡ leaves (now (store .entry)) (dropTold (storeOf (now (store .entry))) (name .bytes)) ⌝ }
+    ensures { λ r. ⌜ Meant (λ (t : Told (List Entry)). doneOf (keptIs t)) (Drops (name .bytes)) (now (store .entry)) (name .bytes) r (now (store .exit)) ⌝ }
+{
+    across::done_in(points::drop_point(store, name))
 }

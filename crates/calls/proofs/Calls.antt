@@ -68,12 +68,12 @@ row-length (found p) = refl
 row-length end = refl
 row-length (refused k line) = refl
 
-rows-length : (ys : List Answer) → length (rows ys) ≡ length ys * 4
+pub rows-length : (ys : List Answer) → length (rows ys) ≡ length ys * 4
 unfolding rows
 rows-length [] = refl
 rows-length (y ∷ ys) = omega (arith, length-append (row y) (rows ys), row-length y, rows-length ys)
 
-rows-append : (xs ys : List Answer) → rows (xs ++ ys) ≡ rows xs ++ rows ys
+pub rows-append : (xs ys : List Answer) → rows (xs ++ ys) ≡ rows xs ++ rows ys
 unfolding rows
 rows-append [] ys = refl
 rows-append (x ∷ xs) ys = rw (rows-append xs ys) (sym (append-assoc (row x) (rows xs) (rows ys)))

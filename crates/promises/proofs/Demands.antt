@@ -2,6 +2,7 @@
 -- its full answer and what it leaves in each lent slice, and that it ends: `F.statement`, proved as `F.met`. Beside the contracts stand laws about
 -- the definitions that they name, so that a reader need believe no more than those of the documents.
 use mathlib.Core.Path.{_≡_, refl}
+use mathlib.Core.Bool.{true}
 use mathlib.Core.List.{List, [], _∷_}
 use mathlib.Core.Logic.{_↔_}
 use Prim.Native.Nat.{ℕ, suc, _/_}
@@ -53,6 +54,18 @@ use Rattle.operations.proofs.page_after.Met as page-after-met
 use Rattle.calls.proofs.Demand3 as engine
 use Rattle.listing.proofs.Whole as ways
 use Rattle.bantameasel.proofs.Demand3 as across
+use Rattle.entry.specs.Names.{Spelt, Precedes, isName, before}
+use Rattle.entry.specs.Bytes.{AreBytes}
+use Rattle.entry.proofs.Spelling.{name-iff, before-iff}
+use Rattle.points.specs.Points.{Entry, Fits, Store, OfStore, Goes, Sets, Drops, leaves}
+use Rattle.points.specs.Stores.{holds, storeOf, some, goTold, setTold, dropTold}
+use Rattle.points.specs.Calls.{PointCall, Note, lastSet, answersTo, rememberedAll, notesAfter, leftByAll, Sized, LeftBy}
+use Rattle.points.proofs.Means.{store-iff, go-means, set-means, drop-means}
+use Rattle.points.proofs.Memory.{all-remembered, last-set}
+use Rattle.visits.specs.GoingOn.{goOnAnswer}
+use Rattle.visits.proofs.Gone.{goes-on}
+use Rattle.visits.proofs.Claim as points
+use Rattle.bantameasel.proofs.Points as points-c
 use Rattle.bantameasel.proofs.bantameasel_version.Statement as version-c
 use Rattle.bantameasel.proofs.bantameasel_version.Met as version-c-met
 use Rattle.bantameasel.proofs.bantameasel_read.Statement as read-c
@@ -83,6 +96,7 @@ pub record Contracts (M : Type 1) : Type 2 where
   pub line-meets : line.statement M
   pub line-part-meets : line-part.statement M
   pub ways-meets : ways.Claim M
+  pub points-meets : points.Claim M
   pub version-c-meets : version-c.statement M
   pub read-c-meets : read-c.statement M
   pub write-c-meets : write-c.statement M
@@ -91,6 +105,7 @@ pub record Contracts (M : Type 1) : Type 2 where
   pub first-page-c-meets : first-page-c.statement M
   pub page-after-c-meets : page-after-c.statement M
   pub line-c-meets : line-c.statement M
+  pub points-c-meets : points-c.Claim M
 
 -- Demand 1. Every operation ends on every input, turns down what is faulty by the number and line of the documents, and then leaves every lent
 -- buffer untouched: the contracts, in whose definitions a refused Read, Write, Line or page leaves the slice that it was lent. A text is never
@@ -134,14 +149,32 @@ pub record DemandThree : Type 0 where
   pub page-after-calls : (bs : List ℕ) (s : Shape) (ws : List ℤ) → readText bs ≡ accepted s ws → (p : Pair) → Lawful (bookOf s ws) p → (m : ℕ)
       → pageAfter bs p m ≡ told (listing (asks bs) (replicate (m / 3) (goOn 0)) (at p))
 
+-- Request (h), named stopping points. A store is what the request says, and Set, Go and Drop answer and leave what it says, on every input, refused
+-- calls leaving every byte. After any list of these calls from an empty store each answer is the one that is remembered of the calls: Go gives the
+-- pair last set under that name and not dropped since (`remembers`; as the contract of the function that makes the calls: `points.Claim`; for C:
+-- `points-c.Claim`). Going on from a name is After with that pair, so that all of demand 3 holds of what follows it (`list_on` in `points.Claim`).
+pub record PointsKept : Type 0 where
+  pub spelling : (n : List ℕ) → (isName n ≡ true) ↔ Spelt n
+  pub order : (a b : List ℕ) → length a ≡ length b → (before a b ≡ true) ↔ Precedes a b
+  pub stores : (bs : List ℕ) (es : List Entry) → AreBytes bs → (storeOf bs ≡ holds es) ↔ Store bs es
+  pub go-right : (bs n : List ℕ) → AreBytes bs → (x : Told Pair) → (x ≡ goTold (storeOf bs) n) ↔ OfStore (Goes n) bs n x
+  pub set-right : (bs n : List ℕ) (p : Pair) → AreBytes bs → Fits p → (x : Told (List Entry)) → (x ≡ setTold (storeOf bs) n p) ↔ OfStore (Sets n p) bs n x
+  pub drop-right : (bs n : List ℕ) → AreBytes bs → (x : Told (List Entry)) → (x ≡ dropTold (storeOf bs) n) ↔ OfStore (Drops n) bs n x
+  pub refused-untouched : (bs : List ℕ) (q line : ℕ) → leaves bs (turned q line) ≡ bs
+  pub remembers : (cs : List PointCall) (h : List Note) (bs : List ℕ) → LeftBy h bs → Every Sized cs
+      → (answersTo bs cs ≡ rememberedAll h cs) × LeftBy (notesAfter h cs) (leftByAll bs cs)
+  pub last-set : (h : List Note) (bs n : List ℕ) (p : Pair) → LeftBy h bs → lastSet n h ≡ some p → goTold (storeOf bs) n ≡ told p
+  pub goes-on : (h : List Note) (text store n : List ℕ) (p : Pair) → LeftBy h store → lastSet n h ≡ some p → Means refused FirstLater text (at p) (goOnAnswer text store n)
+
 pub record Demands (M : Type 1) : Type 2 where
   pub contracts : Contracts M
   pub one : DemandOne
   pub two : DemandTwo
   pub three : DemandThree
+  pub points-kept : PointsKept
 
 pub demands : {M : Type 1} → Demands M
-unfolding readInto writeInto left asks
+unfolding readInto writeInto left leaves asks
 demands = record {
   contracts = record {
     read-meets = read-met.met;
@@ -153,6 +186,7 @@ demands = record {
     line-meets = line-met.met;
     line-part-meets = line-part-met.met;
     ways-meets = ways.claim;
+    points-meets = points.claim;
     version-c-meets = version-c-met.met;
     read-c-meets = read-c-met.met;
     write-c-meets = write-c-met.met;
@@ -161,6 +195,7 @@ demands = record {
     first-page-c-meets = first-page-c-met.met;
     page-after-c-meets = page-after-c-met.met;
     line-c-meets = line-c-met.met;
+    points-c-meets = points-c.claim;
   };
   one = record {
     read-untouched = λ l q at′. refl;
@@ -189,5 +224,17 @@ demands = record {
     page-after-right = page-after-means;
     first-page-calls = first-page-handed;
     page-after-calls = page-after-handed;
+  };
+  points-kept = record {
+    spelling = name-iff;
+    order = before-iff;
+    stores = store-iff;
+    go-right = go-means;
+    set-right = set-means;
+    drop-right = drop-means;
+    refused-untouched = λ bs q line. refl;
+    remembers = all-remembered;
+    last-set = last-set;
+    goes-on = goes-on;
   };
 }

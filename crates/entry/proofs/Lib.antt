@@ -1,0 +1,4 @@
+pub mod Leaves
+pub mod Numbers
+pub mod Orders
+pub mod Spelling

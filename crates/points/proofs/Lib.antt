@@ -1,0 +1,11 @@
+pub mod Scans
+pub mod Moves
+pub mod Stored
+pub mod Places
+pub mod Answers
+pub mod Maps
+pub mod Packed
+pub mod Left
+pub mod Means
+pub mod Memory
+pub mod Examples
