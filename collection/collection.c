@@ -340,7 +340,7 @@ static bool shown_last(const book *b, const char *point_name, pair *p, uint64_t 
         return false;
     }
     if (!last.begun) {
-        return fail(b->name, "no resolution was shown yet; show some by next, or give the place of the one to name");
+        return fail(b->name, "the listing stands at its start; show some by next, or give the place of the one to name");
     }
     *p = last.at;
     if (!verdict_on(b, *p, &verdict)) {

@@ -128,7 +128,7 @@ static void explain_entry(const store *s, size_t k)
 {
     const uint8_t *entry = s->bytes + ENTRY * k;
     if (entry[0] == 0) {
-        fputs("    Behind its last name stand bytes other than 0.\n", stderr);
+        fputs("    Bytes other than 0 stand where its names have ended.\n", stderr);
     } else if (!spelt_entry(entry)) {
         fprintf(stderr, "    Its name number %zu is misspelt.\n", k + 1);
     } else {

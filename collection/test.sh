@@ -581,7 +581,7 @@ echo "refused names that are misspelt"
 rm -f "$work/names"
 printf 'start\n' >"$work/point"
 run 1 -s "$work/names" -p "$work/point" "$work/gown.book" name a
-said 'no resolution was shown yet'
+said 'the listing stands at its start'
 printf '1 0 0\n' >"$work/point"
 run 1 -s "$work/names" -p "$work/point" "$work/gown.book" name a
 said 'the point is no resolution of the book'
@@ -701,9 +701,9 @@ no_store 'Its names do not ascend: number 2 does not come after number 1.'
 { entry A 1 5 0; entry C 1 5 0; entry B 2 2 0; } | filled >"$work/names"
 no_store 'Its names do not ascend: number 3 does not come after number 2.'
 { head -c 32 /dev/zero; entry B 2 2 0; } | filled >"$work/names"
-no_store 'Behind its last name stand bytes other than 0.'
+no_store 'Bytes other than 0 stand where its names have ended.'
 { entry A 1 5 0; head -c 991 /dev/zero; printf x; } >"$work/names"
-no_store 'Behind its last name stand bytes other than 0.'
+no_store 'Bytes other than 0 stand where its names have ended.'
 k=0
 while [ "$k" -lt 31 ]; do
     entry "$(printf 'X%d' $((k + 10)))" 1 5 0

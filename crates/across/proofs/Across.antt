@@ -1,6 +1,7 @@
 -- Each case of an answer, as C has it; and the way back, which loses nothing, since no refusal has number 0.
 use mathlib.Core.Path.{_≡_, refl, ap, _∙_}
 use mathlib.Core.Bool.{Bool, true, false}
+use mathlib.Core.Option.{Option, some, none}
 use mathlib.Core.List.{List, [], _∷_, map}
 use Prim.Native.Nat.{ℕ, _<_}
 use native.Mathlib.Omega.{arith}
@@ -33,8 +34,8 @@ use Rattle.points.specs.declared.Kept.the-variants.{Done as IsDone, Refused as 
 use Rattle.points.specs.declared.Went.{Went}
 use Rattle.points.specs.declared.Went.the-variants.{Point as ThePoint, Refused as NotGone}
 use Rattle.points.specs.Points.{Entry, OfStore, Goes, leaves}
-use Rattle.points.specs.Stores.{Held, holds, nothing, Maybe, some, none, storeOf, lookup, setIn, dropIn, ifThere, onStore, goTold, setTold, dropTold, wentIs, wentTold, keptIs, Met, Meant}
-use Rattle.points.specs.Calls.{PointCall, set, go, drop, given, answerTo, leftBy, answersTo}
+use Rattle.points.specs.Stores.{Contents, holds, nothing, storeOf, lookup, setIn, dropIn, ifThere, onStore, goTold, setTold, dropTold, wentIs, wentTold, keptIs, Met, Meant}
+use Rattle.points.specs.Calls.{PointCall, setPoint, goTo, dropPoint, given, pointAnswer, leftBy, pointAnswers}
 use Rattle.points.proofs.Means.{told-back}
 use Rattle.across.specs.declared.Done.{Done}
 use Rattle.across.specs.declared.PairAnswer.{PairAnswer}
@@ -149,7 +150,7 @@ abbrev NumberedOf : {A : Type 0} → Told A → Type 0
 NumberedOf (told x) = Unit {0}
 NumberedOf (turned q l) = 0 < q
 
-numbered-on : {A : Type 0} (h : Held) (n : List ℕ) (g : List Entry → Told A) → ((es : List Entry) → NumberedOf (g es)) → NumberedOf (onStore h n g)
+numbered-on : {A : Type 0} (h : Contents) (n : List ℕ) (g : List Entry → Told A) → ((es : List Entry) → NumberedOf (g es)) → NumberedOf (onStore h n g)
 unfolding onStore pick
 numbered-on nothing n g f = omega arith
 numbered-on (holds es) n g f = by (isName n)
@@ -158,7 +159,7 @@ numbered-on (holds es) n g f = by (isName n)
     by true = f es
     by false = omega arith
 
-numbered-there : {A : Type 0} (m : Maybe) (f : Pair → Told A) (x : Told A) → ((p : Pair) → NumberedOf (f p)) → NumberedOf x → NumberedOf (ifThere m f x)
+numbered-there : {A : Type 0} (m : Option Pair) (f : Pair → Told A) (x : Told A) → ((p : Pair) → NumberedOf (f p)) → NumberedOf x → NumberedOf (ifThere m f x)
 unfolding ifThere
 numbered-there (some p) f x h k = h p
 numbered-there none f x h k = k
@@ -168,16 +169,16 @@ unfolding pick
 numbered-pick true x y h k = h
 numbered-pick false x y h k = k
 
-go-numbered : (h : Held) (n : List ℕ) → NumberedOf (goTold h n)
+go-numbered : (h : Contents) (n : List ℕ) → NumberedOf (goTold h n)
 unfolding goTold
 go-numbered h n = numbered-on h n _ (λ es. numbered-there (lookup es n) told (turned 25 0) (λ p. tt) (omega arith))
 
-set-numbered : (h : Held) (n : List ℕ) (p : Pair) → NumberedOf (setTold h n p)
+set-numbered : (h : Contents) (n : List ℕ) (p : Pair) → NumberedOf (setTold h n p)
 unfolding setTold
 set-numbered h n p =
     numbered-on h n _ (λ es. numbered-there (lookup es n) (λ q. told (setIn es n p)) (pick (eqb (length es) 32) (turned 26 0) (told (setIn es n p))) (λ q. tt) (numbered-pick (eqb (length es) 32) (turned 26 0) (told (setIn es n p)) (omega arith) tt))
 
-drop-numbered : (h : Held) (n : List ℕ) → NumberedOf (dropTold h n)
+drop-numbered : (h : Contents) (n : List ℕ) → NumberedOf (dropTold h n)
 unfolding dropTold
 drop-numbered h n = numbered-on h n _ (λ es. numbered-there (lookup es n) (λ q. told (dropIn es n)) (turned 25 0) (λ q. tt) (omega arith))
 
@@ -196,18 +197,18 @@ unfolding pointFrom
 pair-given r = refl
 
 -- What is read off the struct of a call is what it answered.
-pub struct-back : (bs : List ℕ) (c : PointCall) → pointFrom (structTo bs c) ≡ answerTo bs c
-unfolding structTo answerTo
-struct-back bs (set n p) = done-back (setTold (storeOf bs) n p) (set-numbered (storeOf bs) n p)
-struct-back bs (go n) = gone-given
+pub struct-back : (bs : List ℕ) (c : PointCall) → pointFrom (structTo bs c) ≡ pointAnswer bs c
+unfolding structTo pointAnswer
+struct-back bs (setPoint n p) = done-back (setTold (storeOf bs) n p) (set-numbered (storeOf bs) n p)
+struct-back bs (goTo n) = gone-given
   where
     gone-given : pointFrom (gone (goneOf (wentIs (goTold (storeOf bs) n)))) ≡ given some (goTold (storeOf bs) n)
     gone-given = pair-given (goneOf (wentIs (goTold (storeOf bs) n))) ∙ ap (given some) (gone-back (goTold (storeOf bs) n) (go-numbered (storeOf bs) n))
-struct-back bs (drop n) = done-back (dropTold (storeOf bs) n) (drop-numbered (storeOf bs) n)
+struct-back bs (dropPoint n) = done-back (dropTold (storeOf bs) n) (drop-numbered (storeOf bs) n)
 
--- And of a whole list: the answers are the remembered ones.
-pub all-back : (cs : List PointCall) (bs : List ℕ) (rs : List PointStruct) → StoreBack bs cs rs → map pointFrom rs ≡ answersTo bs cs
-unfolding answersTo
+-- And of a whole list of calls.
+pub all-back : (cs : List PointCall) (bs : List ℕ) (rs : List PointStruct) → StoreBack bs cs rs → map pointFrom rs ≡ pointAnswers bs cs
+unfolding pointAnswers
 all-back [] bs [] h = refl
 all-back [] bs (r ∷ rs) h = absurd h
 all-back (c ∷ cs) bs [] h = absurd h
@@ -224,3 +225,8 @@ gone-across bs n w r e d m =
 pub done-across : (bs n : List ℕ) (right : List Entry → Told (List Entry) → Type 0) (t : Told (List Entry)) (k : Kept) (bs′ : List ℕ) (r : Done) → r ≡ doneOf k → Met bs t k bs′ → Meant keptIs right bs n k bs′
     → (r ≡ doneOf (keptIs t)) × ((bs′ ≡ leaves bs t) × Meant (λ (x : Told (List Entry)). doneOf (keptIs x)) right bs n r bs′)
 done-across bs n right t k bs′ r e m a = (e ∙ ap doneOf (m .answer), (m .store, record { gives = a .gives; means = a .means; answer = e ∙ ap doneOf (a .answer); store = a .store }))
+
+-- A pair that Go gives is read off the struct as First's and After's are.
+pub gone-found : (t : Told Pair) (p : Pair) → t ≡ told p → answerFrom (goneOf (wentIs t)) ≡ found p
+unfolding answerFrom goneOf wentIs answerIn pick
+gone-found t p e = rw e refl

@@ -2,6 +2,7 @@
 -- it was refused.
 use Prim.Native.Nat.{ℕ}
 use mathlib.Core.Path.{_≡_}
+use mathlib.Core.Option.{some, none}
 use mathlib.Core.List.{List, [], _∷_, _++_}
 use lib.Dec.{eqb}
 use lib.ListN.{replicate}
@@ -17,8 +18,8 @@ use Rattle.points.specs.declared.Kept.{Kept}
 use Rattle.points.specs.declared.Kept.the-variants.{Done as IsDone, Refused as NotDone}
 use Rattle.points.specs.declared.Went.{Went}
 use Rattle.points.specs.declared.Went.the-variants.{Point as ThePoint, Refused as NotGone}
-use Rattle.points.specs.Stores.{some, none, storeOf, goTold, setTold, dropTold, wentIs, keptIs}
-use Rattle.points.specs.Calls.{PointCall, set, go, drop, PointAnswer, given, leftBy}
+use Rattle.points.specs.Stores.{storeOf, goTold, setTold, dropTold, wentIs, keptIs}
+use Rattle.points.specs.Calls.{PointCall, setPoint, goTo, dropPoint, PointAnswer, given, leftBy}
 use Rattle.across.specs.declared.BookAnswer.{BookAnswer}
 use Rattle.across.specs.declared.Amount.{Amount}
 use Rattle.across.specs.declared.VerdictAnswer.{VerdictAnswer}
@@ -111,10 +112,11 @@ pub data PointStruct : Type 0 where
   done : Done → PointStruct
   gone : PairAnswer → PointStruct
 
+-- The struct of each call on the bytes of a store, by the contracts of the three functions.
 unfoldable pub structTo : List ℕ → PointCall → PointStruct
-structTo bs (set n p) = done (doneOf (keptIs (setTold (storeOf bs) n p)))
-structTo bs (go n) = gone (goneOf (wentIs (goTold (storeOf bs) n)))
-structTo bs (drop n) = done (doneOf (keptIs (dropTold (storeOf bs) n)))
+structTo bs (setPoint n p) = done (doneOf (keptIs (setTold (storeOf bs) n p)))
+structTo bs (goTo n) = gone (goneOf (wentIs (goTold (storeOf bs) n)))
+structTo bs (dropPoint n) = done (doneOf (keptIs (dropTold (storeOf bs) n)))
 
 -- What it reads off the struct.
 unfoldable pub pointFrom : PointStruct → PointAnswer

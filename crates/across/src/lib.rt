@@ -171,6 +171,7 @@ pub fn pair_in(f: Found) -> PairAnswer
     }
 }
 
+// What Set and Drop answer, for C.
 pub fn done_in(k: Kept) -> Done
     ensures { λ a. ⌜ a ≡ doneOf k ⌝ }
 {

@@ -1,8 +1,8 @@
 -- What each return and loop turn of the functions on names and bytes is by the definitions.
-use mathlib.Core.Path.{_≡_, refl, sym, ap, _∙_}
+use mathlib.Core.Path.{_≡_, refl}
 use mathlib.Core.Bool.{Bool, true, false}
-use mathlib.Core.List.{List, [], _∷_, _++_}
-use Prim.Native.Nat.{ℕ, zero, suc, _+_, _-_, _*_, _/_, _%_, _<_, _≤_}
+use mathlib.Core.List.{List, [], _∷_}
+use Prim.Native.Nat.{ℕ, suc, _+_, _-_, _*_, _/_, _%_, _<_, _≤_}
 use native.Mathlib.Nat.{add-zero}
 use native.Mathlib.Omega.{arith}
 use lib.ListN.{length, getD, take, drop, set, drop-of-length-le}
@@ -10,12 +10,9 @@ use lib.Dec.{leb}
 use lib.Seq.{sets, drop-cons}
 use borrow.Author.Tests.{eq-eqb, ne-eqb, lt-ltb, le-ltb, le-leb, lt-leb}
 use Rattle.logic.specs.Tests.{both, either, pick}
-use Rattle.logic.proofs.Stores.{sets-append}
-use Rattle.sets.specs.declared.Pair.{Pair}
-use Rattle.entry.specs.declared.Order.{Order}
 use Rattle.entry.specs.declared.Order.the-variants.{Less, Same, More}
-use Rattle.entry.specs.Names.{letter, follows, chain, spelt, compareTo}
-use Rattle.entry.specs.Bytes.{wordOf, digits, pairBytes, pairOf, zeros}
+use Rattle.entry.specs.Names.{letter, follows, chain, nameSpelt, compareTo}
+use Rattle.entry.specs.Bytes.{wordOf, digits, zeros}
 
 -- ---- letters
 module _ (b : ℕ) where
@@ -63,25 +60,25 @@ part-first s at g =
 -- ---- names
 module _ (s : List ℕ) (at : ℕ) where
   unfoldable pub Chained : ℕ → Type 0
-  Chained i = chain (getD s (at + i - 1) 0) (take (8 - i) (drop (at + i) s)) ≡ spelt (take 8 (drop at s))
+  Chained i = chain (getD s (at + i - 1) 0) (take (8 - i) (drop (at + i) s)) ≡ nameSpelt (take 8 (drop at s))
 
-  pub name-none : (t : Bool) → at + 8 ≤ length s → t ≡ letter (getD s at 0) → t ≡ false → false ≡ spelt (take 8 (drop at s))
-  unfolding spelt both
+  pub name-none : (t : Bool) → at + 8 ≤ length s → t ≡ letter (getD s at 0) → t ≡ false → false ≡ nameSpelt (take 8 (drop at s))
+  unfolding nameSpelt both
   name-none t g e o = rw (part-first s at g, ← e, o)
 
   pub chain-start : (t : Bool) → at + 8 ≤ length s → t ≡ letter (getD s at 0) → t ≡ true → Chained 1
-  unfolding Chained spelt both
+  unfolding Chained nameSpelt both
   chain-start t g e y = let z : at + 1 - 1 ≡ at = omega arith in rw (z, part-first s at g, ← e, y)
 
   pub chain-next : (i : ℕ) (t : Bool) → i < 8 → at + 8 ≤ length s → t ≡ follows (getD s (at + i - 1) 0) (getD s (at + i) 0) → t ≡ true → Chained i → Chained (i + 1)
   unfolding Chained chain both
   chain-next i t h g e y inv = let z : at + (i + 1) - 1 ≡ at + i = omega arith in rw z (rw (part-next s at 8 i h g, ← e, y) at inv)
 
-  pub chain-none : (i : ℕ) (t : Bool) → i < 8 → at + 8 ≤ length s → t ≡ follows (getD s (at + i - 1) 0) (getD s (at + i) 0) → t ≡ false → Chained i → false ≡ spelt (take 8 (drop at s))
+  pub chain-none : (i : ℕ) (t : Bool) → i < 8 → at + 8 ≤ length s → t ≡ follows (getD s (at + i - 1) 0) (getD s (at + i) 0) → t ≡ false → Chained i → false ≡ nameSpelt (take 8 (drop at s))
   unfolding Chained chain both
   chain-none i t h g e o inv = rw (part-next s at 8 i h g, ← e, o) at inv
 
-  pub chain-end : (i : ℕ) → 8 ≤ i → Chained i → true ≡ spelt (take 8 (drop at s))
+  pub chain-end : (i : ℕ) → 8 ≤ i → Chained i → true ≡ nameSpelt (take 8 (drop at s))
   unfolding Chained chain
   chain-end i h inv = let z : 8 - i ≡ 0 = omega arith in rw z at inv
 

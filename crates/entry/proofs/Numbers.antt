@@ -1,9 +1,9 @@
 -- Numbers and pairs as bytes: written and read again, read and written again, and put in a slice.
-use mathlib.Core.Path.{_≡_, refl, sym, ap, _∙_}
+use mathlib.Core.Path.{_≡_, refl, sym, ap}
 use mathlib.Core.List.{List, [], _∷_, _++_}
 use Prim.Native.Nat.{ℕ, zero, suc, _+_, _*_, _/_, _%_, _<_, _≤_, _^_}
 use native.Mathlib.Omega.{arith}
-use lib.ListN.{length, getD, take, drop}
+use lib.ListN.{length, take, drop}
 use lib.Seq.{sets, length-take-le, drop-drop, getD-drop}
 use Rattle.logic.proofs.Stores.{sets-append}
 use Rattle.sets.specs.declared.Pair.{Pair}

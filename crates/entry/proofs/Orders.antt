@@ -2,8 +2,8 @@
 use mathlib.Core.Path.{_≡_, refl, sym, ap, _∙_}
 use mathlib.Core.Bool.{Bool, true, false}
 use mathlib.Core.List.{List, [], _∷_}
-use mathlib.Core.Logic.{_⊎_, inl, inr, ⊎-elim}
-use Prim.Native.Nat.{ℕ, _<_, _≤_}
+use mathlib.Core.Logic.{_↔_, _⊎_, inl, inr, ⊎-elim}
+use Prim.Native.Nat.{ℕ, _<_}
 use native.Mathlib.Omega.{arith}
 use lib.Dec.{ltb}
 use borrow.Author.Tests.{lt-ltb, le-ltb, ltb-true, ltb-false}
@@ -11,7 +11,7 @@ use Rattle.logic.specs.Tests.{pick}
 use Rattle.logic.proofs.Decide.{clash}
 use Rattle.entry.specs.declared.Order.{Order}
 use Rattle.entry.specs.declared.Order.the-variants.{Less, Same, More}
-use Rattle.entry.specs.Names.{compareTo, isLess, isSame, before, same}
+use Rattle.entry.specs.Names.{compareTo, isLess, isSame, before, sameName}
 
 pub less-same : Less ≡ Same → ⊥
 unfolding isSame
@@ -127,11 +127,16 @@ pub less-before : (a b : List ℕ) → compareTo a b ≡ Less → before a b ≡
 unfolding before isLess
 less-before a b e = rw e
 
-pub same-true : (a b : List ℕ) → same a b ≡ true → a ≡ b
-unfolding same isSame
+pub same-true : (a b : List ℕ) → sameName a b ≡ true → a ≡ b
+unfolding sameName isSame
 same-true a b e = go (compareTo a b) refl e
   where
     go : (o : Order) → compareTo a b ≡ o → isSame o ≡ true → a ≡ b
     go Less d f = absurd (clash f)
     go Same d f = same-eq a b d
     go More d f = absurd (clash f)
+
+-- The test of names finds equal names and no others.
+pub same-iff : (a b : List ℕ) → (sameName a b ≡ true) ↔ (a ≡ b)
+unfolding sameName isSame
+same-iff a b = (same-true a b, λ e. rw (e, same-self b))

@@ -1,11 +1,11 @@
 -- The tests of names are the request's words: `name-iff` of the spelling, `before-iff` of the order.
-use mathlib.Core.Path.{_≡_, refl, sym, ap, _∙_}
+use mathlib.Core.Path.{_≡_, refl, ap, _∙_}
 use mathlib.Core.Bool.{Bool, true, false}
 use mathlib.Core.List.{List, [], _∷_, _++_}
 use mathlib.Core.Logic.{_⊎_, inl, inr, ⊎-elim, _↔_}
 use Prim.Native.Nat.{ℕ, zero, suc, _+_, _<_, _≤_}
 use native.Mathlib.Omega.{arith}
-use lib.Dec.{eqb, ltb, leb}
+use lib.Dec.{eqb, leb}
 use lib.ListN.{length, getD, replicate}
 use borrow.Author.Tests.{eq-eqb, eqb-true, le-leb, leb-true}
 use Rattle.logic.specs.Lists.{Every}
@@ -13,8 +13,8 @@ use Rattle.logic.specs.Tests.{both, either}
 use Rattle.logic.proofs.Decide.{clash}
 use Rattle.logic.proofs.Tests.{both-left, both-right, either-true}
 use Rattle.entry.specs.declared.Order.the-variants.{Less}
-use Rattle.entry.specs.Names.{Letter, Spelt, Precedes, letter, follows, chain, spelt, isName, compareTo, before}
-use Rattle.entry.proofs.Orders.{cons-less, before-less, less-before, less-cons, eq-cons, same-less, more-less}
+use Rattle.entry.specs.Names.{Letter, Spelt, Precedes, letter, follows, chain, nameSpelt, isName, compareTo, before}
+use Rattle.entry.proofs.Orders.{cons-less, before-less, less-before, less-cons, eq-cons, same-less}
 
 either-front : (b : Bool) → either true b ≡ true
 unfolding either
@@ -102,7 +102,7 @@ chain-holds a [] k h g = chain-spaces a k
 chain-holds a (f ∷ fs) k h g = let l = letter-holds f (g .0) in rw (letter-follows a f h l) (chain-holds f fs k l (g .1))
 
 name-yes : (n : List ℕ) → isName n ≡ true → Spelt n
-unfolding isName spelt
+unfolding isName nameSpelt
 name-yes [] e = absurd (clash (both-right (eqb 0 8) false e))
 name-yes (b ∷ bs) e =
     let s : both (letter b) (chain b bs) ≡ true = both-right (eqb (suc (length bs)) 8) (both (letter b) (chain b bs)) e in
@@ -116,16 +116,16 @@ name-yes (b ∷ bs) e =
       long = eqb-true (suc (length bs)) 8 (both-left (eqb (suc (length bs)) 8) (both (letter b) (chain b bs)) e);
     }
 
-spelt-holds : (fs : List ℕ) (k : ℕ) → 0 < length fs → Every Letter fs → spelt (fs ++ replicate k 32) ≡ true
-unfolding spelt both
+spelt-holds : (fs : List ℕ) (k : ℕ) → 0 < length fs → Every Letter fs → nameSpelt (fs ++ replicate k 32) ≡ true
+unfolding nameSpelt both
 spelt-holds [] k h g = absurd (omega arith)
 spelt-holds (f ∷ fs) k h g = let l = letter-holds f (g .0) in rw l (chain-holds f fs k l (g .1))
 
 name-holds : (n : List ℕ) → Spelt n → isName n ≡ true
 unfolding isName both
-name-holds n s = rw (eq-eqb (length n) 8 (s .long)) (ap spelt (s .bytes) ∙ spelt-holds (s .front) (s .spaces) (s .some) (s .letters))
+name-holds n s = rw (eq-eqb (length n) 8 (s .long)) (ap nameSpelt (s .bytes) ∙ spelt-holds (s .front) (s .spaces) (s .some) (s .letters))
 
--- A name passes the test exactly if it is spelt as the request says.
+-- A name passes the test exactly if it is nameSpelt as the request says.
 pub name-iff : (n : List ℕ) → (isName n ≡ true) ↔ Spelt n
 name-iff n = (name-yes n, name-holds n)
 
@@ -138,14 +138,14 @@ less-precedes (x ∷ xs) [] l e = absurd (omega arith)
 less-precedes (x ∷ xs) (y ∷ ys) l e = ⊎-elim first (λ g. later (g .0) (less-precedes xs ys (omega arith) (g .1))) (cons-less x y (compareTo xs ys) e)
   where
     first : x < y → Precedes (x ∷ xs) (y ∷ ys)
-    first h = record { place = 0; same = λ i g. absurd (omega arith); less = h }
+    first h = record { place = 0; agree = λ i g. absurd (omega arith); less = h }
 
-    agree : x ≡ y → (r : Precedes xs ys) → (i : ℕ) → i < suc (r .place) → getD (x ∷ xs) i 0 ≡ getD (y ∷ ys) i 0
-    agree h r zero g = h
-    agree h r (suc i) g = r .same i (omega arith)
+    agreed : x ≡ y → (r : Precedes xs ys) → (i : ℕ) → i < suc (r .place) → getD (x ∷ xs) i 0 ≡ getD (y ∷ ys) i 0
+    agreed h r zero g = h
+    agreed h r (suc i) g = r .agree i (omega arith)
 
     later : x ≡ y → Precedes xs ys → Precedes (x ∷ xs) (y ∷ ys)
-    later h r = record { place = suc (r .place); same = agree h r; less = r .less }
+    later h r = record { place = suc (r .place); agree = agreed h r; less = r .less }
 
 precedes-less : (k : ℕ) (a b : List ℕ) → length a ≡ length b → ((i : ℕ) → i < k → getD a i 0 ≡ getD b i 0) → getD a k 0 < getD b k 0 → compareTo a b ≡ Less
 unfolding compareTo
@@ -159,4 +159,4 @@ precedes-less (suc k) (x ∷ xs) (y ∷ ys) l s h =
 
 -- Of two names of one length the test says which comes before, as the request says it.
 pub before-iff : (a b : List ℕ) → length a ≡ length b → (before a b ≡ true) ↔ Precedes a b
-before-iff a b l = (λ e. less-precedes a b l (before-less a b e), λ p. less-before a b (precedes-less (p .place) a b l (p .same) (p .less)))
+before-iff a b l = (λ e. less-precedes a b l (before-less a b e), λ p. less-before a b (precedes-less (p .place) a b l (p .agree) (p .less)))

@@ -22,8 +22,8 @@ unfoldable pub pairBytes : Pair → List ℕ
 pairBytes p = digits 8 (p .taken) ++ (digits 8 (p .held) ++ digits 8 (p .denied))
 
 -- The 32 bytes of an entry: the name, then the pair.
-unfoldable pub row : List ℕ → Pair → List ℕ
-row n p = n ++ pairBytes p
+unfoldable pub entryRow : List ℕ → Pair → List ℕ
+entryRow n p = n ++ pairBytes p
 
 -- ---- read
 -- The number of some bytes.

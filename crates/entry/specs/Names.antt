@@ -1,4 +1,4 @@
--- Names of stopping points: how they are spelt, and their order (document 02, request (h)).
+-- Names of stopping points: how they are nameSpelt, and their order (document 02, request (h)).
 use Prim.Native.Nat.{ℕ, _<_, _≤_}
 use mathlib.Core.Bool.{Bool, true, false}
 use mathlib.Core.List.{List, [], _∷_, _++_}
@@ -28,7 +28,7 @@ pub record Spelt (n : List ℕ) : Type 0 where
 -- The name a comes before the name b, byte by byte: where they first differ a has the lesser byte.
 pub record Precedes (a b : List ℕ) : Type 0 where
   pub place : ℕ
-  pub same : (i : ℕ) → i < place → getD a i 0 ≡ getD b i 0
+  pub agree : (i : ℕ) → i < place → getD a i 0 ≡ getD b i 0
   pub less : getD a place 0 < getD b place 0
 
 -- ---- as tests: the laws are in proofs/Spelling
@@ -45,13 +45,13 @@ chain a [] = true
 chain a (b ∷ bs) = both (follows a b) (chain b bs)
 
 -- One letter or more, and then only spaces.
-unfoldable pub spelt : List ℕ → Bool
-spelt [] = false
-spelt (b ∷ bs) = both (letter b) (chain b bs)
+unfoldable pub nameSpelt : List ℕ → Bool
+nameSpelt [] = false
+nameSpelt (b ∷ bs) = both (letter b) (chain b bs)
 
--- A name: 8 bytes, rightly spelt.
+-- A name: 8 bytes, rightly nameSpelt.
 unfoldable pub isName : List ℕ → Bool
-isName n = both (eqb (length n) 8) (spelt n)
+isName n = both (eqb (length n) 8) (nameSpelt n)
 
 -- The order of names, byte by byte.
 unfoldable pub compareTo : List ℕ → List ℕ → Order
@@ -74,5 +74,5 @@ isSame More = false
 unfoldable pub before : List ℕ → List ℕ → Bool
 before a b = isLess (compareTo a b)
 
-unfoldable pub same : List ℕ → List ℕ → Bool
-same a b = isSame (compareTo a b)
+unfoldable pub sameName : List ℕ → List ℕ → Bool
+sameName a b = isSame (compareTo a b)

@@ -4,7 +4,7 @@ ghost use mathlib.Core.List.{[], _∷_};
 ghost use Prim.Native.Nat.{_+_, _≤_};
 ghost use lib.ListN.{length, drop, take};
 ghost use lib.Seq.{sets};
-ghost use Rattle.entry.specs.Names.{letter, follows as followsIn, spelt, compareTo};
+ghost use Rattle.entry.specs.Names.{letter, follows as followsIn, nameSpelt, compareTo};
 ghost use Rattle.entry.specs.Bytes.{wordOf, digits, pairOf, pairBytes, zeros};
 use sets::Pair;
 
@@ -55,7 +55,7 @@ pub fn follows(a: u8, b: u8) -> bool
 // The 8 bytes from a place on are a name.
 pub fn is_name(s: &[u8], at: usize) -> bool
     requires { ⌜ at + 8 ≤ length (now s) ⌝ }
-    ensures { λ r. ⌜ r ≡ spelt (take 8 (drop at (now (s .entry)))) ⌝ }
+    ensures { λ r. ⌜ r ≡ nameSpelt (take 8 (drop at (now (s .entry)))) ⌝ }
 {
     if !is_letter(s[at]) {
         return false;

@@ -9,30 +9,29 @@ use lib.ListN.{length, take, drop, replicate, length-append}
 use lib.Seq.{sets, take-all, drop-drop}
 use borrow.Author.Tests.{eq-eqb, ne-eqb}
 use Rattle.logic.specs.Tests.{both, pick}
-use Rattle.logic.proofs.Decide.{clash}
 use Rattle.sets.specs.declared.Pair.{Pair}
 use Rattle.text.specs.declared.Refusal.{Refusal}
 use Rattle.answers.specs.Operations.{Told}
 use Rattle.answers.specs.Operations.Told.{told, turned}
-use Rattle.points.specs.declared.Counted.{Counted}
-use Rattle.points.specs.declared.Counted.the-variants.{Entries, NoStore}
+use Rattle.points.specs.declared.Occupied.{Occupied}
+use Rattle.points.specs.declared.Occupied.the-variants.{Entries, NoStore}
 use Rattle.points.specs.declared.Place.{Place}
 use Rattle.points.specs.declared.Place.the-variants.{Here, Gap}
 use Rattle.points.specs.declared.Located.{Located}
 use Rattle.points.specs.declared.Located.the-variants.{At, Before, Neither}
 use Rattle.points.specs.declared.Went.the-variants.{Point, Refused as NotGone}
 use Rattle.points.specs.declared.Kept.the-variants.{Done, Refused}
-use Rattle.entry.specs.Names.{spelt, isName}
-use Rattle.entry.specs.Bytes.{row, pairBytes, pairOf}
+use Rattle.entry.specs.Names.{nameSpelt, isName}
+use Rattle.entry.specs.Bytes.{entryRow, pairBytes, pairOf}
 use Rattle.entry.specs.Bytes.{AreBytes}
-use Rattle.points.specs.Points.{Entry, rows, packed, leaves}
-use Rattle.points.specs.Stores.{entryOf, entriesOf, countOf, heldOf, storeOf, Held, holds, nothing, Maybe, some, none, lookup, setIn, dropIn, findIn, locatedAt, locateIn, ifThere, onStore, goTold, setTold, dropTold, wentIs, keptIs, Met}
+use Rattle.points.specs.Points.{Entry, packed, leaves}
+use Rattle.points.specs.Stores.{entryOf, entriesOf, entryCount, heldOf, storeOf, lookup, setIn, dropIn, findIn, locatedAt, locateIn, ifThere, onStore, goTold, setTold, dropTold, wentIs, keptIs, Met}
 use Rattle.points.proofs.Stored.{Stored, stored, stored-packed, entries-long}
 use Rattle.points.proofs.Places.{SplitHere, SplitGap, split-here, split-gap, set-here, set-gap, drop-here, name-long}
 
 -- ---- locate
-module _ (bs n : List ℕ) (c : Counted) (ec : c ≡ countOf bs) where
-  pub loc-none : c ≡ NoStore → Neither 24 ≡ locateIn (countOf bs) bs n
+module _ (bs n : List ℕ) (c : Occupied) (ec : c ≡ entryCount bs) where
+  pub loc-none : c ≡ NoStore → Neither 24 ≡ locateIn (entryCount bs) bs n
   unfolding locateIn
   loc-none d = rw (← ec, d)
 
@@ -40,20 +39,20 @@ module _ (bs n : List ℕ) (c : Counted) (ec : c ≡ countOf bs) where
     pub loc-room : k * 32 ≤ length bs
     loc-room = let s = stored bs k (sym ec ∙ d) in let a = s .long in let b = s .few in omega arith
 
-    module _ (h : length n ≡ 8) (t : Bool) (et : t ≡ spelt (take 8 (drop 0 n))) where
+    module _ (h : length n ≡ 8) (t : Bool) (et : t ≡ nameSpelt (take 8 (drop 0 n))) where
       spelt-is : isName n ≡ t
       unfolding isName both
       spelt-is = let e : take 8 n ≡ n = take-all 8 n (omega arith) in rw (eq-eqb (length n) 8 h) (sym (rw e at et))
 
-      pub loc-misspelt : t ≡ false → Neither 25 ≡ locateIn (countOf bs) bs n
+      pub loc-misspelt : t ≡ false → Neither 25 ≡ locateIn (entryCount bs) bs n
       unfolding locateIn pick
       loc-misspelt f = rw (← ec, d, spelt-is, f)
 
-      pub loc-at : t ≡ true → (p : Place) (i : ℕ) → p ≡ findIn (entriesOf k bs) 0 (take 8 n) → p ≡ Here i → At i ≡ locateIn (countOf bs) bs n
+      pub loc-at : t ≡ true → (p : Place) (i : ℕ) → p ≡ findIn (entriesOf k bs) 0 (take 8 n) → p ≡ Here i → At i ≡ locateIn (entryCount bs) bs n
       unfolding locateIn pick locatedAt
       loc-at f p i ep ei = let e : take 8 n ≡ n = take-all 8 n (omega arith) in rw (← ec, d, spelt-is, f, ← rw e at ep, ei)
 
-      pub loc-before : t ≡ true → (p : Place) (i : ℕ) → p ≡ findIn (entriesOf k bs) 0 (take 8 n) → p ≡ Gap i → Before i k ≡ locateIn (countOf bs) bs n
+      pub loc-before : t ≡ true → (p : Place) (i : ℕ) → p ≡ findIn (entriesOf k bs) 0 (take 8 n) → p ≡ Gap i → Before i k ≡ locateIn (entryCount bs) bs n
       unfolding locateIn pick locatedAt
       loc-before f p i ep ei = let e : take 8 n ≡ n = take-all 8 n (omega arith) in rw (← ec, d, spelt-is, f, ← rw e at ep, ei)
 
@@ -74,46 +73,46 @@ secondOf (Before i k) = k
 secondOf (Neither q) = 0
 
 pub record Found (bs n : List ℕ) (k : ℕ) (p : Place) : Type 0 where
-  pub counted : countOf bs ≡ Entries k
+  pub counted : entryCount bs ≡ Entries k
   pub named : isName n ≡ true
   pub found : findIn (entriesOf k bs) 0 n ≡ p
 
-module _ (bs n : List ℕ) (l : Located) (el : l ≡ locateIn (countOf bs) bs n) where
+module _ (bs n : List ℕ) (l : Located) (el : l ≡ locateIn (entryCount bs) bs n) where
   pub is-at : (i : ℕ) → l ≡ At i → (k : ℕ) × Found bs n k (Here i)
   unfolding locateIn locatedAt pick kindOf firstOf
-  is-at i d = go (countOf bs) (isName n) refl refl (sym d ∙ el)
+  is-at i d = go (entryCount bs) (isName n) refl refl (sym d ∙ el)
     where
-      on : (k : ℕ) (p : Place) → findIn (entriesOf k bs) 0 n ≡ p → countOf bs ≡ Entries k → isName n ≡ true → At i ≡ locatedAt k p → (k : ℕ) × Found bs n k (Here i)
+      on : (k : ℕ) (p : Place) → findIn (entriesOf k bs) 0 n ≡ p → entryCount bs ≡ Entries k → isName n ≡ true → At i ≡ locatedAt k p → (k : ℕ) × Found bs n k (Here i)
       on k (Here j) ep ec et f = (k, record { counted = ec; named = et; found = ep ∙ ap Here (sym (ap firstOf f)) })
       on k (Gap j) ep ec et f = absurd (let z : _≡_ {A = ℕ} 0 1 = ap kindOf f in omega arith)
 
-      go : (c : Counted) (t : Bool) → countOf bs ≡ c → isName n ≡ t → At i ≡ locateIn c bs n → (k : ℕ) × Found bs n k (Here i)
+      go : (c : Occupied) (t : Bool) → entryCount bs ≡ c → isName n ≡ t → At i ≡ locateIn c bs n → (k : ℕ) × Found bs n k (Here i)
       go NoStore t ec et f = absurd (let z : _≡_ {A = ℕ} 0 2 = ap kindOf f in omega arith)
       go (Entries k) true ec et f = on k (findIn (entriesOf k bs) 0 n) refl ec et (rw et at f)
       go (Entries k) false ec et f = absurd (let z : _≡_ {A = ℕ} 0 2 = ap kindOf (rw et at f) in omega arith)
 
   pub is-before : (i k : ℕ) → l ≡ Before i k → Found bs n k (Gap i)
   unfolding locateIn locatedAt pick kindOf firstOf secondOf
-  is-before i k d = go (countOf bs) (isName n) refl refl (sym d ∙ el)
+  is-before i k d = go (entryCount bs) (isName n) refl refl (sym d ∙ el)
     where
-      on : (m : ℕ) (p : Place) → findIn (entriesOf m bs) 0 n ≡ p → countOf bs ≡ Entries m → isName n ≡ true → Before i k ≡ locatedAt m p → Found bs n k (Gap i)
+      on : (m : ℕ) (p : Place) → findIn (entriesOf m bs) 0 n ≡ p → entryCount bs ≡ Entries m → isName n ≡ true → Before i k ≡ locatedAt m p → Found bs n k (Gap i)
       on m (Gap j) ep ec et f = let a : i ≡ j = ap firstOf f in let b : k ≡ m = ap secondOf f in rw (a, b) (record { counted = ec; named = et; found = ep })
       on m (Here j) ep ec et f = absurd (let z : _≡_ {A = ℕ} 1 0 = ap kindOf f in omega arith)
 
-      go : (c : Counted) (t : Bool) → countOf bs ≡ c → isName n ≡ t → Before i k ≡ locateIn c bs n → Found bs n k (Gap i)
+      go : (c : Occupied) (t : Bool) → entryCount bs ≡ c → isName n ≡ t → Before i k ≡ locateIn c bs n → Found bs n k (Gap i)
       go NoStore t ec et f = absurd (let z : _≡_ {A = ℕ} 1 2 = ap kindOf f in omega arith)
       go (Entries m) true ec et f = on m (findIn (entriesOf m bs) 0 n) refl ec et (rw et at f)
       go (Entries m) false ec et f = absurd (let z : _≡_ {A = ℕ} 1 2 = ap kindOf (rw et at f) in omega arith)
 
   pub is-neither : (q : ℕ) → l ≡ Neither q → {A : Type 0} (g : List Entry → Told A) → onStore (storeOf bs) n g ≡ turned q 0
   unfolding locateIn locatedAt pick kindOf firstOf storeOf heldOf onStore
-  is-neither q d {A} g = go (countOf bs) (isName n) refl refl (sym d ∙ el)
+  is-neither q d {A} g = go (entryCount bs) (isName n) refl refl (sym d ∙ el)
     where
       on : (m : ℕ) (p : Place) → Neither q ≡ locatedAt m p → ⊥
       on m (Gap j) f = let z : _≡_ {A = ℕ} 2 1 = ap kindOf f in omega arith
       on m (Here j) f = let z : _≡_ {A = ℕ} 2 0 = ap kindOf f in omega arith
 
-      go : (c : Counted) (t : Bool) → countOf bs ≡ c → isName n ≡ t → Neither q ≡ locateIn c bs n → onStore (heldOf c bs) n g ≡ turned q 0
+      go : (c : Occupied) (t : Bool) → entryCount bs ≡ c → isName n ≡ t → Neither q ≡ locateIn c bs n → onStore (heldOf c bs) n g ≡ turned q 0
       go NoStore t ec et f = let e : q ≡ 24 = ap firstOf f in rw e
       go (Entries m) true ec et f = absurd (on m (findIn (entriesOf m bs) 0 n) (rw et at f))
       go (Entries m) false ec et f = let e : q ≡ 25 = ap firstOf (rw et at f) in rw (et, e)
@@ -140,7 +139,7 @@ entry-at (suc k) bs (x ∷ xs) e ys i w h =
     rw (z, ← drop-drop (length xs * 32 + 8) 32 bs) (entry-at k (drop 32 bs) xs e ys (length xs) (ap (drop 1) w) refl)
 
 -- ---- the operations
-module _ (bs n : List ℕ) (l : Located) (el : l ≡ locateIn (countOf bs) bs n) where
+module _ (bs n : List ℕ) (l : Located) (el : l ≡ locateIn (entryCount bs) bs n) where
   pub go-neither : (q : ℕ) (r : Refusal) → l ≡ Neither q → r .number ≡ q → r .line ≡ 0 → NotGone r ≡ wentIs (goTold (storeOf bs) n)
   unfolding goTold wentIs
   go-neither q r d a b = rw (is-neither bs n l el q d (λ es. ifThere (lookup es n) told (turned 25 0))) (ap NotGone (refusal r q a b))
@@ -176,7 +175,7 @@ module _ (bs n : List ℕ) (l : Located) (el : l ≡ locateIn (countOf bs) bs n)
     pub before-in : (k ≡ 32 → ⊥) → i * 32 + 32 ≤ 1024
     before-in h = let s = stored bs k (is-before bs n l el i k d .counted) in let a = s .few in let b = gap .place in let w = ap length (gap .whole) in omega (arith, entries-long k bs, length-append (gap .front) (gap .back))
 
-    pub set-before : (p : Pair) (bs′ : List ℕ) → (k ≡ 32 → ⊥) → AreBytes bs → bs′ ≡ take (i * 32) bs ++ (row n p ++ take (992 - i * 32) (drop (i * 32) bs)) → Met bs (setTold (storeOf bs) n p) Done bs′
+    pub set-before : (p : Pair) (bs′ : List ℕ) → (k ≡ 32 → ⊥) → AreBytes bs → bs′ ≡ take (i * 32) bs ++ (entryRow n p ++ take (992 - i * 32) (drop (i * 32) bs)) → Met bs (setTold (storeOf bs) n p) Done bs′
     unfolding setTold keptIs leaves ifThere pick
     set-before p bs′ h ab e =
         let s = stored bs k (is-before bs n l el i k d .counted) in

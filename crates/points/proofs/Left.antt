@@ -8,9 +8,10 @@ use lib.ListN.{length}
 use Rattle.sets.specs.declared.Pair.{Pair}
 use Rattle.entry.specs.Names.{isName, before, compareTo, isLess}
 use Rattle.points.specs.Points.{Entry, packed, Fits}
-use Rattle.points.specs.Stores.{Tested, setIn, dropIn}
+use Rattle.points.specs.Stores.{setIn, dropIn}
 use Rattle.points.proofs.Places.{name-long}
 use Rattle.points.proofs.Maps.{every-set, every-drop, rising-set, rising-drop, drop-most}
+use Rattle.points.proofs.Tested.{Tested}
 
 pub nil-before : (n : List ℕ) → length n ≡ 8 → before [] n ≡ true
 unfolding before compareTo isLess

@@ -1,3 +1,4 @@
+pub mod Tested
 pub mod Scans
 pub mod Moves
 pub mod Stored

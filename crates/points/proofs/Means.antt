@@ -1,9 +1,10 @@
 -- What Set, Go and Drop compute is what Points says: `store-iff`, `go-means`, `set-means`, `drop-means`.
 use mathlib.Core.Path.{_≡_, refl, sym, ap, _∙_}
 use mathlib.Core.Bool.{Bool, true, false}
+use mathlib.Core.Option.{Option, some, none}
 use mathlib.Core.List.{List, [], _∷_}
-use mathlib.Core.Logic.{_⊎_, inl, inr, ⊎-elim, _↔_}
-use Prim.Native.Nat.{ℕ, zero, suc, _<_, _≤_}
+use mathlib.Core.Logic.{_⊎_, inl, inr, _↔_}
+use Prim.Native.Nat.{ℕ, _<_, _≤_}
 use native.Mathlib.Omega.{arith}
 use lib.Dec.{eqb}
 use lib.ListN.{length}
@@ -17,7 +18,7 @@ use Rattle.answers.specs.Operations.{Told}
 use Rattle.answers.specs.Operations.Told.{told, turned}
 use Rattle.entry.specs.declared.Order.{Order}
 use Rattle.entry.specs.declared.Order.the-variants.{Less, Same, More}
-use Rattle.entry.specs.Names.{Spelt, Precedes, isName, compareTo, isSame, same, before}
+use Rattle.entry.specs.Names.{Spelt, Precedes, isName, compareTo, isSame, sameName}
 use Rattle.entry.specs.Bytes.{AreBytes}
 use Rattle.entry.proofs.Orders.{before-less, less-flip, less-same, less-trans, more-flip, more-same, same-eq, same-self, same-true}
 use Rattle.entry.proofs.Spelling.{name-iff, before-iff}
@@ -25,14 +26,15 @@ use Rattle.points.specs.declared.Went.{Went}
 use Rattle.points.specs.declared.Kept.{Kept}
 use Rattle.points.specs.Points.{Entry, packed, Ascending, Fits, Store, Under, Absent, OfStore, Goes, Sets, Drops}
 use Rattle.points.specs.Points.OfStore.{no-store, misspelt, named}
-use Rattle.points.specs.Stores.{Rising, Tested, Held, holds, nothing, storeOf, Maybe, some, none, lookup, setIn, dropIn, ifThere, onStore, goTold, setTold, dropTold, wentIs, wentTold, keptIs, Met, Meant}
+use Rattle.points.specs.Stores.{Contents, holds, nothing, storeOf, lookup, setIn, dropIn, ifThere, onStore, goTold, setTold, dropTold, wentIs, wentTold, keptIs, Met, Meant}
 use Rattle.points.proofs.Places.{Named, past, name-long}
 use Rattle.points.proofs.Maps.{none-at, none-some, rising-less, rising-set, rising-drop, lookup-set, lookup-drop, set-most, set-there}
-use Rattle.points.proofs.Packed.{store-reads, reads-store}
+use Rattle.points.proofs.Packed.{isHeld, store-reads, reads-store}
 use Rattle.points.proofs.Left.{nil-before, set-store, drop-store}
+use Rattle.points.proofs.Tested.{Rising, Tested}
 
 -- ---- a pair under a name, and looked up
-unfoldable pairOr : Pair → Maybe → Pair
+unfoldable pairOr : Pair → Option Pair → Pair
 pairOr d (some p) = p
 pairOr d none = d
 
@@ -43,9 +45,9 @@ some-eq a b e = ap (pairOr a) e
 pub lookup-under : (es : List Entry) (n : List ℕ) (p : Pair) → lookup es n ≡ some p → Under es n p
 unfolding lookup pick
 lookup-under [] n p e = none-some p e
-lookup-under (x ∷ es) n p e = go (λ f. lookup-under es n p f) (same (x .name) n) refl e
+lookup-under (x ∷ es) n p e = go (λ f. lookup-under es n p f) (sameName (x .name) n) refl e
   where
-    go : (lookup es n ≡ some p → Under es n p) → (t : Bool) → same (x .name) n ≡ t → pick t (some (x .pair)) (lookup es n) ≡ some p → Under (x ∷ es) n p
+    go : (lookup es n ≡ some p → Under es n p) → (t : Bool) → sameName (x .name) n ≡ t → pick t (some (x .pair)) (lookup es n) ≡ some p → Under (x ∷ es) n p
     go ih true d f = inl (λ i. record { name = same-true (x .name) n d i; pair = some-eq (x .pair) p f i })
     go ih false d f = inr (ih f)
 
@@ -56,11 +58,11 @@ under-less a (x ∷ es) n p g (inl e) = let d : x .name ≡ n = ap (λ (y : Entr
 under-less a (x ∷ es) n p g (inr u) = less-trans a (x .name) n (before-less a (x .name) (g .0)) (under-less (x .name) es n p (g .1) u)
 
 here : (n : List ℕ) (p : Pair) (es : List Entry) → lookup (record { name = n; pair = p } ∷ es) n ≡ some p
-unfolding lookup same isSame pick
+unfolding lookup sameName isSame pick
 here n p es = rw (same-self n)
 
 there : (x : Entry) (es : List Entry) (n : List ℕ) (o : Order) → compareTo (x .name) n ≡ o → (o ≡ Same → ⊥) → lookup (x ∷ es) n ≡ lookup es n
-unfolding lookup same isSame pick
+unfolding lookup sameName isSame pick
 there x es n Less e f = rw e
 there x es n Same e f = absurd (f refl)
 there x es n More e f = rw e
@@ -74,7 +76,7 @@ under-lookup a (x ∷ es) n p g (inr u) = there x es n Less (under-less (x .name
 pub absent-none : (es : List Entry) (n : List ℕ) → Absent es n → lookup es n ≡ none
 absent-none es n f = go (lookup es n) refl
   where
-    go : (m : Maybe) → lookup es n ≡ m → lookup es n ≡ none
+    go : (m : Option Pair) → lookup es n ≡ m → lookup es n ≡ none
     go (some p) e = absurd (f p (lookup-under es n p e))
     go none e = e
 
@@ -85,7 +87,7 @@ nothing-in : (n : List ℕ) → none ≡ lookup [] n
 unfolding lookup
 nothing-in n = refl
 
--- ---- ascending entries with the same pairs are the same entries
+-- ---- ascending entries with the sameName pairs are the sameName entries
 first-none : (x : Entry) (y : Entry) (ds : List Entry) → compareTo (x .name) (y .name) ≡ Less → Rising (y .name) ds → lookup (y ∷ ds) (x .name) ≡ none
 first-none x y ds e g =
     let m = less-flip (x .name) (y .name) e in
@@ -93,12 +95,12 @@ first-none x y ds e g =
 
 rest-same : (x y : Entry) (es ds : List Entry) → x .name ≡ y .name → Rising (x .name) es → Rising (y .name) ds → ((n : List ℕ) → lookup (x ∷ es) n ≡ lookup (y ∷ ds) n) → (n : List ℕ) → lookup es n ≡ lookup ds n
 unfolding lookup pick
-rest-same x y es ds e g k h n = go (same (x .name) n) (same (y .name) n) refl refl (h n)
+rest-same x y es ds e g k h n = go (sameName (x .name) n) (sameName (y .name) n) refl refl (h n)
   where
     both-none : x .name ≡ n → lookup es n ≡ lookup ds n
     both-none d = let f : y .name ≡ n = sym e ∙ d in (rw d at (none-at (x .name) es g)) ∙ sym (rw f at (none-at (y .name) ds k))
 
-    go : (s t : Bool) → same (x .name) n ≡ s → same (y .name) n ≡ t → pick s (some (x .pair)) (lookup es n) ≡ pick t (some (y .pair)) (lookup ds n) → lookup es n ≡ lookup ds n
+    go : (s t : Bool) → sameName (x .name) n ≡ s → sameName (y .name) n ≡ t → pick s (some (x .pair)) (lookup es n) ≡ pick t (some (y .pair)) (lookup ds n) → lookup es n ≡ lookup ds n
     go true t d f q = both-none (same-true (x .name) n d)
     go false true d f q = both-none (e ∙ same-true (y .name) n f)
     go false false d f q = q
@@ -168,13 +170,9 @@ pub store-iff : (bs : List ℕ) (es : List Entry) → AreBytes bs → (storeOf b
 store-iff bs es h = (λ e. tested-store bs es (reads-store bs es h e), λ s. store-reads bs es (store-tested bs es s))
 
 -- ---- the refusals that all three have
-unfoldable isHeld : Held → Bool
-isHeld (holds es) = true
-isHeld nothing = false
-
 module _ {A : Type 0} (right : List Entry → Told A → Type 0) (g : List Entry → Told A) (bs n : List ℕ) (ab : AreBytes bs)
     (w : (es : List Entry) → Tested bs es → isName n ≡ true → (x : Told A) → (x ≡ g es) ↔ right es x) where
-  computed-means : (h : Held) → storeOf bs ≡ h → (t : Bool) → isName n ≡ t → OfStore right bs n (onStore h n g)
+  computed-means : (h : Contents) → storeOf bs ≡ h → (t : Bool) → isName n ≡ t → OfStore right bs n (onStore h n g)
   unfolding onStore pick isHeld
   computed-means nothing d t f = no-store (λ es s. clash (ap isHeld (sym d ∙ store-iff bs es ab .1 s)))
   computed-means (holds es) d true f =
@@ -184,7 +182,7 @@ module _ {A : Type 0} (right : List Entry → Told A → Type 0) (g : List Entry
   no-store-read : ((es : List Entry) → Store bs es → ⊥) → storeOf bs ≡ nothing
   no-store-read f = go (storeOf bs) refl
     where
-      go : (h : Held) → storeOf bs ≡ h → storeOf bs ≡ nothing
+      go : (h : Contents) → storeOf bs ≡ h → storeOf bs ≡ nothing
       go (holds es) d = absurd (f es (store-iff bs es ab .0 d))
       go nothing d = d
 
@@ -209,7 +207,7 @@ go-right : (bs n : List ℕ) (es : List Entry) → Tested bs es → (x : Told Pa
 unfolding ifThere
 go-right bs n es s x = (λ e. rw e (to (lookup es n) refl), from x)
   where
-    to : (m : Maybe) → lookup es n ≡ m → Goes n es (ifThere m told (turned 25 0))
+    to : (m : Option Pair) → lookup es n ≡ m → Goes n es (ifThere m told (turned 25 0))
     to (some p) d = lookup-under es n p d
     to none d = (none-absent [] es n (s .rising) d, refl, refl)
 
@@ -222,26 +220,26 @@ unfolding goTold
 go-means bs n ab x = of-store (Goes n) (λ es. ifThere (lookup es n) told (turned 25 0)) bs n ab (λ es s f y. go-right bs n es s y) x
 
 -- ---- what is under each name after Set and after Drop
-not-same : (n m : List ℕ) → (m ≡ n → ⊥) → same n m ≡ false
-not-same n m f = go (same n m) refl
+not-same : (n m : List ℕ) → (m ≡ n → ⊥) → sameName n m ≡ false
+not-same n m f = go (sameName n m) refl
   where
-    go : (t : Bool) → same n m ≡ t → same n m ≡ false
+    go : (t : Bool) → sameName n m ≡ t → sameName n m ≡ false
     go true d = absurd (f (sym (same-true n m d)))
     go false d = d
 
-self-same : (n : List ℕ) → same n n ≡ true
-unfolding same isSame
+self-same : (n : List ℕ) → sameName n n ≡ true
+unfolding sameName isSame
 self-same n = rw (same-self n)
 
-differ : (n m : List ℕ) → same n m ≡ false → m ≡ n → ⊥
-differ n m d e = clash (sym d ∙ (ap (same n) e ∙ self-same n))
+differ : (n m : List ℕ) → sameName n m ≡ false → m ≡ n → ⊥
+differ n m d e = clash (sym d ∙ (ap (sameName n) e ∙ self-same n))
 
 module _ (a : List ℕ) (es : List Entry) (n : List ℕ) (g : Rising a es) where
   pub set-under : (b : List ℕ) (p : Pair) → Rising b (setIn es n p) → (m : List ℕ) (q : Pair) → Under (setIn es n p) m q ↔ (((m ≡ n) × (q ≡ p)) ⊎ ((m ≡ n → ⊥) × Under es m q))
   unfolding pick
-  set-under b p k m q = (λ u. to (same n m) refl (sym (lookup-set es n p m) ∙ under-lookup b (setIn es n p) m q k u), from)
+  set-under b p k m q = (λ u. to (sameName n m) refl (sym (lookup-set es n p m) ∙ under-lookup b (setIn es n p) m q k u), from)
     where
-      to : (t : Bool) → same n m ≡ t → pick (same n m) (some p) (lookup es m) ≡ some q → ((m ≡ n) × (q ≡ p)) ⊎ ((m ≡ n → ⊥) × Under es m q)
+      to : (t : Bool) → sameName n m ≡ t → pick (sameName n m) (some p) (lookup es m) ≡ some q → ((m ≡ n) × (q ≡ p)) ⊎ ((m ≡ n → ⊥) × Under es m q)
       to true d f = inl (sym (same-true n m d), sym (some-eq p q (rw d at f)))
       to false d f = inr (differ n m d, lookup-under es m q (rw d at f))
 
@@ -251,20 +249,20 @@ module _ (a : List ℕ) (es : List Entry) (n : List ℕ) (g : Rising a es) where
 
   pub drop-under : (b : List ℕ) → Rising b (dropIn es n) → (m : List ℕ) (q : Pair) → Under (dropIn es n) m q ↔ ((m ≡ n → ⊥) × Under es m q)
   unfolding pick
-  drop-under b k m q = (λ u. to (same n m) refl (sym (lookup-drop a es n m g) ∙ under-lookup b (dropIn es n) m q k u), from)
+  drop-under b k m q = (λ u. to (sameName n m) refl (sym (lookup-drop a es n m g) ∙ under-lookup b (dropIn es n) m q k u), from)
     where
-      to : (t : Bool) → same n m ≡ t → pick (same n m) none (lookup es m) ≡ some q → (m ≡ n → ⊥) × Under es m q
+      to : (t : Bool) → sameName n m ≡ t → pick (sameName n m) none (lookup es m) ≡ some q → (m ≡ n → ⊥) × Under es m q
       to true d f = absurd (none-some q (rw d at f))
       to false d f = (differ n m d, lookup-under es m q (rw d at f))
 
       from : (m ≡ n → ⊥) × Under es m q → Under (dropIn es n) m q
       from r = lookup-under (dropIn es n) m q (lookup-drop a es n m g ∙ rw (not-same n m (r .0)) (under-lookup a es m q g (r .1)))
 
--- Two stores with the same pairs under the same names have the same entries.
+-- Two stores with the sameName pairs under the sameName names have the sameName entries.
 pub same-under : (a b : List ℕ) (es ds : List Entry) → Rising a es → Rising b ds → ((m : List ℕ) (q : Pair) → Under es m q → Under ds m q) → ((m : List ℕ) (q : Pair) → Under ds m q → Under es m q) → es ≡ ds
 same-under a b es ds g k f h = same-entries a b es ds g k (λ m. go m (lookup es m) refl)
   where
-    go : (m : List ℕ) (x : Maybe) → lookup es m ≡ x → lookup es m ≡ lookup ds m
+    go : (m : List ℕ) (x : Option Pair) → lookup es m ≡ x → lookup es m ≡ lookup ds m
     go m (some q) e = e ∙ sym (under-lookup b ds m q k (f m q (lookup-under es m q e)))
     go m none e = e ∙ sym (absent-none ds m (λ q u. none-absent a es m g e q (h m q u)))
 
@@ -281,7 +279,7 @@ module _ (bs n : List ℕ) (p : Pair) (es : List Entry) (s : Tested bs es) (z : 
       let t = set-store bs es n p s z fp l in
       (r, tested-store (packed (setIn es n p)) (setIn es n p) t, set-under [] es n (s .rising) [] p (t .rising))
 
-  set-to : (m : Maybe) → lookup es n ≡ m → (t : Bool) → eqb (length es) 32 ≡ t → Sets n p es (ifThere m (λ q. told (setIn es n p)) (pick t (turned 26 0) (told (setIn es n p))))
+  set-to : (m : Option Pair) → lookup es n ≡ m → (t : Bool) → eqb (length es) 32 ≡ t → Sets n p es (ifThere m (λ q. told (setIn es n p)) (pick t (turned 26 0) (told (setIn es n p))))
   unfolding ifThere pick
   set-to (some q) d t e = set-done (inl (not-absent es n q d)) (let a = set-there [] es n p q (s .rising) d in let b = s .few in omega arith)
   set-to none d true e = (none-absent [] es n (s .rising) d, eqb-true (length es) 32 e, refl, refl)
@@ -295,7 +293,7 @@ module _ (bs n : List ℕ) (p : Pair) (es : List Entry) (s : Tested bs es) (z : 
   unfolding ifThere pick
   room-gives r = go (lookup es n) refl r
     where
-      go : (m : Maybe) → lookup es n ≡ m → ((Absent es n → ⊥) ⊎ (length es < 32)) → told (setIn es n p) ≡ setGives
+      go : (m : Option Pair) → lookup es n ≡ m → ((Absent es n → ⊥) ⊎ (length es < 32)) → told (setIn es n p) ≡ setGives
       go (some q) d v = rw d
       go none d (inl f) = absurd (f (none-absent [] es n (s .rising) d))
       go none d (inr l) = rw (d, ne-eqb (length es) 32 (omega arith))
@@ -324,7 +322,7 @@ module _ (bs n : List ℕ) (es : List Entry) (s : Tested bs es) where
   abbrev dropGives : Told (List Entry)
   dropGives = ifThere (lookup es n) (λ q. told (dropIn es n)) (turned 25 0)
 
-  drop-to : (m : Maybe) → lookup es n ≡ m → Drops n es (ifThere m (λ q. told (dropIn es n)) (turned 25 0))
+  drop-to : (m : Option Pair) → lookup es n ≡ m → Drops n es (ifThere m (λ q. told (dropIn es n)) (turned 25 0))
   unfolding ifThere
   drop-to (some q) d =
       let t = drop-store bs es n s in
@@ -335,7 +333,7 @@ module _ (bs n : List ℕ) (es : List Entry) (s : Tested bs es) where
   unfolding ifThere
   there-gives f = go (lookup es n) refl
     where
-      go : (m : Maybe) → lookup es n ≡ m → told (dropIn es n) ≡ dropGives
+      go : (m : Option Pair) → lookup es n ≡ m → told (dropIn es n) ≡ dropGives
       go (some q) d = rw d
       go none d = absurd (f (none-absent [] es n (s .rising) d))
 

@@ -1,14 +1,13 @@
 -- Pairs put, entries put in and taken out: what the stores and copies leave.
-use mathlib.Core.Path.{_≡_, refl, sym, ap, _∙_}
-use mathlib.Core.List.{List, [], _∷_, _++_, append-assoc, append-nil}
-use Prim.Native.Nat.{ℕ, zero, suc, _+_, _-_, _*_, _<_, _≤_}
-use native.Mathlib.Nat.{add-zero}
+use mathlib.Core.Path.{_≡_, sym, ap, _∙_}
+use mathlib.Core.List.{List, [], _++_, append-assoc, append-nil}
+use Prim.Native.Nat.{ℕ, _+_, _-_, _≤_}
 use native.Mathlib.Omega.{arith}
-use lib.ListN.{length, getD, take, drop, replicate, length-append, length-drop, drop-of-length-le, take-append-drop, length-replicate}
+use lib.ListN.{length, take, drop, replicate, length-append, length-drop, drop-of-length-le, length-replicate}
 use lib.Seq.{sets, sets-eq, length-sets, length-take-le, take-all, take-at, drop-at, take-take, take-append-le}
 use Rattle.logic.proofs.Stores.{sets-append}
 use Rattle.sets.specs.declared.Pair.{Pair}
-use Rattle.entry.specs.Bytes.{row, pairBytes}
+use Rattle.entry.specs.Bytes.{entryRow, pairBytes}
 use Rattle.entry.proofs.Numbers.{pair-long}
 
 -- A list stored over a list as long is all there is.
@@ -22,8 +21,8 @@ module _ (s : List ℕ) (h : length s ≡ 1024) (at : ℕ) (g : at + 32 ≤ 1024
   same-old = eo ∙ full z s hz h
 
   pub inserted : (n : List ℕ) (p : Pair) (s₁ s₂ s₃ : List ℕ) → length n ≡ 8 → s₁ ≡ sets s (at + 32) (take (992 - at) (drop at old)) → s₂ ≡ sets s₁ at (take 8 (drop 0 n)) → s₃ ≡ sets s₂ (at + 8) (pairBytes p)
-      → s₃ ≡ take at s ++ (row n p ++ take (992 - at) (drop at s))
-  unfolding row
+      → s₃ ≡ take at s ++ (entryRow n p ++ take (992 - at) (drop at s))
+  unfolding entryRow
   inserted n p s₁ s₂ s₃ hn e₁ e₂ e₃ =
       let x = take (992 - at) (drop at s) in
       let lx : length x ≡ 992 - at = length-take-le (992 - at) (drop at s) (omega (arith, length-drop at s)) in

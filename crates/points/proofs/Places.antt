@@ -1,15 +1,14 @@
 -- Where a name is in a list of entries, and what the operations then make of the list and of its bytes.
 use mathlib.Core.Path.{_≡_, refl, sym, ap, _∙_}
 use mathlib.Core.Bool.{Bool, true, false}
-use mathlib.Core.List.{List, [], _∷_, _++_, append-assoc, append-nil}
-use mathlib.Core.Logic.{_⊎_, inl, inr, ⊎-elim}
-use Prim.Native.Nat.{ℕ, zero, suc, _+_, _-_, _*_, _<_, _≤_}
-use native.Mathlib.Nat.{add-zero}
+use mathlib.Core.Option.{some, none}
+use mathlib.Core.List.{List, [], _∷_, _++_, append-assoc}
+use Prim.Native.Nat.{ℕ, suc, _+_, _-_, _*_, _<_, _≤_}
 use native.Mathlib.Omega.{arith}
-use lib.Dec.{eqb, ltb}
+use lib.Dec.{eqb}
 use lib.ListN.{length, take, drop, replicate, length-append, length-replicate, replicate-append-replicate}
-use lib.Seq.{sets, sets-eq, take-at, drop-at, take-append-add, take-all}
-use borrow.Author.Tests.{eq-eqb, ne-eqb, eqb-true, lt-ltb, le-ltb, ltb-true, ltb-false}
+use lib.Seq.{sets, sets-eq, take-at, drop-at, take-append-add}
+use borrow.Author.Tests.{eqb-true}
 use Rattle.logic.specs.Lists.{Every}
 use Rattle.logic.specs.Tests.{both, pick}
 use Rattle.logic.proofs.Decide.{clash}
@@ -18,16 +17,17 @@ use Rattle.entry.specs.declared.Order.{Order}
 use Rattle.entry.specs.declared.Order.the-variants.{Less, Same, More}
 use Rattle.points.specs.declared.Place.{Place}
 use Rattle.points.specs.declared.Place.the-variants.{Here, Gap}
-use Rattle.entry.specs.Names.{compareTo, isLess, isSame, before, same, isName, spelt}
-use Rattle.entry.specs.Bytes.{row, pairBytes}
-use Rattle.points.specs.Points.{Entry, rows, packed}
-use Rattle.points.specs.Stores.{Rising, Maybe, some, none, lookup, byOrder, setIn, dropIn, findIn}
+use Rattle.entry.specs.Names.{compareTo, isSame, sameName, isName, nameSpelt}
+use Rattle.entry.specs.Bytes.{entryRow, pairBytes}
+use Rattle.points.specs.Points.{Entry, entryRows, packed}
+use Rattle.points.specs.Stores.{lookup, byOrder, setIn, dropIn, findIn}
 use Rattle.entry.proofs.Numbers.{pair-long}
-use Rattle.entry.proofs.Orders.{less-same, more-same, same-more, less-more, more-less, same-less, more-trans, before-less, same-eq}
+use Rattle.entry.proofs.Orders.{more-trans, before-less, same-eq}
+use Rattle.points.proofs.Tested.{Rising}
 
 -- No name behind a greater one is the name.
 pub past : (a n : List ℕ) (es : List Entry) → compareTo a n ≡ More → Rising a es → lookup es n ≡ none
-unfolding lookup same isSame Rising pick
+unfolding lookup sameName isSame Rising pick
 past a n [] e r = refl
 past a n (x ∷ es) e r = let m = more-trans a (x .name) n e (before-less a (x .name) (r .0)) in rw m (past (x .name) n es m (r .1))
 
@@ -67,7 +67,7 @@ pub record SplitHere (es : List Entry) (j i : ℕ) (n : List ℕ) : Type 0 where
   pub gone : dropIn es n ≡ front ++ back
 
 pub split-here : (es : List Entry) (j i : ℕ) (n : List ℕ) → findIn es j n ≡ Here i → SplitHere es j i n
-unfolding findIn lookup same isSame setIn dropIn byOrder pick
+unfolding findIn lookup sameName isSame setIn dropIn byOrder pick
 split-here [] j i n e = absurd (gap-here j i e)
 split-here (x ∷ es) j i n e = go (split-here es (suc j) i n) (compareTo (x .name) n) refl e
   where
@@ -114,7 +114,7 @@ here-gap : (j i : ℕ) → Here j ≡ Gap i → ⊥
 here-gap j i e = gap-here i j (sym e)
 
 pub split-gap : (es : List Entry) (j i : ℕ) (n a : List ℕ) → Rising a es → findIn es j n ≡ Gap i → SplitGap es j i n
-unfolding findIn lookup same isSame setIn byOrder pick Rising
+unfolding findIn lookup sameName isSame setIn byOrder pick Rising
 split-gap [] j i n a r e = record { front = []; back = []; whole = refl; place = let d = gap-eq j i e in omega arith; found = refl; put = λ p. refl }
 split-gap (x ∷ es) j i n a r e = go (λ s f. split-gap es (suc j) i n (x .name) s f) (compareTo (x .name) n) refl (rest r) e
   where
@@ -147,10 +147,10 @@ split-gap (x ∷ es) j i n a r e = go (λ s f. split-gap es (suc j) i n (x .name
     go ih More d s f = at d s (gap-eq j i f)
 
 -- ---- bytes
-pub rows-append : (xs ys : List Entry) → rows (xs ++ ys) ≡ rows xs ++ rows ys
-unfolding rows
+pub rows-append : (xs ys : List Entry) → entryRows (xs ++ ys) ≡ entryRows xs ++ entryRows ys
+unfolding entryRows
 rows-append [] ys = refl
-rows-append (x ∷ xs) ys = ap (λ (l : List ℕ). row (x .name) (x .pair) ++ l) (rows-append xs ys) ∙ sym (append-assoc (row (x .name) (x .pair)) (rows xs) (rows ys))
+rows-append (x ∷ xs) ys = ap (λ (l : List ℕ). entryRow (x .name) (x .pair) ++ l) (rows-append xs ys) ∙ sym (append-assoc (entryRow (x .name) (x .pair)) (entryRows xs) (entryRows ys))
 
 abbrev pub Named : List Entry → Type 0
 Named es = Every (λ (e : Entry). isName (e .name) ≡ true) es
@@ -159,18 +159,18 @@ pub name-long : (n : List ℕ) → isName n ≡ true → length n ≡ 8
 unfolding isName both
 name-long n e = go (eqb (length n) 8) refl e
   where
-    go : (t : Bool) → eqb (length n) 8 ≡ t → both t (spelt n) ≡ true → length n ≡ 8
+    go : (t : Bool) → eqb (length n) 8 ≡ t → both t (nameSpelt n) ≡ true → length n ≡ 8
     go true d f = eqb-true (length n) 8 d
     go false d f = absurd (clash f)
 
-pub row-long : (n : List ℕ) (p : Pair) → length n ≡ 8 → length (row n p) ≡ 32
-unfolding row
+pub row-long : (n : List ℕ) (p : Pair) → length n ≡ 8 → length (entryRow n p) ≡ 32
+unfolding entryRow
 row-long n p h = omega (arith, length-append n (pairBytes p), pair-long p)
 
-pub rows-long : (es : List Entry) → Named es → length (rows es) ≡ length es * 32
-unfolding rows
+pub rows-long : (es : List Entry) → Named es → length (entryRows es) ≡ length es * 32
+unfolding entryRows
 rows-long [] h = refl
-rows-long (x ∷ es) h = omega (arith, length-append (row (x .name) (x .pair)) (rows es), row-long (x .name) (x .pair) (name-long (x .name) (h .0)), rows-long es (h .1))
+rows-long (x ∷ es) h = omega (arith, length-append (entryRow (x .name) (x .pair)) (entryRows es), row-long (x .name) (x .pair) (name-long (x .name) (h .0)), rows-long es (h .1))
 
 named-front : (xs ys : List Entry) → Named (xs ++ ys) → Named xs
 named-front [] ys h = tt
@@ -180,13 +180,13 @@ named-back : (xs ys : List Entry) → Named (xs ++ ys) → Named ys
 named-back [] ys h = h
 named-back (x ∷ xs) ys h = named-back xs ys (h .1)
 
-packed-mid : (xs : List Entry) (e : Entry) (ys : List Entry) (m : ℕ) → m ≡ 1024 - length (xs ++ (e ∷ ys)) * 32 → packed (xs ++ (e ∷ ys)) ≡ rows xs ++ (row (e .name) (e .pair) ++ (rows ys ++ replicate m 0))
-unfolding packed rows
-packed-mid xs e ys m h = rw (← h, rows-append xs (e ∷ ys), append-assoc (rows xs) (row (e .name) (e .pair) ++ rows ys) (replicate m 0), append-assoc (row (e .name) (e .pair)) (rows ys) (replicate m 0))
+packed-mid : (xs : List Entry) (e : Entry) (ys : List Entry) (m : ℕ) → m ≡ 1024 - length (xs ++ (e ∷ ys)) * 32 → packed (xs ++ (e ∷ ys)) ≡ entryRows xs ++ (entryRow (e .name) (e .pair) ++ (entryRows ys ++ replicate m 0))
+unfolding packed entryRows
+packed-mid xs e ys m h = rw (← h, rows-append xs (e ∷ ys), append-assoc (entryRows xs) (entryRow (e .name) (e .pair) ++ entryRows ys) (replicate m 0), append-assoc (entryRow (e .name) (e .pair)) (entryRows ys) (replicate m 0))
 
-packed-two : (xs ys : List Entry) (m : ℕ) → m ≡ 1024 - length (xs ++ ys) * 32 → packed (xs ++ ys) ≡ rows xs ++ (rows ys ++ replicate m 0)
-unfolding packed rows
-packed-two xs ys m h = rw (← h, rows-append xs ys, append-assoc (rows xs) (rows ys) (replicate m 0))
+packed-two : (xs ys : List Entry) (m : ℕ) → m ≡ 1024 - length (xs ++ ys) * 32 → packed (xs ++ ys) ≡ entryRows xs ++ (entryRows ys ++ replicate m 0)
+unfolding packed entryRows
+packed-two xs ys m h = rw (← h, rows-append xs ys, append-assoc (entryRows xs) (entryRows ys) (replicate m 0))
 
 sets-mid : (p q r v : List ℕ) (at : ℕ) → length p ≡ at → length v ≡ length q → sets (p ++ (q ++ r)) at v ≡ p ++ (v ++ r)
 sets-mid p q r v at h g =
@@ -198,15 +198,15 @@ sets-mid p q r v at h g =
 
 pub set-here : (bs : List ℕ) (xs : List Entry) (e : Entry) (ys : List Entry) (n : List ℕ) (p : Pair) (at : ℕ) → Named (xs ++ (e ∷ ys)) → e .name ≡ n → bs ≡ packed (xs ++ (e ∷ ys)) → at ≡ length xs * 32 + 8
     → sets bs at (pairBytes p) ≡ packed (xs ++ (record { name = n; pair = p } ∷ ys))
-unfolding row
+unfolding entryRow
 set-here bs xs e ys n p at h en eb ea =
     let m = 1024 - length (xs ++ (e ∷ ys)) * 32 in
     let f : m ≡ 1024 - length (xs ++ (record { name = n; pair = p } ∷ ys)) * 32 = omega (arith, length-append xs (e ∷ ys), length-append xs (record { name = n; pair = p } ∷ ys)) in
     let hn : length n ≡ 8 = ap length (sym en) ∙ name-long (e .name) (named-back xs (e ∷ ys) h .0) in
-    let z = rows ys ++ replicate m 0 in
-    let c : bs ≡ (rows xs ++ n) ++ (pairBytes (e .pair) ++ z) = eb ∙ (packed-mid xs e ys m refl ∙ (ap (λ (w : List ℕ). rows xs ++ ((w ++ pairBytes (e .pair)) ++ z)) en ∙ (ap (λ (w : List ℕ). rows xs ++ w) (append-assoc n (pairBytes (e .pair)) z) ∙ sym (append-assoc (rows xs) n (pairBytes (e .pair) ++ z))))) in
-    let l : length (rows xs ++ n) ≡ at = omega (arith, length-append (rows xs) n, rows-long xs (named-front xs (e ∷ ys) h)) in
-    ap (λ (x : List ℕ). sets x at (pairBytes p)) c ∙ (sets-mid (rows xs ++ n) (pairBytes (e .pair)) z (pairBytes p) at l (pair-long p ∙ sym (pair-long (e .pair))) ∙ (append-assoc (rows xs) n (pairBytes p ++ z) ∙ (ap (λ (x : List ℕ). rows xs ++ x) (sym (append-assoc n (pairBytes p) z)) ∙ sym (packed-mid xs (record { name = n; pair = p }) ys m f))))
+    let z = entryRows ys ++ replicate m 0 in
+    let c : bs ≡ (entryRows xs ++ n) ++ (pairBytes (e .pair) ++ z) = eb ∙ (packed-mid xs e ys m refl ∙ (ap (λ (w : List ℕ). entryRows xs ++ ((w ++ pairBytes (e .pair)) ++ z)) en ∙ (ap (λ (w : List ℕ). entryRows xs ++ w) (append-assoc n (pairBytes (e .pair)) z) ∙ sym (append-assoc (entryRows xs) n (pairBytes (e .pair) ++ z))))) in
+    let l : length (entryRows xs ++ n) ≡ at = omega (arith, length-append (entryRows xs) n, rows-long xs (named-front xs (e ∷ ys) h)) in
+    ap (λ (x : List ℕ). sets x at (pairBytes p)) c ∙ (sets-mid (entryRows xs ++ n) (pairBytes (e .pair)) z (pairBytes p) at l (pair-long p ∙ sym (pair-long (e .pair))) ∙ (append-assoc (entryRows xs) n (pairBytes p ++ z) ∙ (ap (λ (x : List ℕ). entryRows xs ++ x) (sym (append-assoc n (pairBytes p) z)) ∙ sym (packed-mid xs (record { name = n; pair = p }) ys m f))))
 
 pub take-zeros : (a b : ℕ) → a ≤ b → take a (replicate b 0) ≡ replicate {A = ℕ} a 0
 take-zeros a b h =
@@ -214,30 +214,30 @@ take-zeros a b h =
     ap (λ (k : ℕ). take a (replicate k 0)) (sym e) ∙ (ap (take a) (sym (replicate-append-replicate {A = ℕ} a (b - a) 0)) ∙ take-at {A = ℕ} (replicate a 0) (replicate (b - a) 0) a (length-replicate {A = ℕ} a 0))
 
 pub set-gap : (bs : List ℕ) (xs ys : List Entry) (n : List ℕ) (p : Pair) (at : ℕ) → Named (xs ++ ys) → length (xs ++ ys) < 32 → bs ≡ packed (xs ++ ys) → at ≡ length xs * 32
-    → take at bs ++ (row n p ++ take (992 - at) (drop at bs)) ≡ packed (xs ++ (record { name = n; pair = p } ∷ ys))
+    → take at bs ++ (entryRow n p ++ take (992 - at) (drop at bs)) ≡ packed (xs ++ (record { name = n; pair = p } ∷ ys))
 set-gap bs xs ys n p at h few eb ea =
     let m = 1024 - length (xs ++ ys) * 32 in
     let q = 992 - length (xs ++ ys) * 32 in
-    let z = rows ys ++ replicate m 0 in
+    let z = entryRows ys ++ replicate m 0 in
     let f : q ≡ 1024 - length (xs ++ (record { name = n; pair = p } ∷ ys)) * 32 = omega (arith, length-append xs ys, length-append xs (record { name = n; pair = p } ∷ ys)) in
-    let c : bs ≡ rows xs ++ z = eb ∙ packed-two xs ys m refl in
-    let l : length (rows xs) ≡ at = omega (arith, rows-long xs (named-front xs ys h)) in
-    let t : take at bs ≡ rows xs = ap (take at) c ∙ take-at (rows xs) z at l in
-    let d : drop at bs ≡ z = ap (drop at) c ∙ drop-at (rows xs) z at l in
-    let g : 992 - at ≡ length (rows ys) + q = omega (arith, rows-long ys (named-back xs ys h), length-append xs ys) in
-    let u : take (992 - at) (drop at bs) ≡ rows ys ++ replicate q 0 = rw (d, g) (take-append-add (rows ys) (replicate m 0) q ∙ ap (λ (x : List ℕ). rows ys ++ x) (take-zeros q m (omega arith))) in
-    ap (λ (x : List ℕ). x ++ (row n p ++ take (992 - at) (drop at bs))) t ∙ (ap (λ (x : List ℕ). rows xs ++ (row n p ++ x)) u ∙ sym (packed-mid xs (record { name = n; pair = p }) ys q f))
+    let c : bs ≡ entryRows xs ++ z = eb ∙ packed-two xs ys m refl in
+    let l : length (entryRows xs) ≡ at = omega (arith, rows-long xs (named-front xs ys h)) in
+    let t : take at bs ≡ entryRows xs = ap (take at) c ∙ take-at (entryRows xs) z at l in
+    let d : drop at bs ≡ z = ap (drop at) c ∙ drop-at (entryRows xs) z at l in
+    let g : 992 - at ≡ length (entryRows ys) + q = omega (arith, rows-long ys (named-back xs ys h), length-append xs ys) in
+    let u : take (992 - at) (drop at bs) ≡ entryRows ys ++ replicate q 0 = rw (d, g) (take-append-add (entryRows ys) (replicate m 0) q ∙ ap (λ (x : List ℕ). entryRows ys ++ x) (take-zeros q m (omega arith))) in
+    ap (λ (x : List ℕ). x ++ (entryRow n p ++ take (992 - at) (drop at bs))) t ∙ (ap (λ (x : List ℕ). entryRows xs ++ (entryRow n p ++ x)) u ∙ sym (packed-mid xs (record { name = n; pair = p }) ys q f))
 
 pub drop-here : (bs : List ℕ) (xs : List Entry) (e : Entry) (ys : List Entry) (at : ℕ) → Named (xs ++ (e ∷ ys)) → length (xs ++ (e ∷ ys)) ≤ 32 → bs ≡ packed (xs ++ (e ∷ ys)) → at ≡ length xs * 32
     → take at bs ++ (drop (at + 32) bs ++ replicate 32 0) ≡ packed (xs ++ ys)
 drop-here bs xs e ys at h few eb ea =
     let m = 1024 - length (xs ++ (e ∷ ys)) * 32 in
-    let z = rows ys ++ replicate m 0 in
+    let z = entryRows ys ++ replicate m 0 in
     let f : m + 32 ≡ 1024 - length (xs ++ ys) * 32 = omega (arith, length-append xs ys, length-append xs (e ∷ ys)) in
-    let r = row (e .name) (e .pair) in
-    let c : bs ≡ rows xs ++ (r ++ z) = eb ∙ packed-mid xs e ys m refl in
-    let l : length (rows xs) ≡ at = omega (arith, rows-long xs (named-front xs (e ∷ ys) h)) in
-    let lr : length (rows xs ++ r) ≡ at + 32 = omega (arith, length-append (rows xs) r, row-long (e .name) (e .pair) (name-long (e .name) (named-back xs (e ∷ ys) h .0))) in
-    let t : take at bs ≡ rows xs = ap (take at) c ∙ take-at (rows xs) (r ++ z) at l in
-    let d : drop (at + 32) bs ≡ z = ap (drop (at + 32)) (c ∙ sym (append-assoc (rows xs) r z)) ∙ drop-at (rows xs ++ r) z (at + 32) lr in
-    rw (t, d) (ap (λ (x : List ℕ). rows xs ++ x) (append-assoc (rows ys) (replicate m 0) (replicate 32 0) ∙ ap (λ (x : List ℕ). rows ys ++ x) (replicate-append-replicate m 32 0)) ∙ sym (packed-two xs ys (m + 32) f))
+    let r = entryRow (e .name) (e .pair) in
+    let c : bs ≡ entryRows xs ++ (r ++ z) = eb ∙ packed-mid xs e ys m refl in
+    let l : length (entryRows xs) ≡ at = omega (arith, rows-long xs (named-front xs (e ∷ ys) h)) in
+    let lr : length (entryRows xs ++ r) ≡ at + 32 = omega (arith, length-append (entryRows xs) r, row-long (e .name) (e .pair) (name-long (e .name) (named-back xs (e ∷ ys) h .0))) in
+    let t : take at bs ≡ entryRows xs = ap (take at) c ∙ take-at (entryRows xs) (r ++ z) at l in
+    let d : drop (at + 32) bs ≡ z = ap (drop (at + 32)) (c ∙ sym (append-assoc (entryRows xs) r z)) ∙ drop-at (entryRows xs ++ r) z (at + 32) lr in
+    rw (t, d) (ap (λ (x : List ℕ). entryRows xs ++ x) (append-assoc (entryRows ys) (replicate m 0) (replicate 32 0) ∙ ap (λ (x : List ℕ). entryRows ys ++ x) (replicate-append-replicate m 32 0)) ∙ sym (packed-two xs ys (m + 32) f))

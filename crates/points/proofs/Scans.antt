@@ -1,21 +1,20 @@
 -- The loops over entries: what is left to look at, from here, gives the answer.
 use mathlib.Core.Path.{_≡_, refl, sym, ap, _∙_}
 use mathlib.Core.Bool.{Bool, true, false}
-use mathlib.Core.List.{List, [], _∷_, _++_}
+use mathlib.Core.List.{List}
 use Prim.Native.Nat.{ℕ, zero, suc, _+_, _-_, _*_, _<_, _≤_}
-use native.Mathlib.Nat.{add-zero}
 use native.Mathlib.Omega.{arith}
-use lib.ListN.{length, getD, take, drop}
+use lib.ListN.{length, take, drop}
 use lib.Seq.{drop-drop}
 use borrow.Author.Tests.{eq-eqb, ne-eqb}
-use Rattle.logic.specs.Tests.{both, pick}
+use Rattle.logic.specs.Tests.{pick}
 use Rattle.entry.specs.declared.Order.{Order}
 use Rattle.entry.specs.declared.Order.the-variants.{Less, Same, More}
-use Rattle.points.specs.declared.Counted.the-variants.{Entries, NoStore}
+use Rattle.points.specs.declared.Occupied.the-variants.{Entries, NoStore}
 use Rattle.points.specs.declared.Place.the-variants.{Here, Gap}
-use Rattle.entry.specs.Names.{spelt, compareTo, isLess, before}
+use Rattle.entry.specs.Names.{nameSpelt, compareTo, isLess, before}
 use Rattle.entry.specs.Bytes.{zeros}
-use Rattle.points.specs.Stores.{nameAt, nameBefore, rises, entryOf, entriesOf, countFrom, countOf, byOrder, findIn}
+use Rattle.points.specs.Stores.{nameAt, nameBefore, rises, entryOf, entriesOf, countFrom, entryCount, byOrder, findIn}
 use Rattle.entry.proofs.Leaves.{part-first}
 
 -- ---- a name after the one before it
@@ -35,29 +34,29 @@ next-piece s k = let e : k * 32 + 32 ≡ (k + 1) * 32 = omega arith in drop-drop
 
 module _ (s : List ℕ) where
   unfoldable pub Counting : ℕ → Type 0
-  Counting k = countFrom (32 - k) k (nameBefore s k) (drop (k * 32) s) ≡ countOf s
+  Counting k = countFrom (32 - k) k (nameBefore s k) (drop (k * 32) s) ≡ entryCount s
 
-  pub count-long : (length s ≡ 1024 → ⊥) → NoStore ≡ countOf s
-  unfolding countOf pick
+  pub count-long : (length s ≡ 1024 → ⊥) → NoStore ≡ entryCount s
+  unfolding entryCount pick
   count-long n = rw (ne-eqb (length s) 1024 n)
 
   pub count-start : length s ≡ 1024 → Counting 0
-  unfolding Counting countOf pick nameBefore
+  unfolding Counting entryCount pick nameBefore
   count-start e = rw (eq-eqb (length s) 1024 e)
 
-  module _ (k : ℕ) (h : k < 32) (inv : Counting k) (t : Bool) (et : t ≡ spelt (take 8 (drop (k * 32) s))) where
+  module _ (k : ℕ) (h : k < 32) (inv : Counting k) (t : Bool) (et : t ≡ nameSpelt (take 8 (drop (k * 32) s))) where
     less : 32 - k ≡ suc (32 - (k + 1))
     less = omega arith
 
-    pub count-zero : t ≡ false → (z : Bool) → z ≡ zeros (drop (k * 32) s) → z ≡ true → Entries k ≡ countOf s
+    pub count-zero : t ≡ false → (z : Bool) → z ≡ zeros (drop (k * 32) s) → z ≡ true → Entries k ≡ entryCount s
     unfolding Counting countFrom pick
     count-zero f z ez y = rw (less, ← et, f, ← ez, y) at inv
 
-    pub count-none : t ≡ false → (z : Bool) → z ≡ zeros (drop (k * 32) s) → z ≡ false → NoStore ≡ countOf s
+    pub count-none : t ≡ false → (z : Bool) → z ≡ zeros (drop (k * 32) s) → z ≡ false → NoStore ≡ entryCount s
     unfolding Counting countFrom pick
     count-none f z ez y = rw (less, ← et, f, ← ez, y) at inv
 
-    pub count-fall : t ≡ true → (z : Bool) → z ≡ rises s k → z ≡ false → NoStore ≡ countOf s
+    pub count-fall : t ≡ true → (z : Bool) → z ≡ rises s k → z ≡ false → NoStore ≡ entryCount s
     unfolding Counting countFrom pick rises nameAt
     count-fall f z ez y = rw (less, ← et, f, ← ez, y) at inv
 
@@ -68,7 +67,7 @@ module _ (s : List ℕ) where
         let i = rw (less, ← et, f, ← ez, y, next-piece s k) at inv in
         rw e (rw e at i)
 
-  pub count-end : (k : ℕ) → 32 ≤ k → Counting k → Entries k ≡ countOf s
+  pub count-end : (k : ℕ) → 32 ≤ k → Counting k → Entries k ≡ entryCount s
   unfolding Counting countFrom
   count-end k h inv = let z : 32 - k ≡ 0 = omega arith in rw z at inv
 

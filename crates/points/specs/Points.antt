@@ -9,7 +9,7 @@ use Rattle.sets.specs.declared.Pair.{Pair}
 use Rattle.answers.specs.Operations.{Told}
 use Rattle.answers.specs.Operations.Told.{told, turned}
 use Rattle.entry.specs.Names.{Spelt, Precedes}
-use Rattle.entry.specs.Bytes.{row}
+use Rattle.entry.specs.Bytes.{entryRow}
 
 -- ---- a store
 -- A name with its pair.
@@ -18,12 +18,12 @@ pub record Entry : Type 0 where
   pub pair : Pair
 
 -- The bytes of entries; the store of entries: packed from the start, zeros behind.
-unfoldable pub rows : List Entry → List ℕ
-rows [] = []
-rows (e ∷ es) = row (e .name) (e .pair) ++ rows es
+unfoldable pub entryRows : List Entry → List ℕ
+entryRows [] = []
+entryRows (e ∷ es) = entryRow (e .name) (e .pair) ++ entryRows es
 
 unfoldable pub packed : List Entry → List ℕ
-packed es = rows es ++ replicate (1024 - length es * 32) 0
+packed es = entryRows es ++ replicate (1024 - length es * 32) 0
 
 -- In strictly ascending order of name: each comes before all that follow it.
 abbrev pub Ascending : List Entry → Type 0
@@ -53,7 +53,7 @@ Absent es n = (p : Pair) → Under es n p → ⊥
 
 -- ---- the operations
 -- The answer x of an operation on a store and a name: 24 where the bytes are no store, first of all; then 25 where the name is misspelt; else the
--- bytes are the store of some entries, the name is spelt as it should be, and x is right of the entries.
+-- bytes are the store of some entries, the name is nameSpelt as it should be, and x is right of the entries.
 pub data OfStore {A : Type 0} (right : List Entry → Told A → Type 0) (bs n : List ℕ) : Told A → Type 0 where
   no-store : ((es : List Entry) → Store bs es → ⊥) → OfStore right bs n (turned 24 0)
   misspelt : (es : List Entry) → Store bs es → (Spelt n → ⊥) → OfStore right bs n (turned 25 0)

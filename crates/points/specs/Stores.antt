@@ -1,23 +1,23 @@
 -- What Set, Go and Drop answer, computed: how the bytes of a store are read, what is made of the entries, and the refusals in their order. That this
 -- is what Points says is proved in proofs/Means.
-use Prim.Native.Nat.{ℕ, zero, suc, _+_, _*_, _-_, _<_, _≤_, _^_}
-use mathlib.Core.Bool.{Bool, true, false}
-use mathlib.Core.List.{List, [], _∷_, _++_}
+use Prim.Native.Nat.{ℕ, zero, suc, _*_, _-_}
+use mathlib.Core.Bool.{Bool}
+use mathlib.Core.Option.{Option, some, none}
+use mathlib.Core.List.{List, [], _∷_}
 use mathlib.Core.Path.{_≡_}
 use lib.Dec.{eqb}
-use lib.ListN.{length, take, drop, replicate}
-use Rattle.logic.specs.Lists.{Every}
-use Rattle.logic.specs.Tests.{pick, both}
+use lib.ListN.{length, take, drop}
+use Rattle.logic.specs.Tests.{pick}
 use Rattle.sets.specs.declared.Pair.{Pair}
 use Rattle.answers.specs.Operations.{Told}
 use Rattle.answers.specs.Operations.Told.{told, turned}
-use Rattle.points.specs.Points.{Entry, packed, Fits, OfStore, leaves}
-use Rattle.entry.specs.Names.{spelt, isName, before, compareTo, same}
-use Rattle.entry.specs.Bytes.{row, pairBytes, pairOf, zeros}
+use Rattle.points.specs.Points.{Entry, OfStore, leaves}
+use Rattle.entry.specs.Names.{nameSpelt, isName, before, compareTo, sameName}
+use Rattle.entry.specs.Bytes.{pairOf, zeros}
 use Rattle.entry.specs.declared.Order.{Order}
 use Rattle.entry.specs.declared.Order.the-variants.{Less, Same, More}
-use Rattle.points.specs.declared.Counted.{Counted}
-use Rattle.points.specs.declared.Counted.the-variants.{Entries, NoStore}
+use Rattle.points.specs.declared.Occupied.{Occupied}
+use Rattle.points.specs.declared.Occupied.the-variants.{Entries, NoStore}
 use Rattle.points.specs.declared.Place.{Place}
 use Rattle.points.specs.declared.Place.the-variants.{Here, Gap}
 use Rattle.points.specs.declared.Located.{Located}
@@ -26,20 +26,6 @@ use Rattle.points.specs.declared.Went.{Went}
 use Rattle.points.specs.declared.Went.the-variants.{Point, Refused as NotGone}
 use Rattle.points.specs.declared.Kept.{Kept}
 use Rattle.points.specs.declared.Kept.the-variants.{Done, Refused}
-
--- ---- what a store is, by tests
--- Strictly ascending, the first after a.
-unfoldable pub Rising : List ℕ → List Entry → Type 0
-Rising a [] = Unit {0}
-Rising a (e ∷ es) = (before a (e .name) ≡ true) × Rising (e .name) es
-
--- The bytes are the store of these entries.
-pub record Tested (bs : List ℕ) (es : List Entry) : Type 0 where
-  pub bytes : bs ≡ packed es
-  pub few : length es ≤ 32
-  pub named : Every (λ (e : Entry). isName (e .name) ≡ true) es
-  pub rising : Rising [] es
-  pub fits : Every (λ (e : Entry). Fits (e .pair)) es
 
 -- ---- how bytes are read
 -- The name of entry k, the name of the entry before it, and that it is greater. Nothing comes before the first.
@@ -62,34 +48,30 @@ entriesOf zero bs = []
 entriesOf (suc m) bs = entryOf bs ∷ entriesOf m (drop 32 bs)
 
 -- m pieces, after k entries of which a is the last name: a name that rises is one more entry; else all must be zeros.
-unfoldable pub countFrom : ℕ → ℕ → List ℕ → List ℕ → Counted
+unfoldable pub countFrom : ℕ → ℕ → List ℕ → List ℕ → Occupied
 countFrom zero k a bs = Entries k
-countFrom (suc m) k a bs = pick (spelt (take 8 bs)) (pick (before a (take 8 bs)) (countFrom m (suc k) (take 8 bs) (drop 32 bs)) NoStore) (pick (zeros bs) (Entries k) NoStore)
+countFrom (suc m) k a bs = pick (nameSpelt (take 8 bs)) (pick (before a (take 8 bs)) (countFrom m (suc k) (take 8 bs) (drop 32 bs)) NoStore) (pick (zeros bs) (Entries k) NoStore)
 
-unfoldable pub countOf : List ℕ → Counted
-countOf bs = pick (eqb (length bs) 1024) (countFrom 32 0 [] bs) NoStore
+unfoldable pub entryCount : List ℕ → Occupied
+entryCount bs = pick (eqb (length bs) 1024) (countFrom 32 0 [] bs) NoStore
 
 -- What bytes hold: the entries of a store, or nothing.
-pub data Held : Type 0 where
-  holds : List Entry → Held
-  nothing : Held
+pub data Contents : Type 0 where
+  holds : List Entry → Contents
+  nothing : Contents
 
-unfoldable pub heldOf : Counted → List ℕ → Held
+unfoldable pub heldOf : Occupied → List ℕ → Contents
 heldOf (Entries k) bs = holds (entriesOf k bs)
 heldOf NoStore bs = nothing
 
-unfoldable pub storeOf : List ℕ → Held
-storeOf bs = heldOf (countOf bs) bs
+unfoldable pub storeOf : List ℕ → Contents
+storeOf bs = heldOf (entryCount bs) bs
 
 -- ---- names in lists of entries
 -- The pair under a name, or none.
-pub data Maybe : Type 0 where
-  some : Pair → Maybe
-  none : Maybe
-
-unfoldable pub lookup : List Entry → List ℕ → Maybe
+unfoldable pub lookup : List Entry → List ℕ → Option Pair
 lookup [] n = none
-lookup (e ∷ es) n = pick (same (e .name) n) (some (e .pair)) (lookup es n)
+lookup (e ∷ es) n = pick (sameName (e .name) n) (some (e .pair)) (lookup es n)
 
 -- By the order of e's name and the new one.
 unfoldable pub byOrder : {A : Type 0} → Order → A → A → A → A
@@ -104,7 +86,7 @@ setIn (e ∷ es) n p = byOrder (compareTo (e .name) n) (e ∷ setIn es n p) (rec
 
 unfoldable pub dropIn : List Entry → List ℕ → List Entry
 dropIn [] n = []
-dropIn (e ∷ es) n = pick (same (e .name) n) es (e ∷ dropIn es n)
+dropIn (e ∷ es) n = pick (sameName (e .name) n) es (e ∷ dropIn es n)
 
 -- Where a name is, entries counted from i.
 unfoldable pub findIn : List Entry → ℕ → List ℕ → Place
@@ -115,27 +97,27 @@ unfoldable pub locatedAt : ℕ → Place → Located
 locatedAt k (Here i) = At i
 locatedAt k (Gap i) = Before i k
 
-unfoldable pub locateIn : Counted → List ℕ → List ℕ → Located
+unfoldable pub locateIn : Occupied → List ℕ → List ℕ → Located
 locateIn NoStore bs n = Neither 24
 locateIn (Entries k) bs n = pick (isName n) (locatedAt k (findIn (entriesOf k bs) 0 n)) (Neither 25)
 
 -- ---- what the operations answer
-unfoldable pub ifThere : {A : Type 0} → Maybe → (Pair → A) → A → A
+unfoldable pub ifThere : {A : Type 0} → Option Pair → (Pair → A) → A → A
 ifThere (some p) f a = f p
 ifThere none f a = a
 
 -- 24, then 25 for a misspelt name, then what the entries give.
-unfoldable pub onStore : {A : Type 0} → Held → List ℕ → (List Entry → Told A) → Told A
+unfoldable pub onStore : {A : Type 0} → Contents → List ℕ → (List Entry → Told A) → Told A
 onStore nothing n f = turned 24 0
 onStore (holds es) n f = pick (isName n) (f es) (turned 25 0)
 
-unfoldable pub goTold : Held → List ℕ → Told Pair
+unfoldable pub goTold : Contents → List ℕ → Told Pair
 goTold h n = onStore h n (λ es. ifThere (lookup es n) told (turned 25 0))
 
-unfoldable pub setTold : Held → List ℕ → Pair → Told (List Entry)
+unfoldable pub setTold : Contents → List ℕ → Pair → Told (List Entry)
 setTold h n p = onStore h n (λ es. ifThere (lookup es n) (λ q. told (setIn es n p)) (pick (eqb (length es) 32) (turned 26 0) (told (setIn es n p))))
 
-unfoldable pub dropTold : Held → List ℕ → Told (List Entry)
+unfoldable pub dropTold : Contents → List ℕ → Told (List Entry)
 dropTold h n = onStore h n (λ es. ifThere (lookup es n) (λ q. told (dropIn es n)) (turned 25 0))
 
 -- The answers as the operations give them.

@@ -1,11 +1,11 @@
 // Named stopping points: a lent store of 1,024 bytes with up to 32 names, each with a pair.
 ghost use mathlib.Core.Path.{_≡_};
-ghost use mathlib.Core.List.{[], _∷_, _++_};
+ghost use mathlib.Core.List.{_++_};
 ghost use Prim.Native.Nat.{_+_, _*_, _-_, _<_, _≤_};
 ghost use lib.ListN.{length, drop, take, replicate};
-ghost use Rattle.entry.specs.Bytes.{row};
+ghost use Rattle.entry.specs.Bytes.{entryRow};
 ghost use Rattle.points.specs.Points.{OfStore, Goes, Sets, Drops};
-ghost use Rattle.points.specs.Stores.{rises as risesIn, countOf, entriesOf, findIn, locateIn, storeOf, goTold, setTold, dropTold, wentIs, wentTold, keptIs, Met, Meant};
+ghost use Rattle.points.specs.Stores.{rises as risesIn, entryCount, entriesOf, findIn, locateIn, storeOf, goTold, setTold, dropTold, wentIs, wentTold, keptIs, Met, Meant};
 use entry::Name;
 use entry::Order;
 use sets::Pair;
@@ -14,7 +14,7 @@ use text::Refusal;
 // ---- what the store's bytes are
 
 // How many entries a store has, or that the bytes are no store.
-pub enum Counted {
+pub enum Occupied {
     Entries(usize),
     NoStore,
 }
@@ -36,26 +36,26 @@ pub fn rises(s: &[u8], k: usize) -> bool
 }
 
 // The entries of a store, counted; every byte is looked at.
-pub fn entries(store: &[u8]) -> Counted
-    ensures { λ r. ⌜ r ≡ countOf (now (store .entry)) ⌝ }
+pub fn entries(store: &[u8]) -> Occupied
+    ensures { λ r. ⌜ r ≡ entryCount (now (store .entry)) ⌝ }
 {
     if store.len() != 1024 {
-        return Counted::NoStore;
+        return Occupied::NoStore;
     }
     let mut k = 0;
     while k < 32 {
         if !entry::is_name(store, k * 32) {
             if entry::is_zero(store, k * 32) {
-                return Counted::Entries(k);
+                return Occupied::Entries(k);
             }
-            return Counted::NoStore;
+            return Occupied::NoStore;
         }
         if !rises(store, k) {
-            return Counted::NoStore;
+            return Occupied::NoStore;
         }
         k += 1;
     }
-    Counted::Entries(k)
+    Occupied::Entries(k)
 }
 
 // ---- where a name is
@@ -98,12 +98,12 @@ pub enum Located {
 // The store first, then the name.
 pub fn locate(store: &[u8], name: &[u8]) -> Located
     requires { ⌜ length (now name) ≡ 8 ⌝ }
-    ensures { λ r. ⌜ r ≡ locateIn (countOf (now (store .entry))) (now (store .entry)) (now (name .entry)) ⌝ }
+    ensures { λ r. ⌜ r ≡ locateIn (entryCount (now (store .entry))) (now (store .entry)) (now (name .entry)) ⌝ }
 {
     let c = entries(store);
     match c {
-        Counted::NoStore => Located::Neither(24),
-        Counted::Entries(k) => {
+        Occupied::NoStore => Located::Neither(24),
+        Occupied::Entries(k) => {
             if !entry::is_name(name, 0) {
                 return Located::Neither(25);
             }
@@ -118,10 +118,10 @@ pub fn locate(store: &[u8], name: &[u8]) -> Located
 
 // ---- entries put in and taken out
 
-// An entry put at a place, what was there and behind it moved up by one entry; the last entry's bytes are lost.
+// An entry put at a place, what was there and behind it moved by one entry towards the end; the last entry's bytes are lost.
 pub fn insert(store: &mut [u8], at: usize, name: &[u8; 8], p: Pair)
     requires { ⌜ (length (now store) ≡ 1024) × (at + 32 ≤ 1024) ⌝ }
-    ensures { λ r. ⌜ now (store .exit) ≡ take at (now (store .entry)) ++ (row (now (name .entry)) p ++ take (992 - at) (drop at (now (store .entry)))) ⌝ }
+    ensures { λ r. ⌜ now (store .exit) ≡ take at (now (store .entry)) ++ (entryRow (now (name .entry)) p ++ take (992 - at) (drop at (now (store .entry)))) ⌝ }
 {
     let mut old = [0u8; 1024];
     entry::copy(&mut old, 0, store, 0, 1024);
@@ -130,7 +130,7 @@ pub fn insert(store: &mut [u8], at: usize, name: &[u8; 8], p: Pair)
     entry::put_pair(store, at + 8, p);
 }
 
-// The entry at a place taken out, what is behind it moved down, zeros at the end.
+// The entry at a place taken out, what is behind it moved by one entry towards the start, zeros at the end.
 pub fn remove(store: &mut [u8], at: usize)
     requires { ⌜ (length (now store) ≡ 1024) × (at + 32 ≤ 1024) ⌝ }
     ensures { λ r. ⌜ now (store .exit) ≡ take at (now (store .entry)) ++ (drop (at + 32) (now (store .entry)) ++ replicate 32 0) ⌝ }

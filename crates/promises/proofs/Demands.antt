@@ -1,8 +1,9 @@
--- The three demands, about the engine's own functions and about those for C, for every input. What a function meets is its contract, which says
--- its full answer and what it leaves in each lent slice, and that it ends: `F.statement`, proved as `F.met`. Beside the contracts stand laws about
--- the definitions that they name, so that a reader need believe no more than those of the documents.
+-- The three demands, and request (h) of document 02, about the engine's own functions and about those for C, for every input. What a function meets is
+-- its contract, which says its full answer and what it leaves in each lent slice, and that it ends: `F.statement`, proved as `F.met`. Beside the
+-- contracts stand laws about the definitions that they name, so that a reader need believe no more than those of the documents.
 use mathlib.Core.Path.{_≡_, refl}
 use mathlib.Core.Bool.{true}
+use mathlib.Core.Option.{some}
 use mathlib.Core.List.{List, [], _∷_}
 use mathlib.Core.Logic.{_↔_}
 use Prim.Native.Nat.{ℕ, suc, _/_}
@@ -54,14 +55,15 @@ use Rattle.operations.proofs.page_after.Met as page-after-met
 use Rattle.calls.proofs.Demand3 as engine
 use Rattle.listing.proofs.Whole as ways
 use Rattle.bantameasel.proofs.Demand3 as across
-use Rattle.entry.specs.Names.{Spelt, Precedes, isName, before}
+use Rattle.entry.specs.Names.{Spelt, Precedes, isName, before, sameName}
 use Rattle.entry.specs.Bytes.{AreBytes}
+use Rattle.entry.proofs.Orders.{same-iff}
 use Rattle.entry.proofs.Spelling.{name-iff, before-iff}
-use Rattle.points.specs.Points.{Entry, Fits, Store, OfStore, Goes, Sets, Drops, leaves}
-use Rattle.points.specs.Stores.{holds, storeOf, some, goTold, setTold, dropTold}
-use Rattle.points.specs.Calls.{PointCall, Note, lastSet, answersTo, rememberedAll, notesAfter, leftByAll, Sized, LeftBy}
+use Rattle.points.specs.Points.{Entry, Fits, Store, OfStore, Goes, Sets, Drops}
+use Rattle.points.specs.Stores.{holds, storeOf, goTold, setTold, dropTold}
+use Rattle.points.specs.Calls.{PointCall, Note, lastSet, names, pointAnswer, pointAnswers, rememberedAll, notesAfter, leftBy, leftByAll, Sized, LeftBy}
 use Rattle.points.proofs.Means.{store-iff, go-means, set-means, drop-means}
-use Rattle.points.proofs.Memory.{all-remembered, last-set}
+use Rattle.points.proofs.Memory.{all-remembered, last-set, names-counted, refused-changes-nothing}
 use Rattle.visits.specs.GoingOn.{goOnAnswer}
 use Rattle.visits.proofs.Gone.{goes-on}
 use Rattle.visits.proofs.Claim as points
@@ -156,13 +158,15 @@ pub record DemandThree : Type 0 where
 pub record PointsKept : Type 0 where
   pub spelling : (n : List ℕ) → (isName n ≡ true) ↔ Spelt n
   pub order : (a b : List ℕ) → length a ≡ length b → (before a b ≡ true) ↔ Precedes a b
+  pub equal-names : (a b : List ℕ) → (sameName a b ≡ true) ↔ (a ≡ b)
   pub stores : (bs : List ℕ) (es : List Entry) → AreBytes bs → (storeOf bs ≡ holds es) ↔ Store bs es
   pub go-right : (bs n : List ℕ) → AreBytes bs → (x : Told Pair) → (x ≡ goTold (storeOf bs) n) ↔ OfStore (Goes n) bs n x
   pub set-right : (bs n : List ℕ) (p : Pair) → AreBytes bs → Fits p → (x : Told (List Entry)) → (x ≡ setTold (storeOf bs) n p) ↔ OfStore (Sets n p) bs n x
   pub drop-right : (bs n : List ℕ) → AreBytes bs → (x : Told (List Entry)) → (x ≡ dropTold (storeOf bs) n) ↔ OfStore (Drops n) bs n x
-  pub refused-untouched : (bs : List ℕ) (q line : ℕ) → leaves bs (turned q line) ≡ bs
+  pub refused-untouched : (bs : List ℕ) (c : PointCall) (q line : ℕ) → pointAnswer bs c ≡ turned q line → leftBy bs c ≡ bs
   pub remembers : (cs : List PointCall) (h : List Note) (bs : List ℕ) → LeftBy h bs → Every Sized cs
-      → (answersTo bs cs ≡ rememberedAll h cs) × LeftBy (notesAfter h cs) (leftByAll bs cs)
+      → (pointAnswers bs cs ≡ rememberedAll h cs) × LeftBy (notesAfter h cs) (leftByAll bs cs)
+  pub names-counted : (h : List Note) (bs : List ℕ) (es : List Entry) → LeftBy h bs → Store bs es → length es ≡ names h
   pub last-set : (h : List Note) (bs n : List ℕ) (p : Pair) → LeftBy h bs → lastSet n h ≡ some p → goTold (storeOf bs) n ≡ told p
   pub goes-on : (h : List Note) (text store n : List ℕ) (p : Pair) → LeftBy h store → lastSet n h ≡ some p → Means refused FirstLater text (at p) (goOnAnswer text store n)
 
@@ -174,7 +178,7 @@ pub record Demands (M : Type 1) : Type 2 where
   pub points-kept : PointsKept
 
 pub demands : {M : Type 1} → Demands M
-unfolding readInto writeInto left leaves asks
+unfolding readInto writeInto left asks
 demands = record {
   contracts = record {
     read-meets = read-met.met;
@@ -228,12 +232,14 @@ demands = record {
   points-kept = record {
     spelling = name-iff;
     order = before-iff;
+    equal-names = same-iff;
     stores = store-iff;
     go-right = go-means;
     set-right = set-means;
     drop-right = drop-means;
-    refused-untouched = λ bs q line. refl;
+    refused-untouched = refused-changes-nothing;
     remembers = all-remembered;
+    names-counted = names-counted;
     last-set = last-set;
     goes-on = goes-on;
   };

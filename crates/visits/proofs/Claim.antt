@@ -1,5 +1,5 @@
 -- Request (h), whole, about the engine's own Set, Go and Drop: what these functions are proved to meet, and the function that makes any list of calls
--- through them (the promise is its contract: `Keeping`, and in it `Keeps`); and going on from a name, by one step and with a whole listing.
+-- through them (the promise is its contract: `Keeping`, and in it `KeptAll`); and going on from a name, by one step and with a whole listing.
 use Rattle.points.proofs.set_point.Statement as set-point
 use Rattle.points.proofs.set_point.Met as set-point-met
 use Rattle.points.proofs.go_to.Statement as go-to

@@ -1,6 +1,7 @@
 -- Going on from a name: the two ways, one step and a whole listing.
 use mathlib.Core.Path.{_≡_, refl, sym, ap, _∙_}
 use mathlib.Core.Bool.{Bool, true, false}
+use mathlib.Core.Option.{some}
 use mathlib.Core.List.{List}
 use Prim.Native.Nat.{ℕ}
 use Rattle.logic.proofs.Decide.{clash}
@@ -20,9 +21,9 @@ use Rattle.calls.specs.declared.Calling.the-variants.{Refused as NotMade}
 use Rattle.calls.specs.Calls.{asPoint, Runs}
 use Rattle.points.specs.declared.Went.{Went}
 use Rattle.points.specs.declared.Went.the-variants.{Point, Refused}
-use Rattle.points.specs.Stores.{some, goTold, storeOf, wentIs}
+use Rattle.points.specs.Stores.{goTold, storeOf, wentIs}
 use Rattle.points.specs.Calls.{Note, lastSet, LeftBy}
-use Rattle.visits.specs.GoingOn.{onGone, goOnAnswer, Listed, Stayed, ListsOn}
+use Rattle.visits.specs.GoingOn.{onGone, goOnAnswer, ListsOn}
 use Rattle.points.proofs.Memory.{last-set}
 
 unfoldable isPoint : Went → Bool

@@ -1,13 +1,14 @@
 -- Lists of calls as bytes, made one after the other: what each call leaves, what one call more leaves, and all of them.
 use mathlib.Core.Path.{_≡_, refl, sym, ap, _∙_}
 use mathlib.Core.Bool.{Bool, true, false}
+use mathlib.Core.Option.{some, none}
 use mathlib.Core.List.{List, [], _∷_, _++_, append-nil}
 use Prim.Native.Nat.{ℕ, zero, suc, _+_, _*_, _/_, _%_, _<_, _≤_}
 use native.Mathlib.Nat.{div-mul-le-self}
 use native.Mathlib.Numerals.{add-one}
 use native.Mathlib.Omega.{arith}
 use lib.Dec.{eqb, ltb}
-use lib.ListN.{length, getD, take, length-drop, length-append, drop as skip}
+use lib.ListN.{length, getD, take, length-drop, drop}
 use lib.Seq.{sets}
 use borrow.Author.Tests.{lt-ltb, le-ltb, ltb-false, eq-eqb, ne-eqb}
 use Rattle.logic.specs.Lists.{Every}
@@ -28,10 +29,10 @@ use Rattle.points.specs.declared.Kept.the-variants.{Done, Refused}
 use Rattle.points.specs.declared.Went.{Went}
 use Rattle.points.specs.declared.Went.the-variants.{Point, Refused as NotGone}
 use Rattle.points.specs.Points.{Entry, Fits}
-use Rattle.points.specs.Stores.{Maybe, some, none, storeOf, goTold, setTold, dropTold, wentIs, keptIs, Met}
+use Rattle.points.specs.Stores.{storeOf, goTold, setTold, dropTold, wentIs, keptIs, Met}
 use Rattle.points.proofs.Packed.{pair-fits}
-use Rattle.points.specs.Calls.{PointCall, set, go, drop, PointAnswer, given, answerTo, leftBy, keptAnswer, wentAnswer, answersTo, leftByAll, Sized}
-use Rattle.visits.specs.Visits.{pointCallOf, pointCallAt, pointCallsFrom, pointCalls, asAnswer, asAnswers, Visited, Keeps, keepRefusal}
+use Rattle.points.specs.Calls.{PointCall, dropPoint, PointAnswer, given, pointAnswer, leftBy, keptAnswer, wentAnswer, pointAnswers, leftByAll, Sized}
+use Rattle.visits.specs.Visits.{pointCallOf, pointCallAt, pointCallsFrom, pointCalls, asAnswer, asAnswers, Visited, KeptAll, keepRefusal}
 use Rattle.points.proofs.Memory.{all-remembered}
 
 -- ---- answers put down
@@ -62,7 +63,7 @@ unfolding wentAnswer wentIs given
 went-given (told p) = refl
 went-given (turned q line) = refl
 
-drop-kind : (b : ℕ) (n : List ℕ) (p : Pair) → (b ≡ 0 → ⊥) → (b ≡ 1 → ⊥) → pointCallOf b n p ≡ drop n
+drop-kind : (b : ℕ) (n : List ℕ) (p : Pair) → (b ≡ 0 → ⊥) → (b ≡ 1 → ⊥) → pointCallOf b n p ≡ dropPoint n
 unfolding pointCallOf
 drop-kind zero n p y z = absurd (y refl)
 drop-kind (suc zero) n p y z = absurd (z refl)
@@ -70,30 +71,30 @@ drop-kind (suc (suc b)) n p y z = refl
 
 -- ---- one call
 module _ (ns : List ℕ) (k : ℕ) (bs bs′ ans ans′ : List ℕ) where
-  one : leftBy bs (pointCallAt ns k) ≡ bs′ → (a : PointAnswer) → a ≡ answerTo bs (pointCallAt ns k) → ans′ ≡ sets ans (k * 4) (row (asAnswer a)) → Visited ns k 1 bs bs′ ans ans′
-  unfolding pointCallsFrom leftByAll answersTo asAnswers rows
+  one : leftBy bs (pointCallAt ns k) ≡ bs′ → (a : PointAnswer) → a ≡ pointAnswer bs (pointCallAt ns k) → ans′ ≡ sets ans (k * 4) (row (asAnswer a)) → Visited ns k 1 bs bs′ ans ans′
+  unfolding pointCallsFrom leftByAll pointAnswers asAnswers rows
   one l a e f = record { store = sym l; answers = rw (← e, append-nil (row (asAnswer a))) f }
 
-  module _ (b : ℕ) (eb : b ≡ getD ns (k * 33) 0) (n : List ℕ) (en : n ≡ take 8 (skip (k * 33 + 1) ns)) where
-    pub set-called : b ≡ 0 → (p : Pair) → p ≡ pairOf (skip (k * 33 + 9) ns) → (r : Kept) → Met bs (setTold (storeOf bs) n p) r bs′ → ans′ ≡ sets ans (k * 4) (row (asAnswer (keptAnswer r))) → Visited ns k 1 bs bs′ ans ans′
-    unfolding pointCallAt pointCallOf leftBy answerTo
+  module _ (b : ℕ) (eb : b ≡ getD ns (k * 33) 0) (n : List ℕ) (en : n ≡ take 8 (drop (k * 33 + 1) ns)) where
+    pub set-called : b ≡ 0 → (p : Pair) → p ≡ pairOf (drop (k * 33 + 9) ns) → (r : Kept) → Met bs (setTold (storeOf bs) n p) r bs′ → ans′ ≡ sets ans (k * 4) (row (asAnswer (keptAnswer r))) → Visited ns k 1 bs bs′ ans ans′
+    unfolding pointCallAt pointCallOf leftBy pointAnswer
     set-called z p ep r m f =
         let w : getD ns (k * 33) 0 ≡ 0 = sym eb ∙ z in
         let t = setTold (storeOf bs) n p in
         one (rw (w, ← en, ← ep) (sym (m .store))) (keptAnswer r) (rw (w, ← en, ← ep) (ap keptAnswer (m .answer) ∙ kept-given t)) f
 
     pub go-called : b ≡ 1 → (r : Went) → r ≡ wentIs (goTold (storeOf bs) n) → bs′ ≡ bs → ans′ ≡ sets ans (k * 4) (row (asAnswer (wentAnswer r))) → Visited ns k 1 bs bs′ ans ans′
-    unfolding pointCallAt pointCallOf leftBy answerTo
+    unfolding pointCallAt pointCallOf leftBy pointAnswer
     go-called z r m g f =
         let w : getD ns (k * 33) 0 ≡ 1 = sym eb ∙ z in
         one (rw w (sym g)) (wentAnswer r) (rw (w, ← en) (ap wentAnswer m ∙ went-given (goTold (storeOf bs) n))) f
 
-    is-drop : (b ≡ 0 → ⊥) → (b ≡ 1 → ⊥) → pointCallAt ns k ≡ drop n
+    is-drop : (b ≡ 0 → ⊥) → (b ≡ 1 → ⊥) → pointCallAt ns k ≡ dropPoint n
     unfolding pointCallAt
-    is-drop y z = rw (← eb, ← en) (drop-kind b n (pairOf (skip (k * 33 + 9) ns)) y z)
+    is-drop y z = rw (← eb, ← en) (drop-kind b n (pairOf (drop (k * 33 + 9) ns)) y z)
 
     pub drop-called : (b ≡ 0 → ⊥) → (b ≡ 1 → ⊥) → (r : Kept) → Met bs (dropTold (storeOf bs) n) r bs′ → ans′ ≡ sets ans (k * 4) (row (asAnswer (keptAnswer r))) → Visited ns k 1 bs bs′ ans ans′
-    unfolding leftBy answerTo
+    unfolding leftBy pointAnswer
     drop-called y z r m f =
         let e = is-drop y z in
         one (rw e (sym (m .store))) (keptAnswer r) (rw e (ap keptAnswer (m .answer) ∙ kept-given (dropTold (storeOf bs) n))) f
@@ -104,13 +105,13 @@ unfolding leftByAll
 left-append [] ds bs = refl
 left-append (c ∷ cs) ds bs = left-append cs ds (leftBy bs c)
 
-answers-append : (cs ds : List PointCall) (bs : List ℕ) → asAnswers (answersTo bs (cs ++ ds)) ≡ asAnswers (answersTo bs cs) ++ asAnswers (answersTo (leftByAll bs cs) ds)
-unfolding answersTo asAnswers leftByAll
+answers-append : (cs ds : List PointCall) (bs : List ℕ) → asAnswers (pointAnswers bs (cs ++ ds)) ≡ asAnswers (pointAnswers bs cs) ++ asAnswers (pointAnswers (leftByAll bs cs) ds)
+unfolding pointAnswers asAnswers leftByAll
 answers-append [] ds bs = refl
-answers-append (c ∷ cs) ds bs = ap (λ (l : List Answer). asAnswer (answerTo bs c) ∷ l) (answers-append cs ds (leftBy bs c))
+answers-append (c ∷ cs) ds bs = ap (λ (l : List Answer). asAnswer (pointAnswer bs c) ∷ l) (answers-append cs ds (leftBy bs c))
 
-answers-length : (cs : List PointCall) (bs : List ℕ) → length (asAnswers (answersTo bs cs)) ≡ length cs
-unfolding answersTo asAnswers
+answers-length : (cs : List PointCall) (bs : List ℕ) → length (asAnswers (pointAnswers bs cs)) ≡ length cs
+unfolding pointAnswers asAnswers
 answers-length [] bs = refl
 answers-length (c ∷ cs) bs = ap suc (answers-length cs (leftBy bs c))
 
@@ -126,7 +127,7 @@ calls-length ns (suc m) k = ap suc (calls-length ns m (suc k))
 
 module _ (ns bs ans : List ℕ) where
   pub made-none : Visited ns 0 0 bs bs ans ans
-  unfolding pointCallsFrom leftByAll answersTo asAnswers rows
+  unfolding pointCallsFrom leftByAll pointAnswers asAnswers rows
   made-none = record { store = refl; answers = refl }
 
   pub made-more : (k : ℕ) (bs₁ bs′ ans₁ ans′ : List ℕ) → Visited ns 0 k bs bs₁ ans ans₁ → Visited ns k 1 bs₁ bs′ ans₁ ans′ → Visited ns 0 (k + 1) bs bs′ ans ans′
@@ -135,9 +136,9 @@ module _ (ns bs ans : List ℕ) where
       let cs = pointCallsFrom ns 0 k in
       let ds = pointCallsFrom ns k 1 in
       let c : pointCallsFrom ns 0 (k + 1) ≡ cs ++ ds = rw (add-one k) (calls-more ns k 0 ∙ ap (λ (i : ℕ). pointCallsFrom ns 0 k ++ pointCallsFrom ns i 1) z) in
-      let us = asAnswers (answersTo bs cs) in
-      let vs = asAnswers (answersTo (leftByAll bs cs) ds) in
-      let w : asAnswers (answersTo bs (pointCallsFrom ns 0 (k + 1))) ≡ us ++ vs = rw c (answers-append cs ds bs) in
+      let us = asAnswers (pointAnswers bs cs) in
+      let vs = asAnswers (pointAnswers (leftByAll bs cs) ds) in
+      let w : asAnswers (pointAnswers bs (pointCallsFrom ns 0 (k + 1))) ≡ us ++ vs = rw c (answers-append cs ds bs) in
       let d : 0 * 4 + length (rows us) ≡ k * 4 = omega (arith, rows-length us, answers-length cs bs, calls-length ns k 0) in
       record {
         store = rw c (g .store ∙ ap (λ (l : List ℕ). leftByAll l ds) (f .store) ∙ sym (left-append cs ds bs));
@@ -159,23 +160,23 @@ calls-sized : (ns : List ℕ) → AreBytes ns → (m k : ℕ) → (k + m) * 33 �
 unfolding pointCallsFrom pointCallAt
 calls-sized ns h zero k l = tt
 calls-sized ns h (suc m) k l =
-    let d : 24 ≤ length (skip (k * 33 + 9) ns) = omega (arith, length-drop (k * 33 + 9) ns) in (
-      call-sized (getD ns (k * 33) 0) (take 8 (skip (k * 33 + 1) ns)) (pairOf (skip (k * 33 + 9) ns)) (pair-fits (skip (k * 33 + 9) ns) d (bytes-drop (k * 33 + 9) ns h)),
+    let d : 24 ≤ length (drop (k * 33 + 9) ns) = omega (arith, length-drop (k * 33 + 9) ns) in (
+      call-sized (getD ns (k * 33) 0) (take 8 (drop (k * 33 + 1) ns)) (pairOf (drop (k * 33 + 9) ns)) (pair-fits (drop (k * 33 + 9) ns) d (bytes-drop (k * 33 + 9) ns h)),
       calls-sized ns h m (suc k) (omega arith),
     )
 
 -- All calls made, in a slice with room for what they answer, are what `keep` promises.
-pub made-all : (ns bs ans bs′ ans′ : List ℕ) → AreBytes ns → length ns / 33 * 4 ≤ length ans → Visited ns 0 (length ns / 33) bs bs′ ans ans′ → Keeps (pointCalls ns) bs bs′ ans ans′
+pub made-all : (ns bs ans bs′ ans′ : List ℕ) → AreBytes ns → length ns / 33 * 4 ≤ length ans → Visited ns 0 (length ns / 33) bs bs′ ans ans′ → KeptAll (pointCalls ns) bs bs′ ans ans′
 unfolding pointCalls
 made-all ns bs ans bs′ ans′ h g f =
     let cs = pointCallsFrom ns 0 (length ns / 33) in
-    let us = asAnswers (answersTo bs cs) in
+    let us = asAnswers (pointAnswers bs cs) in
     let a : length (rows us) ≤ length ans = omega (arith, rows-length us, answers-length cs bs, calls-length ns (length ns / 33) 0) in
     let z = calls-sized ns h (length ns / 33) 0 (omega (arith, div-mul-le-self (length ns) 33)) in
     record {
       answers = f .answers ∙ over-sets ans (rows us) a;
       store = f .store;
-      promise = λ n l. let r = all-remembered cs n bs l z in (r .0, rw (f .store) (r .1));
+      promise = λ n l. let r = all-remembered cs n bs l z in (rw (← r .0) (f .answers ∙ over-sets ans (rows us) a), rw (f .store) (r .1));
     }
 
 -- ---- the refusal of a list

@@ -2,6 +2,7 @@
 -- After, and a listing, from the pair that Go gives.
 use Prim.Native.Nat.{ℕ}
 use mathlib.Core.Path.{_≡_}
+use mathlib.Core.Option.{some}
 use mathlib.Core.List.{List}
 use Rattle.sets.specs.declared.Pair.{Pair}
 use Rattle.meaning.specs.Order.{at}
@@ -9,9 +10,9 @@ use Rattle.meaning.specs.Listings.{Answer, refused}
 use Rattle.answers.specs.Operations.{Told, afterAnswer}
 use Rattle.answers.specs.Operations.Told.{told, turned}
 use Rattle.calls.specs.declared.Calling.{Calling}
-use Rattle.calls.specs.declared.Calling.the-variants.{Made, Refused}
+use Rattle.calls.specs.declared.Calling.the-variants.{Refused}
 use Rattle.calls.specs.Calls.{Runs}
-use Rattle.points.specs.Stores.{some, storeOf, goTold}
+use Rattle.points.specs.Stores.{storeOf, goTold}
 use Rattle.points.specs.Calls.{Note, lastSet, LeftBy}
 
 -- One step: the refusal of Go, or After with Go's pair.

@@ -2,9 +2,10 @@
 -- in points/specs/Calls.
 use Prim.Native.Nat.{ℕ, zero, suc, _+_, _*_, _/_, _%_}
 use mathlib.Core.Path.{_≡_}
+use mathlib.Core.Option.{some, none}
 use mathlib.Core.List.{List, [], _∷_}
 use lib.Dec.{eqb, ltb}
-use lib.ListN.{length, getD, take, drop as skip}
+use lib.ListN.{length, getD, take, drop}
 use lib.Seq.{sets}
 use Rattle.logic.specs.Tests.{pick}
 use Rattle.sets.specs.declared.Pair.{Pair}
@@ -15,17 +16,16 @@ use Rattle.calls.specs.Calls.{rows}
 use Rattle.entry.specs.Bytes.{pairOf}
 use Rattle.points.specs.declared.Kept.{Kept}
 use Rattle.points.specs.declared.Kept.the-variants.{Done, Refused}
-use Rattle.points.specs.Stores.{some, none}
-use Rattle.points.specs.Calls.{PointCall, set, go, drop, PointAnswer, answersTo, leftByAll, Note, rememberedAll, notesAfter, LeftBy}
+use Rattle.points.specs.Calls.{PointCall, setPoint, goTo, dropPoint, PointAnswer, pointAnswers, leftByAll, Note, rememberedAll, notesAfter, LeftBy}
 
 -- ---- a list of calls as bytes, 33 each: the kind (0 Set, 1 Go, any other Drop), then the name and the pair as in an entry
 unfoldable pub pointCallOf : ℕ → List ℕ → Pair → PointCall
-pointCallOf zero n p = set n p
-pointCallOf (suc zero) n p = go n
-pointCallOf (suc (suc k)) n p = drop n
+pointCallOf zero n p = setPoint n p
+pointCallOf (suc zero) n p = goTo n
+pointCallOf (suc (suc k)) n p = dropPoint n
 
 unfoldable pub pointCallAt : List ℕ → ℕ → PointCall
-pointCallAt ns k = pointCallOf (getD ns (k * 33) 0) (take 8 (skip (k * 33 + 1) ns)) (pairOf (skip (k * 33 + 9) ns))
+pointCallAt ns k = pointCallOf (getD ns (k * 33) 0) (take 8 (drop (k * 33 + 1) ns)) (pairOf (drop (k * 33 + 9) ns))
 
 unfoldable pub pointCallsFrom : List ℕ → ℕ → ℕ → List PointCall
 pointCallsFrom ns k zero = []
@@ -48,15 +48,15 @@ asAnswers (a ∷ as′) = asAnswer a ∷ asAnswers as′
 -- The m calls from call k on: the bytes of the store, and the slice of answers with the answers in their places.
 pub record Visited (ns : List ℕ) (k m : ℕ) (bs bs′ ans ans′ : List ℕ) : Type 0 where
   pub store : bs′ ≡ leftByAll bs (pointCallsFrom ns k m)
-  pub answers : ans′ ≡ sets ans (k * 4) (rows (asAnswers (answersTo bs (pointCallsFrom ns k m))))
+  pub answers : ans′ ≡ sets ans (k * 4) (rows (asAnswers (pointAnswers bs (pointCallsFrom ns k m))))
 
 -- The calls cs, made one after the other through Set, Go and Drop on the store bs: every answer, and the bytes at the end. And the promise: where bs
 -- is what noted calls have left from an empty store (with no notes: the empty store itself), each answer is the remembered one, and the bytes are
 -- what the notes then have left; so the next list of calls, next week, goes on from there.
-pub record Keeps (cs : List PointCall) (bs bs′ ans ans′ : List ℕ) : Type 0 where
-  pub answers : ans′ ≡ over ans (rows (asAnswers (answersTo bs cs)))
+pub record KeptAll (cs : List PointCall) (bs bs′ ans ans′ : List ℕ) : Type 0 where
+  pub answers : ans′ ≡ over ans (rows (asAnswers (pointAnswers bs cs)))
   pub store : bs′ ≡ leftByAll bs cs
-  pub promise : (h : List Note) → LeftBy h bs → (answersTo bs cs ≡ rememberedAll h cs) × LeftBy (notesAfter h cs) bs′
+  pub promise : (h : List Note) → LeftBy h bs → (ans′ ≡ over ans (rows (asAnswers (rememberedAll h cs)))) × LeftBy (notesAfter h cs) bs′
 
 -- The refusal of n bytes of calls with room for a numbers of answers: 16 where they are not 33 a call, 15 where there is less room than four numbers
 -- a call; 0 if none.
@@ -66,4 +66,4 @@ keepRefusal n a = pick (eqb (n % 33) 0) (pick (ltb a (n / 33 * 4)) 15 0) 16
 -- A refused list has made no call and leaves both slices as they were; any other has made them all.
 abbrev pub Keeping : (ns bs bs′ ans ans′ : List ℕ) → Kept → Type 0
 Keeping ns bs bs′ ans ans′ (Refused q) = (q .number ≡ keepRefusal (length ns) (length ans)) × (q .number ≡ 0 → ⊥) × (q .line ≡ 0) × (bs′ ≡ bs) × (ans′ ≡ ans)
-Keeping ns bs bs′ ans ans′ Done = (keepRefusal (length ns) (length ans) ≡ 0) × Keeps (pointCalls ns) bs bs′ ans ans′
+Keeping ns bs bs′ ans ans′ Done = (keepRefusal (length ns) (length ans) ≡ 0) × KeptAll (pointCalls ns) bs bs′ ans ans′

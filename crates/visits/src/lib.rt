@@ -88,7 +88,7 @@ pub fn keep_refusal(n: usize, answers: usize) -> u32
 }
 
 // Makes a list of calls through Set, Go and Drop on a store. Each answer goes to `answers`, four numbers each. Its contract is the promise of
-// request (h) about whole lists of calls: `Keeps` in specs/Visits.antt.
+// request (h) about whole lists of calls: `KeptAll` in specs/Visits.antt.
 pub fn keep(store: &mut [u8], calls: &[u8], answers: &mut [u64]) -> Kept
     ensures { λ r. ⌜ Keeping (now (calls .entry)) (now (store .entry)) (now (store .exit)) (now (answers .entry)) (now (answers .exit)) r ⌝ }
 {

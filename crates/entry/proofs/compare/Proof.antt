@@ -27,10 +27,16 @@ shared-slice-read-y : tie.Need-shared-slice-read-y Inv-loop μ-loop
 shared-slice-read-y c = search needs
 
 returns : tie.Need-returns Inv-loop μ-loop
-returns c = compare-less (c .before .before .before .before .before .args .a .now) (c .before .before .before .before .before .args .i) (c .before .before .before .before .before .args .b .now) (c .before .before .before .before .before .args .j) (c .before .before .before .before .loop .k) (search needs) (search needs) (search needs) (search needs) (search needs)
+returns c =
+    let s = c .before .before .before .before .before .args in
+    let l = c .before .before .before .before .loop in
+    compare-less (s .a .now) (s .i) (s .b .now) (s .j) (l .k) (search needs) (search needs) (search needs) (search needs) (search needs)
 
 returns-2 : tie.Need-returns-2 Inv-loop μ-loop
-returns-2 c = compare-more (c .before .before .before .before .before .before .args .a .now) (c .before .before .before .before .before .before .args .i) (c .before .before .before .before .before .before .args .b .now) (c .before .before .before .before .before .before .args .j) (c .before .before .before .before .before .loop .k) (search needs) (search needs) (search needs) (search needs) (search needs) (search needs)
+returns-2 c =
+    let s = c .before .before .before .before .before .before .args in
+    let l = c .before .before .before .before .before .loop in
+    compare-more (s .a .now) (s .i) (s .b .now) (s .j) (l .k) (search needs) (search needs) (search needs) (search needs) (search needs) (search needs)
 
 add-k : tie.Need-add-k Inv-loop μ-loop
 add-k c = search needs
@@ -42,7 +48,9 @@ loop-again : tie.Need-loop-again Inv-loop μ-loop
 loop-again c = (omega arith, compare-next _ _ _ _ _ (search needs) (search needs) (search needs) (search needs) (search needs) (search needs))
 
 returns-3 : tie.Need-returns-3 Inv-loop μ-loop
-returns-3 c = compare-end (c .before .before .args .a .now) (c .before .before .args .i) (c .before .before .args .b .now) (c .before .before .args .j) (c .before .loop .k) (search needs) (search needs)
+returns-3 c =
+    let s = c .before .before .args in
+    compare-end (s .a .now) (s .i) (s .b .now) (s .j) (c .before .loop .k) (search needs) (search needs)
 
 pub compare-spec : {M : Type 1} → statement M
 compare-spec =

@@ -19,7 +19,9 @@ is-letter-requires : tie.Need-is-letter-requires Inv-loop μ-loop
 is-letter-requires c κs = search needs
 
 returns : tie.Need-returns Inv-loop μ-loop
-returns c = name-none (c .before .before .before .before .args .s .now) (c .before .before .before .before .args .at) (c .before .is-letter .result) (search needs) (search needs) (not-true _ (search needs))
+returns c =
+    let s = c .before .before .before .before .args in
+    name-none (s .s .now) (s .at) (c .before .is-letter .result) (search needs) (search needs) (not-true _ (search needs))
 
 loop-holds : tie.Need-loop-holds Inv-loop μ-loop
 loop-holds c = (omega arith, omega arith, chain-start _ _ (c .before .is-letter .result) (search needs) (search needs) (not-false _ (search needs)))
@@ -43,7 +45,10 @@ follows-requires : tie.Need-follows-requires Inv-loop μ-loop
 follows-requires c κs = search needs
 
 returns-2 : tie.Need-returns-2 Inv-loop μ-loop
-returns-2 c = chain-none (c .before .before .before .before .before .before .before .before .before .before .args .s .now) (c .before .before .before .before .before .before .before .before .before .before .args .at) (c .before .before .before .before .before .loop .i) (c .before .follows .result) (search needs) (search needs) (search needs) (not-true _ (search needs)) (search needs)
+returns-2 c =
+    let s = c .before .before .before .before .before .before .before .before .before .before .args in
+    let l = c .before .before .before .before .before .loop in
+    chain-none (s .s .now) (s .at) (l .i) (c .before .follows .result) (search needs) (search needs) (search needs) (not-true _ (search needs)) (search needs)
 
 add-i : tie.Need-add-i Inv-loop μ-loop
 add-i c = search needs
@@ -52,10 +57,14 @@ loop-less : tie.Need-loop-less Inv-loop μ-loop
 loop-less c = omega arith
 
 loop-again : tie.Need-loop-again Inv-loop μ-loop
-loop-again c = (omega arith, omega arith, chain-next _ _ (c .before .before .before .before .before .loop .i) (c .before .follows .result) (search needs) (search needs) (search needs) (not-false _ (search needs)) (search needs))
+loop-again c =
+    let l = c .before .before .before .before .before .loop in
+    (omega arith, omega arith, chain-next _ _ (l .i) (c .before .follows .result) (search needs) (search needs) (search needs) (not-false _ (search needs)) (search needs))
 
 returns-3 : tie.Need-returns-3 Inv-loop μ-loop
-returns-3 c = chain-end (c .before .before .before .before .before .before .args .s .now) (c .before .before .before .before .before .before .args .at) (c .before .loop .i) (search needs) (search needs)
+returns-3 c =
+    let s = c .before .before .before .before .before .before .args in
+    chain-end (s .s .now) (s .at) (c .before .loop .i) (search needs) (search needs)
 
 pub is-name-spec : {M : Type 1} → statement M
 is-name-spec =

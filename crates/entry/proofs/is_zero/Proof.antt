@@ -1,7 +1,7 @@
 use Rattle.entry.proofs.Leaves.{Zeros, zeros-start, zeros-none, zeros-next, zeros-end}
 use borrow.Author.Needs.{needs}
 use native.Mathlib.Omega.{arith}
-use Prim.Native.Nat.{_≤_, _-_}
+use Prim.Native.Nat.{_-_}
 use lib.ListN.{length}
 use Rattle.entry.proofs.is_zero.Statement.{statement}
 use Rattle.entry.proofs.is_zero.Tie as tie

@@ -54,7 +54,9 @@ word-requires : tie.Need-word-requires
 word-requires c κs = search needs
 
 returns : tie.Need-returns
-returns c = c .word .ensures ∙ sym (ap wordOf (eight (c .before .before .before .before .before .before .before .before .before .before .args .s .now) (c .before .before .before .before .before .before .before .before .before .before .args .at) (search needs)))
+returns c =
+    let s = c .before .before .before .before .before .before .before .before .before .before .args in
+    c .word .ensures ∙ sym (ap wordOf (eight (s .s .now) (s .at) (search needs)))
 
 pub word-at-spec : {M : Type 1} → statement M
 word-at-spec =

@@ -33,16 +33,22 @@ is-zero-requires : tie.Need-is-zero-requires Inv-loop μ-loop
 is-zero-requires c κs = search needs
 
 returns-2 : tie.Need-returns-2 Inv-loop μ-loop
-returns-2 c = count-zero _ (c .before .before .before .before .before .loop .k) (search needs) (search needs) (c .before .before .before .is-name .result) (search needs) (not-true _ (search needs)) (c .before .is-zero .result) (search needs) (search needs)
+returns-2 c =
+    let l = c .before .before .before .before .before .loop in
+    count-zero _ (l .k) (search needs) (search needs) (c .before .before .before .is-name .result) (search needs) (not-true _ (search needs)) (c .before .is-zero .result) (search needs) (search needs)
 
 returns-3 : tie.Need-returns-3 Inv-loop μ-loop
-returns-3 c = count-none _ (c .before .before .before .before .before .loop .k) (search needs) (search needs) (c .before .before .before .is-name .result) (search needs) (not-true _ (search needs)) (c .before .is-zero .result) (search needs) (search needs)
+returns-3 c =
+    let l = c .before .before .before .before .before .loop in
+    count-none _ (l .k) (search needs) (search needs) (c .before .before .before .is-name .result) (search needs) (not-true _ (search needs)) (c .before .is-zero .result) (search needs) (search needs)
 
 rises-requires : tie.Need-rises-requires Inv-loop μ-loop
 rises-requires c κs = omega arith
 
 returns-4 : tie.Need-returns-4 Inv-loop μ-loop
-returns-4 c = count-fall _ (c .before .before .before .before .before .loop .k) (search needs) (search needs) (c .before .before .before .is-name .result) (search needs) (not-false _ (search needs)) (c .before .rises .result) (search needs) (not-true _ (search needs))
+returns-4 c =
+    let l = c .before .before .before .before .before .loop in
+    count-fall _ (l .k) (search needs) (search needs) (c .before .before .before .is-name .result) (search needs) (not-false _ (search needs)) (c .before .rises .result) (search needs) (not-true _ (search needs))
 
 add-k : tie.Need-add-k Inv-loop μ-loop
 add-k c = search needs
@@ -51,7 +57,9 @@ loop-less : tie.Need-loop-less Inv-loop μ-loop
 loop-less c = omega arith
 
 loop-again : tie.Need-loop-again Inv-loop μ-loop
-loop-again c = (omega arith, search needs, count-next _ (c .before .before .before .before .before .loop .k) (search needs) (search needs) (c .before .before .before .is-name .result) (search needs) (not-false _ (search needs)) (c .before .rises .result) (search needs) (not-false _ (search needs)))
+loop-again c =
+    let l = c .before .before .before .before .before .loop in
+    (omega arith, search needs, count-next _ (l .k) (search needs) (search needs) (c .before .before .before .is-name .result) (search needs) (not-false _ (search needs)) (c .before .rises .result) (search needs) (not-false _ (search needs)))
 
 returns-5 : tie.Need-returns-5 Inv-loop μ-loop
 returns-5 c = count-end _ (c .before .loop .k) (search needs) (search needs)

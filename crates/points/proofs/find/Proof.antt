@@ -28,13 +28,19 @@ enum-told-2 : tie.Need-enum-told-2 Inv-loop μ-loop
 enum-told-2 c = search needs
 
 returns : tie.Need-returns Inv-loop μ-loop
-returns c = find-same (c .before .before .before .before .before .before .before .args .store .now) (c .before .before .before .before .before .before .before .args .k) (take 8 (c .before .before .before .before .before .before .before .args .name .now)) (c .before .before .before .before .loop .i) (search needs) (search needs) (c .before .before .compare .result) (search needs) (search needs)
+returns c =
+    let s = c .before .before .before .before .before .before .before .args in
+    let l = c .before .before .before .before .loop in
+    find-same (s .store .now) (s .k) (take 8 (s .name .now)) (l .i) (search needs) (search needs) (c .before .before .compare .result) (search needs) (search needs)
 
 enum-told-3 : tie.Need-enum-told-3 Inv-loop μ-loop
 enum-told-3 c = search needs
 
 returns-2 : tie.Need-returns-2 Inv-loop μ-loop
-returns-2 c = find-more (c .before .before .before .before .before .before .before .args .store .now) (c .before .before .before .before .before .before .before .args .k) (take 8 (c .before .before .before .before .before .before .before .args .name .now)) (c .before .before .before .before .loop .i) (search needs) (search needs) (c .before .before .compare .result) (search needs) (search needs)
+returns-2 c =
+    let s = c .before .before .before .before .before .before .before .args in
+    let l = c .before .before .before .before .loop in
+    find-more (s .store .now) (s .k) (take 8 (s .name .now)) (l .i) (search needs) (search needs) (c .before .before .compare .result) (search needs) (search needs)
 
 add-i : tie.Need-add-i Inv-loop μ-loop
 add-i c = search needs
@@ -46,7 +52,9 @@ loop-again : tie.Need-loop-again Inv-loop μ-loop
 loop-again c = (omega arith, find-next _ _ _ (c .before .before .before .before .loop .i) (search needs) (search needs) (c .before .before .compare .result) (search needs) (search needs))
 
 returns-3 : tie.Need-returns-3 Inv-loop μ-loop
-returns-3 c = find-end (c .before .before .before .before .args .store .now) (c .before .before .before .before .args .k) (take 8 (c .before .before .before .before .args .name .now)) (c .before .loop .i) (search needs) (search needs) (search needs)
+returns-3 c =
+    let s = c .before .before .before .before .args in
+    find-end (s .store .now) (s .k) (take 8 (s .name .now)) (c .before .loop .i) (search needs) (search needs) (search needs)
 
 pub find-spec : {M : Type 1} → statement M
 find-spec =

@@ -33,7 +33,13 @@ same-length : tie.Need-same-length
 same-length c = search needs
 
 returns : tie.Need-returns
-returns c = removed (c .before .before .before .before .before .before .before .before .before .before .before .before .before .before .before .args .store .now) (c .before .before .before .before .before .before .before .before .before .before .before .before .before .before .before .pre .0) (c .before .before .before .before .before .before .before .before .before .before .before .before .before .before .before .args .at) (c .before .before .before .before .before .before .before .before .before .before .before .before .before .before .before .pre .1) (c .before .before .before .before .before .before .before .before .before .before .before .copy .last .0) (replicate 1024 0) (length-replicate {A = ℕ} 1024 0) (c .before .before .before .before .before .before .before .before .before .before .before .copy .ensures) (c .before .before .before .before .before .before .before .copy2 .last .0) _ (c .before .before .before .before .before .before .before .copy2 .ensures) (c .before .before .copy3 .ensures)
+returns c =
+    let s = c .before .before .before .before .before .before .before .before .before .before .before .before .before .before .before .args in
+    let t = c .before .before .before .before .before .before .before .before .before .before .before .before .before .before .before .pre in
+    let m = c .before .before .before .before .before .before .before .copy2 in
+    let n = c .before .before .copy3 in
+    let o = c .before .before .before .before .before .before .before .before .before .before .before .copy in
+    removed (s .store .now) (t .0) (s .at) (t .1) (o .last .0) (replicate 1024 0) (length-replicate {A = ℕ} 1024 0) (o .ensures) (m .last .0) _ (m .ensures) (n .ensures)
 
 pub remove-spec : {M : Type 1} → statement M
 remove-spec =
