@@ -125,7 +125,7 @@ name-holds : (n : List ℕ) → Spelt n → isName n ≡ true
 unfolding isName both
 name-holds n s = rw (eq-eqb (length n) 8 (s .long)) (ap nameSpelt (s .bytes) ∙ spelt-holds (s .front) (s .spaces) (s .some) (s .letters))
 
--- A name passes the test exactly if it is nameSpelt as the request says.
+-- A name passes the test exactly if it is spelt as the request says.
 pub name-iff : (n : List ℕ) → (isName n ≡ true) ↔ Spelt n
 name-iff n = (name-yes n, name-holds n)
 

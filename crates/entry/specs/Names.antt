@@ -1,4 +1,4 @@
--- Names of stopping points: how they are nameSpelt, and their order (document 02, request (h)).
+-- Names of stopping points: how they are spelt, and their order (document 02, request (h)).
 use Prim.Native.Nat.{ℕ, _<_, _≤_}
 use mathlib.Core.Bool.{Bool, true, false}
 use mathlib.Core.List.{List, [], _∷_, _++_}
@@ -49,7 +49,7 @@ unfoldable pub nameSpelt : List ℕ → Bool
 nameSpelt [] = false
 nameSpelt (b ∷ bs) = both (letter b) (chain b bs)
 
--- A name: 8 bytes, rightly nameSpelt.
+-- A name: 8 bytes, rightly spelt.
 unfoldable pub isName : List ℕ → Bool
 isName n = both (eqb (length n) 8) (nameSpelt n)
 

@@ -87,7 +87,7 @@ nothing-in : (n : List ℕ) → none ≡ lookup [] n
 unfolding lookup
 nothing-in n = refl
 
--- ---- ascending entries with the sameName pairs are the sameName entries
+-- ---- ascending entries with the same pairs are the same entries
 first-none : (x : Entry) (y : Entry) (ds : List Entry) → compareTo (x .name) (y .name) ≡ Less → Rising (y .name) ds → lookup (y ∷ ds) (x .name) ≡ none
 first-none x y ds e g =
     let m = less-flip (x .name) (y .name) e in
@@ -258,7 +258,7 @@ module _ (a : List ℕ) (es : List Entry) (n : List ℕ) (g : Rising a es) where
       from : (m ≡ n → ⊥) × Under es m q → Under (dropIn es n) m q
       from r = lookup-under (dropIn es n) m q (lookup-drop a es n m g ∙ rw (not-same n m (r .0)) (under-lookup a es m q g (r .1)))
 
--- Two stores with the sameName pairs under the sameName names have the sameName entries.
+-- Two stores with the same pairs under the same names have the same entries.
 pub same-under : (a b : List ℕ) (es ds : List Entry) → Rising a es → Rising b ds → ((m : List ℕ) (q : Pair) → Under es m q → Under ds m q) → ((m : List ℕ) (q : Pair) → Under ds m q → Under es m q) → es ≡ ds
 same-under a b es ds g k f h = same-entries a b es ds g k (λ m. go m (lookup es m) refl)
   where

@@ -94,7 +94,7 @@ remembered h (setPoint n p) = pick (isName n) (ifThere (lastSet n h) (λ (q : Pa
 remembered h (goTo n) = pick (isName n) (ifThere (lastSet n h) (λ (q : Pair). told (some q)) (turned 25 0)) (turned 25 0)
 remembered h (dropPoint n) = pick (isName n) (ifThere (lastSet n h) (λ (q : Pair). told none) (turned 25 0)) (turned 25 0)
 
--- The sameName of calls made one after the other, and the notes then.
+-- The same of calls made one after the other, and the notes then.
 unfoldable pub rememberedAll : List Note → List PointCall → List PointAnswer
 rememberedAll h [] = []
 rememberedAll h (c ∷ cs) = remembered h c ∷ rememberedAll (record { call = c; answer = remembered h c } ∷ h) cs

@@ -53,7 +53,7 @@ Absent es n = (p : Pair) → Under es n p → ⊥
 
 -- ---- the operations
 -- The answer x of an operation on a store and a name: 24 where the bytes are no store, first of all; then 25 where the name is misspelt; else the
--- bytes are the store of some entries, the name is nameSpelt as it should be, and x is right of the entries.
+-- bytes are the store of some entries, the name is spelt as it should be, and x is right of the entries.
 pub data OfStore {A : Type 0} (right : List Entry → Told A → Type 0) (bs n : List ℕ) : Told A → Type 0 where
   no-store : ((es : List Entry) → Store bs es → ⊥) → OfStore right bs n (turned 24 0)
   misspelt : (es : List Entry) → Store bs es → (Spelt n → ⊥) → OfStore right bs n (turned 25 0)
