@@ -1,4 +1,4 @@
-/* Times the engine's Read and Write against the plain C reader and writer on a full book of 8,544 bytes.
+/* Times the engine's Read and Write against the plain C reader and writer on a full book of 9,888 bytes.
  *
  *     read_bench [LOOPS]
  *
@@ -27,18 +27,25 @@ static int32_t draw(int32_t bound) {
     return (int32_t)((state >> 16) % (uint32_t)bound);
 }
 
+/* An entry, often 0. */
+static int32_t draw_entry(void) { return draw(3) == 0 ? 0 : draw(97) - 48; }
+
 /* Fills the table with a book at every limit; the first head is 1. */
 static void make_full_book(void) {
     int32_t *next = table;
     *next++ = READER_STATEMENTS, *next++ = READER_PLAIN, *next++ = READER_EXCEPTIONS, *next++ = READER_PREFERENCES;
+    *next++ = READER_CONDITIONALS;
     for (int row = 0; row < READER_PLAIN + READER_EXCEPTIONS; row++) {
         for (int place = 0; place < 9; place++) {
-            int32_t entry = draw(3) == 0 ? 0 : draw(97) - 48;
+            int32_t entry = draw_entry();
             *next++ = place == 0 && entry == 0 ? 1 : entry;
         }
     }
     for (int row = 0; row < 2 * READER_PREFERENCES; row++) *next++ = 1 + draw(READER_EXCEPTIONS);
-    table[4] = 1;
+    for (int row = 0; row < READER_CONDITIONALS; row++) {
+        for (int place = 0; place < 10; place++) *next++ = place < 2 ? 1 + draw(READER_EXCEPTIONS) : draw_entry();
+    }
+    table[READER_FRONT] = 1;
 }
 
 static void fail(const char *what, size_t place) {
@@ -115,7 +122,7 @@ static double round_of(job *call, int loops) {
     double begun = now();
     for (int loop = 0; loop < loops; loop++) {
         text[14] = (uint8_t)('1' + loop % 9);
-        table[4] = 1 + loop % 9;
+        table[READER_FRONT] = 1 + loop % 9;
         sum += call();
     }
     double time = (now() - begun) / loops;

@@ -10,8 +10,11 @@ enum {
     READER_PLAIN = 200,
     READER_EXCEPTIONS = 16,
     READER_PREFERENCES = 32,
-    READER_TEXT = 8544,
-    READER_TABLE = 4 + 9 * (READER_PLAIN + READER_EXCEPTIONS) + 2 * READER_PREFERENCES
+    READER_CONDITIONALS = 32,
+    READER_TEXT = 9888,
+    READER_FRONT = 5,
+    READER_TABLE =
+        READER_FRONT + 9 * (READER_PLAIN + READER_EXCEPTIONS) + 2 * READER_PREFERENCES + 10 * READER_CONDITIONALS
 };
 
 /* A refusal's number (0: none) and line, and how many numbers or bytes were written. */

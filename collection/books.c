@@ -55,8 +55,8 @@ static bool load(const char *name, book *b)
     return good || fail(name, "it could not be read");
 }
 
-/* Has the engine read the text, and keeps the numbers of statements and exceptions. As a number takes 4 bytes, a fourth
-   of the text's length is room enough for its table. */
+/* Has the engine read the text, and keeps the numbers of statements and exceptions. Its table has at most one number
+   more than there are fourths in the text's length. */
 static bool measure(book *b)
 {
     size_t room = b->length / FIELD + 1;

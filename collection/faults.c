@@ -154,7 +154,7 @@ static const char *letter_words(uint8_t byte)
     case ' ': return "a space stands before the letter";
     case '\r': return "the line is empty but for a carriage return";
     case '"': return "a quotation mark, as in a file of separated values; write none";
-    default: return "no line begins so; the letters are B, R, X, P and Z, and there are no comments";
+    default: return "no line begins so; the letters are B, R, X, P, Q and Z, and there are no comments";
     }
 }
 
@@ -166,7 +166,7 @@ static void explain_order(const place *p)
     } else if (p->last == LAST) {
         say("Near column 1: nothing may follow the Z line. Keep one book to a file.");
     } else {
-        say("Near column 1: %c may not follow %c. The order is B, R, X, P, Z.", kinds[p->of].letter,
+        say("Near column 1: %c may not follow %c. The order is B, R, X, P, Q, Z.", kinds[p->of].letter,
             kinds[p->last].letter);
     }
 }
@@ -213,6 +213,17 @@ static size_t last_spaces(line l)
     return c + 1;
 }
 
+/* A preference of one kind that has the length of the other is likely to be of the other. */
+static void explain_other_kind(const place *p)
+{
+    size_t past = p->at.length + 1;
+    if (p->of == PREFERENCE && past == column_of(kinds[CONDITIONAL].fields)) {
+        say("A preference under a condition is a Q line.");
+    } else if (p->of == CONDITIONAL && past == column_of(kinds[PREFERENCE].fields)) {
+        say("A preference without a condition is a P line.");
+    }
+}
+
 static void explain_length(const place *p)
 {
     line l = p->at;
@@ -231,6 +242,7 @@ static void explain_length(const place *p)
         show(l);
     }
     say("The line has %zu columns; a line with the letter %c has %zu.", l.length, kinds[p->of].letter, past - 1);
+    explain_other_kind(p);
 }
 
 /* ---- 5, 17, 18: a field's spelling ---- */
@@ -343,10 +355,10 @@ static void explain_spelling(const place *p, uint32_t refusal)
 static range right_range(const place *p, uint32_t refusal, int k)
 {
     range r = range_of(p->of, k, p->statements);
-    if (refusal == BANTAMEASEL_REFUSED_PREFERENCE) {
+    if (refusal == BANTAMEASEL_REFUSED_PREFERENCE && names_exception(p->of, k)) {
         r.high = (int)p->above[EXCEPTION];
     } else if (refusal == BANTAMEASEL_REFUSED_TOTAL) {
-        r.low = r.high = (int)(p->above[PLAIN] + p->above[EXCEPTION] + p->above[PREFERENCE]);
+        r.low = r.high = (int)(p->number - 2); /* the lines between B and Z */
     }
     return r;
 }
@@ -401,7 +413,7 @@ static void explain_number(const place *p, uint32_t refusal)
     explain_right(p, refusal, k, number);
 }
 
-/* ---- 8: too many lines ---- */
+/* ---- 8, 19: too many lines ---- */
 
 static void explain_many(const place *p)
 {
@@ -420,7 +432,8 @@ static void explain_line(const place *p, uint32_t refusal)
     case BANTAMEASEL_REFUSED_FIELD_CHARACTER:
     case BANTAMEASEL_REFUSED_FIELD_GAP:
     case BANTAMEASEL_REFUSED_FIELD_ZERO: explain_spelling(p, refusal); break;
-    case BANTAMEASEL_REFUSED_TOO_MANY: explain_many(p); break;
+    case BANTAMEASEL_REFUSED_TOO_MANY:
+    case BANTAMEASEL_REFUSED_TOO_MANY_CONDITIONALS: explain_many(p); break;
     default: explain_number(p, refusal);
     }
 }

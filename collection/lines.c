@@ -5,13 +5,17 @@
 #include <string.h>
 
 /* The most lines that Z counts. */
-enum { ROWS_MOST = BANTAMEASEL_MOST_PLAIN + BANTAMEASEL_MOST_EXCEPTIONS + BANTAMEASEL_MOST_PREFERENCES };
+enum {
+    ROWS_MOST = BANTAMEASEL_MOST_PLAIN + BANTAMEASEL_MOST_EXCEPTIONS + BANTAMEASEL_MOST_PREFERENCES
+        + BANTAMEASEL_MOST_CONDITIONALS
+};
 
 const kind kinds[KINDS] = {
     { 'B', 2, 1 },
     { 'R', 9, BANTAMEASEL_MOST_PLAIN },
     { 'X', 9, BANTAMEASEL_MOST_EXCEPTIONS },
     { 'P', 2, BANTAMEASEL_MOST_PREFERENCES },
+    { 'Q', 10, BANTAMEASEL_MOST_CONDITIONALS },
     { 'Z', 1, 1 }
 };
 
@@ -80,6 +84,11 @@ bool read_columns(line l, int k, int *number)
     return strcmp(columns, right) == 0;
 }
 
+bool names_exception(int of, int k)
+{
+    return (of == PREFERENCE || of == CONDITIONAL) && k < 2;
+}
+
 range range_of(int of, int k, int statements)
 {
     range edition = { 1, 1 }, count = { 1, BANTAMEASEL_MOST_STATEMENTS };
@@ -87,23 +96,24 @@ range range_of(int of, int k, int statements)
     range rows = { 0, ROWS_MOST }, entry = { -statements, statements };
     switch (of) {
     case FIRST: return k == 0 ? edition : count;
-    case PREFERENCE: return exception;
     case LAST: return rows;
-    default: return entry;
+    default: return names_exception(of, k) ? exception : entry;
     }
 }
 
 const char *field_words(int of, int k)
 {
     static const char *const entries[] = {
-        "the head", "the first needed entry", "the second needed entry", "the third needed entry",
-        "the fourth needed entry", "the first barred entry", "the second barred entry", "the third barred entry",
-        "the fourth barred entry"
+        "the first needed entry", "the second needed entry", "the third needed entry", "the fourth needed entry",
+        "the first barred entry", "the second barred entry", "the third barred entry", "the fourth barred entry"
     };
+    if (names_exception(of, k)) {
+        return k == 0 ? "the exception that outranks" : "the exception that is outranked";
+    }
     switch (of) {
     case FIRST: return k == 0 ? "the edition" : "the number of statements";
-    case PREFERENCE: return k == 0 ? "the exception that outranks" : "the exception that is outranked";
-    case LAST: return "the number of R, X and P lines";
-    default: return entries[k];
+    case CONDITIONAL: return entries[k - 2];
+    case LAST: return "the number of R, X, P and Q lines";
+    default: return k == 0 ? "the head" : entries[k - 1];
     }
 }

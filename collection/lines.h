@@ -13,7 +13,7 @@ enum {
 };
 
 /* The kinds of line, in the order in which they stand in a book. */
-enum { FIRST, PLAIN, EXCEPTION, PREFERENCE, LAST, KINDS };
+enum { FIRST, PLAIN, EXCEPTION, PREFERENCE, CONDITIONAL, LAST, KINDS };
 
 /* A kind of line: its letter, how many fields follow it, and how many such lines a book may have. */
 typedef struct {
@@ -62,6 +62,9 @@ size_t column_of(int k);
 
 /* Reads field k of a line that has it: a whole number, right-justified after spaces, spelt in the one way there is. */
 bool read_columns(line l, int k, int *number);
+
+/* Whether field k of a line of this kind names an exception. */
+bool names_exception(int of, int k);
 
 /* The range of the numbers in field k of a line of this kind, in a book of so many statements. */
 range range_of(int of, int k, int statements);

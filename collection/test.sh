@@ -336,27 +336,28 @@ pointed() {
     same "$work/right" "$work/shown" "$name: the columns that are pointed at"
 }
 
-# wrong_field LINE K WRONG FROM WIDTH: field K of this line, from 0 on, is replaced by what is wrong; so many of its
+# wrong_field BOOK LINE K WRONG FROM WIDTH: field K of this line, from 0 on, is replaced by what is wrong; so many of its
 # columns are pointed at, from one on, counted from 1.
 wrong_field() {
     name=field
-    sed "$1s/^\(.\{$((1 + 4 * $2))\}\)..../\1$3/" "$EXAMPLES/gown-ranked.book" >"$work/field"
+    sed "$2s/^\(.\{$((1 + 4 * $3))\}\)..../\1$4/" "$EXAMPLES/$1.book" >"$work/field"
     run 1 "$work/field" next
-    said " at line $1: "
-    pointed "$1" "$((1 + 4 * $2 + $4))" "$5"
+    said " at line $2: "
+    pointed "$2" "$((1 + 4 * $3 + $5))" "$6"
 }
 
-# each_field LINE COUNT: in each of the fields of this line, what is misspelt and what is out of range is pointed at.
+# each_field BOOK LINE COUNT: in each of the fields of this line, what is misspelt and what is out of range is pointed
+# at.
 each_field() {
     k=0
-    while [ "$k" -lt "$2" ]; do
-        wrong_field "$1" "$k" '   x' 4 1
-        wrong_field "$1" "$k" '  1-' 4 1
-        wrong_field "$1" "$k" '    ' 1 4
-        wrong_field "$1" "$k" '0  0' 2 2
-        wrong_field "$1" "$k" '0001' 1 3
-        wrong_field "$1" "$k" ' 999' 1 4
-        wrong_field "$1" "$k" '-999' 1 4
+    while [ "$k" -lt "$3" ]; do
+        wrong_field "$1" "$2" "$k" '   x' 4 1
+        wrong_field "$1" "$2" "$k" '  1-' 4 1
+        wrong_field "$1" "$2" "$k" '    ' 1 4
+        wrong_field "$1" "$2" "$k" '0  0' 2 2
+        wrong_field "$1" "$2" "$k" '0001' 1 3
+        wrong_field "$1" "$2" "$k" ' 999' 1 4
+        wrong_field "$1" "$2" "$k" '-999' 1 4
         k=$((k + 1))
     done
 }
@@ -402,6 +403,39 @@ judged gown-ranked "A   1   4   0   0   0$z8.+...+" 4
 judged k7 "A   2   1   2   0   0$z8+++" 5
 judged vestments "A   0   0   0   0   0   0   0   0   0$z8++++++++++++++" 1
 echo "judged a line for each verdict 1 to 5"
+
+# Preferences under a condition. Each exception of worn gives its statement; 1 outranks 2 unless statement 3 is held, and
+# 3 outranks 4 always.
+cat >"$work/worn.book" <<'BOOK'
+B   1   4
+R   0   0   0   0   0   1   2   0   0
+X   1   0   0   0   0   0   0   0   0
+X   2   0   0   0   0   0   0   0   0
+X   3   0   0   0   0   0   0   0   0
+X   4   0   0   0   0   0   0   0   0
+P   3   4
+Q   1   2   0   0   0   0   3   0   0   0
+Z   7
+BOOK
+judged worn "A   1   1   0   0   0$z8+..." 0
+judged worn "A   2   2   3   0   0$z8.++." 0
+judged worn "A   1   3   0   0   0$z8..+." 1
+judged worn "A   2   1   2   0   0$z8++.." 2
+judged worn "A   3   1   3   4   0$z8+.++" 2
+judged worn "A   1   2   0   0   0$z8.+.." 4
+printed 'some view takes an exception that outranks one taken here, by preferences that hold in both.'
+judged worn "A   2   1   4   0   0$z8+..+" 4
+judged worn "A   2   1   3   0   0$z8+.+." 5
+printed 'some undominated view takes only a part of the exceptions taken here.'
+judged worn "A   3   1   2   3   0$z8+++." 5
+judged lined "A   1   2   0   0   0$z8++++.++...+.+" 4
+judged lined "A   2   1   5   0   0$z8+++++-..+.+++" 4
+judged lined "A   2   3   5   0   0$z8+++++-...+++." 4
+run 0 "$work/worn.book" next
+page_lines "$work/out" >"$work/page"
+printf 'A   1   1   0   0   0%s+...\nA   2   2   3   0   0%s.++.\n' "$z8" "$z8" >"$work/line"
+same "$work/line" "$work/page" "the listing of a book with a preference under a condition"
+echo "judged and listed books with preferences under a condition"
 
 run 1 "$work/k7.book" judge "A   1   3   0   0   0$z8+.+"
 said 'refusal 12: '
@@ -821,11 +855,12 @@ echo "many runs at once leave a whole store"
 
 gown=$EXAMPLES/gown.book
 ranked=$EXAMPLES/gown-ranked.book
+lined=$EXAMPLES/lined.book
 refusals=0
 
 # The text as a whole: 1 and 2.
 dd if=/dev/zero of="$work/zeros" bs=1000 count=70 2>/dev/null
-damaged zeros 'refusal 1: ' 'A book has at most 8544 bytes.'
+damaged zeros 'refusal 1: ' 'A book has at most 9888 bytes.'
 printf 'PK\003\004' | cat - "$work/zeros" >"$work/archive"
 damaged archive 'refusal 1: ' "a spreadsheet's or a word processor's own"
 : >"$work/empty"
@@ -860,7 +895,14 @@ damaged quoted 'refusal 3 at line 1: ' 'Near column 1: a quotation mark'
 sed '5s/.*/\r/' "$gown" >"$work/return"
 damaged return 'refusal 3 at line 5: ' 'the line is empty but for a carriage return.'
 sed '18s/X/R/' "$gown" >"$work/order"
-damaged order 'refusal 3 at line 18: ' 'Near column 1: R may not follow X.'
+damaged order 'refusal 3 at line 18: ' 'Near column 1: R may not follow X. The order is B, R, X, P, Q, Z.'
+sed '29s/.*/P   2   1/' "$lined" >"$work/p-after-q"
+damaged p-after-q 'refusal 3 at line 29: ' 'Near column 1: P may not follow Q.'
+pointed 29 1 1
+sed '26{h;d;};28G' "$lined" >"$work/q-before-p"
+damaged q-before-p 'refusal 3 at line 28: ' 'Near column 1: P may not follow Q.'
+sed '28s/Q/q/' "$lined" >"$work/small-q"
+damaged small-q 'refusal 3 at line 28: ' 'Near column 1: the letter is small; write a capital.'
 cat "$gown" "$gown" >"$work/twice"
 damaged twice 'refusal 3 at line 23: ' 'Near column 1: nothing may follow the Z line.'
 printf 'B   1   1\n\377\000\n' >"$work/bytes"
@@ -889,6 +931,18 @@ damaged wide 'refusal 4 at line 5: ' 'Near column 26: from here on the numbers d
 pointed 5 26 4
 sed '5s/$/   0/' "$gown" >"$work/long"
 damaged long 'refusal 4 at line 5: ' 'The line has 41 columns; a line with the letter R has 37.'
+
+sed '28s/   0$//' "$lined" >"$work/nine"
+damaged nine 'refusal 4 at line 28: ' 'The line has 37 columns; a line with the letter Q has 41.'
+sed '28s/Q/P/' "$lined" >"$work/conditioned"
+damaged conditioned 'refusal 4 at line 28: ' 'A preference under a condition is a Q line.'
+sed '28s/.*/Q   1   2/' "$lined" >"$work/unconditioned"
+damaged unconditioned 'refusal 4 at line 28: ' 'A preference without a condition is a P line.'
+sed '28s/Q/R/' "$lined" >"$work/ruled"
+damaged ruled 'refusal 3 at line 28: ' 'Near column 1: R may not follow P.'
+sed '27s/.*/P   3/' "$lined" >"$work/single"
+damaged single 'refusal 4 at line 27: ' 'The line has 5 columns; a line with the letter P has 9.'
+! grep -q 'condition' "$work/err" || fail 'a condition is spoken of where a P line is too short'
 
 # A field's spelling: 5, 17, 18. Columns 34 to 37 of the line are refused by this number, so many columns are pointed at
 # from the first on, and this is the cause.
@@ -940,8 +994,26 @@ sed '15s/ 1/13/' "$ranked" >"$work/thirteen"
 damaged thirteen 'refusal 10 at line 15: ' 'the exception that outranks is 13; the number of X lines is 5.'
 sed '15s/ 1/17/' "$ranked" >"$work/seventeen"
 damaged seventeen 'refusal 6 at line 15: ' 'the exception that outranks is 17; it has to be from 1 to 16.'
-sed '$s/ 20/249/' "$gown" >"$work/total"
-damaged total 'refusal 6 at line 22: ' 'Near column 2: the number of R, X and P lines is 249; it has to be from 0 to 248.'
+sed '28s/ 1/13/' "$lined" >"$work/thirteen-q"
+damaged thirteen-q 'refusal 10 at line 28: ' 'the exception that outranks is 13; the number of X lines is 5.'
+pointed 28 2 4
+sed '28s/   2/  17/' "$lined" >"$work/seventeen-q"
+damaged seventeen-q 'refusal 6 at line 28: ' 'the exception that is outranked is 17; it has to be from 1 to 16.'
+pointed 28 6 4
+sed '28s/.*/Q   1   9  13 -13   0   0   0   0   0   0/' "$lined" >"$work/missing-q"
+damaged missing-q 'refusal 10 at line 28: ' 'Near column 6: the exception that is outranked is 9; the number of X lines is 5.'
+pointed 28 6 4
+sed '28s/.*/Q   1   9  14   0   0   0   0   0   0   0/' "$lined" >"$work/entry-q"
+damaged entry-q 'refusal 6 at line 28: ' 'Near column 10: the first needed entry is 14; it has to be from -13 to 13.'
+said 'The number of statements in line 1 is 13.'
+pointed 28 10 4
+sed '$s/ 20/281/' "$gown" >"$work/total"
+damaged total 'refusal 6 at line 22: ' 'Near column 2: the number of R, X, P and Q lines is 281; it has to be from 0 to 280.'
+sed '$s/ 20/280/' "$gown" >"$work/total-280"
+damaged total-280 'refusal 11 at line 22: ' 'Near column 2: the number of R, X, P and Q lines is given as 280; there are 20.'
+sed '$s/28/26/' "$lined" >"$work/q-not-counted"
+damaged q-not-counted 'refusal 11 at line 30: ' 'the number of R, X, P and Q lines is given as 26; there are 28.'
+pointed 30 2 4
 sed '1s/1/2/' "$gown" >"$work/edition"
 damaged edition 'refusal 7 at line 1: ' 'Near column 2: the edition is 2; it has to be 1.'
 pointed 1 2 4
@@ -952,7 +1024,7 @@ sed '18s/5$/6/' "$ranked" >"$work/missing"
 damaged missing 'refusal 10 at line 18: ' 'Near column 6: the exception that is outranked is 6; the number of X lines is 5.'
 pointed 18 6 4
 sed '$s/20/21/' "$gown" >"$work/count"
-damaged count 'refusal 11 at line 22: ' 'Near column 2: the number of R, X and P lines is given as 21; there are 20.'
+damaged count 'refusal 11 at line 22: ' 'Near column 2: the number of R, X, P and Q lines is given as 21; there are 20.'
 pointed 22 2 4
 awk 'NR == 16 { for (k = 0; k < 186; k++) print } { print }' "$gown" >"$work/rules"
 damaged rules 'refusal 8 at line 202: ' 'This is R line 201; a book has at most 200.'
@@ -960,13 +1032,25 @@ sed '21{p;p;p;p;p;p;p;p;p;p;p;p;}' "$gown" >"$work/many"
 damaged many 'refusal 8 at line 33: ' 'This is X line 17; a book has at most 16.'
 awk 'NR == 15 { for (k = 0; k < 29; k++) print } { print }' "$ranked" >"$work/preferences"
 damaged preferences 'refusal 8 at line 47: ' 'This is P line 33; a book has at most 32.'
+awk 'NR == 29 { for (k = 0; k < 31; k++) print } { print }' "$lined" >"$work/conditionals"
+damaged conditionals 'refusal 19 at line 60: ' 'This is Q line 33; a book has at most 32.'
+sed '60s/   2   1/   2   9/' "$work/conditionals" >"$work/conditionals-10"
+damaged conditionals-10 'refusal 19 at line 60: ' 'This is Q line 33; a book has at most 32.'
+sed '60s/   2   1/  17   1/' "$work/conditionals" >"$work/conditionals-6"
+damaged conditionals-6 'refusal 6 at line 60: ' 'the exception that outranks is 17; it has to be from 1 to 16.'
+sed '29d; $s/28/58/' "$work/conditionals" >"$work/full.book"
+run 0 "$work/full.book" next
+page_lines "$work/out" >"$work/page"
+a_lines "$EXAMPLES/lined.out" >"$work/line"
+same "$work/line" "$work/page" "a book with as many Q lines as there may be"
 echo "refused $refusals damaged books under valgrind, showed the line, pointed at the column and said the cause"
 
-each_field 1 2
-each_field 2 9
-each_field 10 9
-each_field 15 2
-each_field 19 1
+each_field gown-ranked 1 2
+each_field gown-ranked 2 9
+each_field gown-ranked 10 9
+each_field gown-ranked 15 2
+each_field lined 28 10
+each_field gown-ranked 19 1
 echo "pointed at each field of a line of each kind"
 
 (cd "$EXAMPLES" && "$program" faulty.book next) >"$work/out" 2>"$work/err" || true
@@ -1005,6 +1089,9 @@ watched 1 -p "$work/vpoint" "$work/k7.book" next 1
 said 'the point was written down for another book'
 watched 0 "$work/k7.book" judge "A   2   1   2   0   0$z8+++"
 printed 'Verdict 5: '
+watched 0 -p "$work/lpoint" "$work/lined.book" next
+watched 0 "$work/worn.book" judge "A   2   2   3   0   0$z8.++."
+printed 'Verdict 0: '
 rm -f "$work/vpoint"
 for words in 'names' 'next 2' 'name lace' 'name lining 5' 'name lace 4' 'go lining' 'next' 'names' 'drop lining' 'go lace'; do
     # shellcheck disable=SC2086

@@ -1,9 +1,11 @@
 //! Large books made of small ones side by side, whose resolutions are known without any search:
-//! the parts share no statement and no exception, so the views, and with them the resolutions, are the products.
+//! the parts share no statement and no exception, so the views, and with them the resolutions, are the products. A view
+//! of the whole is dominated just where one of its parts is.
 
 use crate::book::*;
+use crate::conditions::{self, conditional_book};
 use crate::kinds::{small_book, KINDS};
-use crate::meaning::{compare_pairs, outranking, Meaning, Oracle};
+use crate::meaning::{compare_pairs, outranking, plain_steps, Meaning, Oracle};
 use crate::random::Random;
 
 /// The most resolutions that are listed.
@@ -73,28 +75,40 @@ fn joined(one: &Pair, other: &Pair) -> Pair {
     Pair { taken: one.taken | other.taken, held: one.held | other.held, denied: one.denied | other.denied }
 }
 
+/// A small book of any kind without Q lines.
+fn any_small(random: &mut Random) -> Book {
+    let kind = random.below(KINDS.len() as u64) as usize;
+    small_book(random, kind)
+}
+
+/// A small book of any kind, three times of four with Q lines.
+fn any_conditional(random: &mut Random) -> Book {
+    if random.one_in(4) {
+        return any_small(random);
+    }
+    let kind = random.below(conditions::KINDS.len() as u64) as usize;
+    conditional_book(random, kind)
+}
+
 /// Small books whose sizes together stay within the limits.
-fn draw_parts(random: &mut Random) -> Vec<Book> {
+fn draw_parts(random: &mut Random, draw: fn(&mut Random) -> Book) -> Vec<Book> {
     let mut parts: Vec<Book> = Vec::new();
-    let (mut statements, mut plain, mut exceptions, mut preferences, mut product) = (0, 0, 0, 0, 1);
+    let (mut statements, mut counts, mut product) = (0, [0; 4], 1);
     for _ in 0..2 + random.below(14) {
-        let kind = random.below(KINDS.len() as u64) as usize;
-        let book = small_book(random, kind);
+        let book = draw(random);
         if book.statements > 5 || book.exceptions.len() > 5 {
             continue;
         }
         let count = Meaning::of(&book).resolutions().len();
         let keep_none = count > 0 || random.one_in(30);
+        let together: [usize; 4] = std::array::from_fn(|kind| counts[kind] + book.counts()[kind]);
+        let limits = [PLAIN, EXCEPTIONS, PREFERENCES, CONDITIONALS];
         let fits = statements + book.statements <= STATEMENTS
-            && plain + book.plain.len() <= PLAIN
-            && exceptions + book.exceptions.len() <= EXCEPTIONS
-            && preferences + book.preferences.len() <= PREFERENCES
+            && (0..4).all(|kind| together[kind] <= limits[kind])
             && product * count <= MOST;
         if fits && keep_none {
             statements += book.statements;
-            plain += book.plain.len();
-            exceptions += book.exceptions.len();
-            preferences += book.preferences.len();
+            counts = together;
             product *= count;
             parts.push(book);
         }
@@ -103,9 +117,21 @@ fn draw_parts(random: &mut Random) -> Vec<Book> {
 }
 
 impl Blocks {
-    /// A random book of parts, with the numbers of the parts mixed or in a row.
+    /// A random book of parts without Q lines.
     pub fn draw(random: &mut Random) -> Blocks {
-        let parts = draw_parts(random);
+        Blocks::draw_of(random, any_small)
+    }
+
+    /// A random book of parts, most of them with Q lines.
+    pub fn draw_conditional(random: &mut Random) -> Blocks {
+        let mut blocks = Blocks::draw_of(random, any_conditional);
+        add_idle(random, &mut blocks.book);
+        blocks
+    }
+
+    /// A random book of parts, with the numbers of the parts mixed or in a row.
+    fn draw_of(random: &mut Random, draw: fn(&mut Random) -> Book) -> Blocks {
+        let parts = draw_parts(random, draw);
         let used: i32 = parts.iter().map(|part| part.statements).sum();
         let total = random.between(used.max(1), STATEMENTS) as usize;
         let count: usize = parts.iter().map(|part| part.exceptions.len()).sum();
@@ -164,8 +190,11 @@ fn put_part(whole: &mut Book, book: &Book, part: &Part) {
     for (own, rule) in book.exceptions.iter().enumerate() {
         whole.exceptions[part.exceptions[own]] = part.rule(rule);
     }
-    for order in &book.preferences {
-        whole.preferences.push(order.map(|number| part.exceptions[number as usize - 1] as i32 + 1));
+    let order = |order: [i32; 2]| order.map(|number| part.exceptions[number as usize - 1] as i32 + 1);
+    whole.preferences.extend(book.preferences.iter().map(|own| order(*own)));
+    for line in &book.conditionals {
+        let [needed, barred] = [line.needed, line.barred].map(|entries| entries.map(|entry| part.entry(entry)));
+        whole.conditionals.push(Conditional { order: order(line.order), needed, barred });
     }
 }
 
@@ -196,14 +225,34 @@ fn add_implied(random: &mut Random, book: &mut Book) {
         book.preferences.splice(0..0, copies);
         return;
     }
-    let outranks = outranking(book);
+    let outranks = outranking(&plain_steps(book));
     while book.preferences.len() < PREFERENCES {
         let (a, b) = (random.below(EXCEPTIONS as u64) as usize, random.below(EXCEPTIONS as u64) as usize);
-        if outranks[a][b] {
+        if outranks[a] >> b & 1 == 1 {
             book.preferences.push([a as i32 + 1, b as i32 + 1]);
         }
     }
     random.shuffle(&mut book.preferences);
+}
+
+/// Sometimes fills the Q lines up to the limit with some that change nothing: repeats, lines of a step that a P line
+/// gives, and lines that need a statement held and denied. Then puts them into a random order.
+fn add_idle(random: &mut Random, book: &mut Book) {
+    let count = book.conditionals.len();
+    while count > 0 && book.conditionals.len() < CONDITIONALS && !random.one_in(20) {
+        let mut line = book.conditionals[random.below(count as u64) as usize];
+        match random.below(3) {
+            0 if !book.preferences.is_empty() => line.order = random.pick(&book.preferences),
+            1 => {
+                let statement = random.between(1, book.statements);
+                line.needed[..2].copy_from_slice(&[statement, -statement]);
+                line.order = [0, 1].map(|_| random.between(1, book.exceptions.len() as i32));
+            }
+            _ => {}
+        }
+        book.conditionals.push(line);
+    }
+    random.shuffle(&mut book.conditionals);
 }
 
 /// All combinations of the parts' resolutions, in the order of pairs.

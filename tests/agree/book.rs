@@ -1,14 +1,17 @@
-//! A book, a pair and a refusal, as document 01 names them.
+//! A book, a pair and a refusal, as document 01 names them, and of document 02 the Q lines (e).
 
-/// The most statements, plain rules, exceptions and preferences of a book, and the most bytes of its text.
+/// The most statements, plain rules, exceptions, preferences and preferences under a condition of a book, and the most
+/// bytes of its text.
 pub const STATEMENTS: i32 = 48;
 pub const PLAIN: usize = 200;
 pub const EXCEPTIONS: usize = 16;
 pub const PREFERENCES: usize = 32;
-pub const TEXT: usize = 8_544;
+pub const CONDITIONALS: usize = 32;
+pub const TEXT: usize = 9_888;
 
-/// The most numbers that a number table can have, and the most bytes of an A line.
-pub const TABLE: usize = 4 + 9 * (PLAIN + EXCEPTIONS) + 2 * PREFERENCES;
+/// The numbers before the rows of a number table, the most numbers that it can have, and the most bytes of an A line.
+pub const FRONT: usize = 5;
+pub const TABLE: usize = FRONT + 9 * (PLAIN + EXCEPTIONS) + 2 * PREFERENCES + 10 * CONDITIONALS;
 pub const LINE: usize = 70 + STATEMENTS as usize;
 
 /// The most exceptions of a book whose A lines have 12 fields for them. In a longer book they have 16.
@@ -40,6 +43,33 @@ impl Rule {
     }
 }
 
+/// A preference under a condition, of a Q line: it counts where its body is satisfied.
+#[derive(Clone, Copy, PartialEq, Eq, Debug)]
+pub struct Conditional {
+    pub order: [i32; 2],
+    pub needed: [i32; 4],
+    pub barred: [i32; 4],
+}
+
+impl Conditional {
+    /// The ten numbers of the line's row.
+    pub fn row(&self) -> [i32; 10] {
+        let mut row = [0; 10];
+        row[..2].copy_from_slice(&self.order);
+        row[2..6].copy_from_slice(&self.needed);
+        row[6..].copy_from_slice(&self.barred);
+        row
+    }
+
+    /// The line of a row of ten numbers.
+    pub fn of_row(row: &[i32]) -> Conditional {
+        let mut line = Conditional { order: [row[0], row[1]], needed: [0; 4], barred: [0; 4] };
+        line.needed.copy_from_slice(&row[2..6]);
+        line.barred.copy_from_slice(&row[6..10]);
+        line
+    }
+}
+
 /// A book. Exceptions are numbered from 1 in the order of `exceptions`.
 #[derive(Clone, PartialEq, Eq, Debug)]
 pub struct Book {
@@ -47,17 +77,29 @@ pub struct Book {
     pub plain: Vec<Rule>,
     pub exceptions: Vec<Rule>,
     pub preferences: Vec<[i32; 2]>,
+    pub conditionals: Vec<Conditional>,
 }
 
 impl Book {
     /// The book of so many statements without any rule.
     pub fn empty(statements: i32) -> Book {
-        Book { statements, plain: Vec::new(), exceptions: Vec::new(), preferences: Vec::new() }
+        Book {
+            statements,
+            plain: Vec::new(),
+            exceptions: Vec::new(),
+            preferences: Vec::new(),
+            conditionals: Vec::new(),
+        }
     }
 
-    /// How many R, X and P lines the book has.
+    /// How many R, X, P and Q lines the book has.
+    pub fn counts(&self) -> [usize; 4] {
+        [self.plain.len(), self.exceptions.len(), self.preferences.len(), self.conditionals.len()]
+    }
+
+    /// How many lines the book has between its first and its last.
     pub fn lines(&self) -> usize {
-        self.plain.len() + self.exceptions.len() + self.preferences.len()
+        self.counts().iter().sum()
     }
 
     /// Whether the book has more than 12 exceptions.
@@ -81,9 +123,9 @@ pub struct Pair {
     pub denied: u64,
 }
 
-/// The highest number of a refusal. 19 to 23 are kept for requests to come, and nothing is refused by them.
+/// The highest number of a refusal. 20 to 23 are kept for requests to come, and nothing is refused by them.
 pub const LAST_REFUSAL: usize = 26;
-pub const OF_BOOKS: std::ops::RangeInclusive<usize> = 1..=18;
+pub const OF_BOOKS: std::ops::RangeInclusive<usize> = 1..=19;
 pub const OF_STORES: std::ops::RangeInclusive<usize> = 24..=26;
 
 /// A refusal of document 01 or 02, by number and line.

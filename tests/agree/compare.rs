@@ -189,7 +189,8 @@ impl Checker {
         self.count(0, &fitting);
         let mut lent = self.lend::<i32>(length);
         let answer = engine::read(known.text, lent.part());
-        let expected = fitting.as_ref().map(|table| [0, 1, 2, 3].map(|place| table[place] as u64)).map_err(|r| *r);
+        let front = |table: &Vec<i32>| std::array::from_fn::<u64, FRONT, _>(|place| table[place] as u64);
+        let expected = fitting.as_ref().map(front).map_err(|refusal| *refusal);
         let compared = same(&expected, &answer).and_then(|()| lent.holds(fitting.as_deref().unwrap_or(&[])));
         compared.map_err(|what| known.differs(format!("Read, {length} numbers lent: {what}")))
     }

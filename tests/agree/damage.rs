@@ -10,12 +10,12 @@ use crate::random::Random;
 use crate::text::{line_of, read_table, read_text, table_of, text_of};
 
 /// The bytes that are put in the place of others.
-const BYTES: [u8; 22] = [
-    0, 9, 10, 13, b' ', b'+', b'-', b'.', b'0', b'1', b'4', b'8', b'9', b'B', b'P', b'R', b'X', b'Z', b'a', 127, 128,
-    255,
+const BYTES: [u8; 23] = [
+    0, 9, 10, 13, b' ', b'+', b'-', b'.', b'0', b'1', b'4', b'8', b'9', b'B', b'P', b'Q', b'R', b'X', b'Z', b'a', 127,
+    128, 255,
 ];
 
-/// A book at every limit: 48 statements, 200 R, 16 X and 32 P lines, 8,544 bytes.
+/// A book at every limit: 48 statements, 200 R, 16 X, 32 P and 32 Q lines, 9,888 bytes.
 pub fn full_book(random: &mut Random) -> Book {
     let mut maker = Maker::new(random, STATEMENTS, EXCEPTIONS);
     while maker.book.plain.len() < PLAIN {
@@ -27,7 +27,16 @@ pub fn full_book(random: &mut Random) -> Book {
     while maker.book.preferences.len() < PREFERENCES {
         maker.prefer_any();
     }
+    while maker.book.conditionals.len() < CONDITIONALS {
+        prefer_any_if(&mut maker);
+    }
     maker.book
+}
+
+/// Adds a Q line between any two exceptions, of which there is one at least, with a body of any length.
+fn prefer_any_if(maker: &mut Maker) {
+    let (order, needed, barred) = (maker.any_two(), maker.conclusions(4), maker.conclusions(4));
+    maker.prefer_if(order, &needed, &barred);
 }
 
 /// Compares Read on a text, and, if wanted, the other operations.
@@ -96,7 +105,7 @@ pub fn truncate(checker: &mut Checker, random: &mut Random, text: &[u8]) -> Outc
 }
 
 /// The lines of a text, each with its line feed.
-fn lines_of(text: &[u8]) -> Vec<Vec<u8>> {
+pub fn lines_of(text: &[u8]) -> Vec<Vec<u8>> {
     text.split_inclusive(|byte| *byte == 10).map(|line| line.to_vec()).collect()
 }
 
@@ -133,13 +142,14 @@ pub fn wrong_counts(checker: &mut Checker, random: &mut Random, text: &[u8]) -> 
     Ok(())
 }
 
-/// The text of a small book with one R, two X and one P line.
+/// The text of a small book with one R, two X, one P and one Q line.
 fn short_text(random: &mut Random) -> Vec<u8> {
     let mut maker = Maker::new(random, STATEMENTS, 2);
     maker.random_plain(2, 2);
     maker.random_exception(2, 2);
     maker.random_exception(2, 2);
     maker.prefer(1, 2);
+    prefer_any_if(&mut maker);
     text_of(&maker.book)
 }
 
@@ -147,8 +157,9 @@ fn short_text(random: &mut Random) -> Vec<u8> {
 /// others in the second field of R, elsewhere from fewer.
 pub fn spell_fields(checker: &mut Checker, random: &mut Random) -> Outcome {
     let text = short_text(random);
-    // The fields of B, the first, second and last of R, the first and last of X, both of P, and that of Z.
-    for place in [1, 5, 11, 15, 43, 49, 81, 125, 129, 135] {
+    // The fields of B, the first, second and last of R, the first and last of X, both of P, the first three and the last
+    // of Q, and that of Z.
+    for place in [1, 5, 11, 15, 43, 49, 81, 125, 129, 135, 139, 143, 171, 177] {
         let alphabet: &[u8] = if place == 15 { b" -0123456789+x" } else { b" -+0149" };
         let mut damaged = text.clone();
         for code in 0..alphabet.len().pow(4) {
@@ -161,11 +172,11 @@ pub fn spell_fields(checker: &mut Checker, random: &mut Random) -> Outcome {
     Ok(())
 }
 
-/// Each of the fields beside each of them, in the first two places of B, R, X and P: what stands in one field says
-/// nothing about the spelling of the other.
+/// Each of the fields beside each of them, in the first two places of B, R, X and P and in three of Q: what stands in one
+/// field says nothing about the spelling of the other.
 pub fn spell_neighbours(checker: &mut Checker, random: &mut Random) -> Outcome {
     let text = short_text(random);
-    for place in [1, 11, 49, 125] {
+    for place in [1, 11, 49, 125, 135, 139] {
         let mut damaged = text.clone();
         for first in FIELDS {
             damaged[place..place + 4].copy_from_slice(first);
@@ -211,58 +222,73 @@ pub fn limits(checker: &mut Checker, random: &mut Random) -> Outcome {
 
 /// What a field is replaced by: lawful numbers, numbers out of range, and fields that are refused by 5, by 17 and by
 /// 18, in some of which a later one of these could be found as well.
-pub const FIELDS: [&[u8]; 40] = [
+pub const FIELDS: [&[u8]; 42] = [
     b"   0", b"   1", b"   2", b"   3", b"  12", b"  13", b"  16", b"  17", b"  48", b"  49", b" -48", b" -49",
-    b" 244", b" 245", b" 248", b" 249", b"9999", b"-999", b"+  1", b"  1\0", b"1 1x", b"01 x", b" - 1", b"-  1",
-    b"  1-", b" --1", b"-   ", b"   -", b"    ", b" 1  ", b"0   ", b"01 1", b"0  0", b"1 -1", b"  01", b" -01",
-    b"0001", b"  00", b" -00", b"  -0",
+    b" 244", b" 245", b" 248", b" 249", b" 280", b" 281", b"9999", b"-999", b"+  1", b"  1\0", b"1 1x", b"01 x",
+    b" - 1", b"-  1", b"  1-", b" --1", b"-   ", b"   -", b"    ", b" 1  ", b"0   ", b"01 1", b"0  0", b"1 -1",
+    b"  01", b" -01", b"0001", b"  00", b" -00", b"  -0",
 ];
 
-/// Books with so many R, X and P lines, around each limit. In the last of them each field is replaced by each of the
-/// fields, alone and together with the first field, so that two refusals apply to one line.
+/// Books with so many R, X and P lines, around each limit, each with its last line damaged.
 fn over_limit(checker: &mut Checker, random: &mut Random, full: &Book) -> Outcome {
     let cases = [
-        (199, 0, 0),
-        (200, 0, 0),
-        (201, 0, 0),
-        (0, 1, 0),
-        (0, 12, 1),
-        (0, 13, 1),
-        (0, 15, 1),
-        (0, 16, 0),
-        (0, 17, 0),
-        (0, 16, 32),
-        (0, 16, 33),
-        (0, 2, 32),
-        (0, 2, 33),
-        (0, 0, 1),
+        [199, 0, 0],
+        [200, 0, 0],
+        [201, 0, 0],
+        [0, 1, 0],
+        [0, 12, 1],
+        [0, 13, 1],
+        [0, 15, 1],
+        [0, 16, 0],
+        [0, 17, 0],
+        [0, 16, 32],
+        [0, 16, 33],
+        [0, 2, 32],
+        [0, 2, 33],
+        [0, 0, 1],
     ];
-    for (plain, exceptions, preferences) in cases {
-        let mut lines = vec![line_of(b'B', &[1, 48])];
-        lines.extend((0..plain).map(|place| line_of(b'R', &full.plain[place % PLAIN].row())));
-        lines.extend((0..exceptions).map(|place| line_of(b'X', &full.exceptions[place % EXCEPTIONS].row())));
-        lines.extend((0..preferences).map(|place| line_of(b'P', &[1 + place % 2, 2])));
-        let last = lines.pop().expect("there is a last line");
-        let before = lines.concat();
-        let end = line_of(b'Z', &[lines.len() as i32]);
-        for damaged in damaged_lines(&last) {
-            compare_text(checker, random, &[&before, &damaged, &end].map(|part| &part[..]).concat(), true)?;
-        }
-        compare_text(checker, random, &[before, last, end].concat(), true)?;
+    for [plain, exceptions, preferences] in cases {
+        let lines = lines_at_limit(full, [plain, exceptions, preferences, 0]);
+        damage_last(checker, random, lines, &[b"   0"])?;
     }
     Ok(())
 }
 
-/// A line with each field replaced, and with the first field made 0 beside it; and with a byte more or less.
-fn damaged_lines(line: &[u8]) -> Vec<Vec<u8>> {
+/// The lines of a book with so many R, X, P and Q lines, without its last, from those of a full book.
+pub fn lines_at_limit(full: &Book, [plain, exceptions, preferences, conditionals]: [usize; 4]) -> Vec<Vec<u8>> {
+    let between = |place: usize| Conditional { order: [1, 2], ..full.conditionals[place % CONDITIONALS] };
+    let mut lines = vec![line_of(b'B', &[1, 48])];
+    lines.extend((0..plain).map(|place| line_of(b'R', &full.plain[place % PLAIN].row())));
+    lines.extend((0..exceptions).map(|place| line_of(b'X', &full.exceptions[place % EXCEPTIONS].row())));
+    lines.extend((0..preferences).map(|place| line_of(b'P', &[1 + place as i32 % 2, 2])));
+    lines.extend((0..conditionals).map(|place| line_of(b'Q', &between(place).row())));
+    lines
+}
+
+/// The text of these lines and a right last one; and each field of the last of the lines replaced by each of the fields,
+/// alone and together with the first field, so that two refusals apply to one line.
+pub fn damage_last(checker: &mut Checker, random: &mut Random, mut lines: Vec<Vec<u8>>, first: &[&[u8; 4]]) -> Outcome {
+    let last = lines.pop().expect("there is a last line");
+    let before = lines.concat();
+    let end = line_of(b'Z', &[lines.len() as i32]);
+    for damaged in damaged_lines(&last, first) {
+        compare_text(checker, random, &[&before, &damaged, &end].map(|part| &part[..]).concat(), true)?;
+    }
+    compare_text(checker, random, &[before, last, end].concat(), true)
+}
+
+/// A line with each field replaced, and beside it with the first field made each of these; and with a byte more or less.
+fn damaged_lines(line: &[u8], first: &[&[u8; 4]]) -> Vec<Vec<u8>> {
     let mut all = Vec::new();
     for start in (1..line.len() - 1).step_by(4) {
         for field in FIELDS {
             let mut damaged = line.to_vec();
             damaged[start..start + 4].copy_from_slice(field);
             all.push(damaged.clone());
-            damaged[1..5].copy_from_slice(b"   0");
-            all.push(damaged);
+            for beside in first {
+                damaged[1..5].copy_from_slice(&beside[..]);
+                all.push(damaged.clone());
+            }
         }
     }
     all.push([&line[..1], b" ", &line[1..]].concat());
@@ -279,7 +305,7 @@ fn random_field(random: &mut Random) -> [u8; 4] {
 }
 
 /// Changes one field, byte or length of a line.
-fn damage_line(random: &mut Random, line: &mut Vec<u8>) {
+pub fn damage_line(random: &mut Random, line: &mut Vec<u8>) {
     let fields = line.len().saturating_sub(2) / 4;
     if fields == 0 {
         return line.insert(0, random.pick(&BYTES));
@@ -291,7 +317,7 @@ fn damage_line(random: &mut Random, line: &mut Vec<u8>) {
         3 => line[start] = random.pick(&BYTES),
         4 => line.insert(start, b' '),
         5 => drop(line.remove(start)),
-        6 => line[0] = random.pick(b"BRXPZA"),
+        6 => line[0] = random.pick(b"BRXPQZA"),
         7 | 8 => line[start..start + 4].copy_from_slice(&random_field(random)),
         _ => line[start..start + 4].copy_from_slice(random.pick(&[b"   3", b"  16", b"  -3", b"   2"])),
     }
@@ -300,7 +326,17 @@ fn damage_line(random: &mut Random, line: &mut Vec<u8>) {
 /// A small random book with one to four faults anywhere. Where it is still accepted, its meaning is compared too.
 pub fn several_faults(checker: &mut Checker, random: &mut Random) -> Outcome {
     let kind = random.below(KINDS.len() as u64) as usize;
-    let mut lines = lines_of(&text_of(&small_book(random, kind)));
+    let lines = lines_of(&text_of(&small_book(random, kind)));
+    with_faults(checker, random, lines, fault)
+}
+
+/// Lines with one to four faults. Where the text is still accepted, its meaning is compared too.
+pub fn with_faults(
+    checker: &mut Checker,
+    random: &mut Random,
+    mut lines: Vec<Vec<u8>>,
+    fault: impl Fn(&mut Random, &mut Vec<Vec<u8>>),
+) -> Outcome {
     for _ in 0..1 + random.below(4) {
         fault(random, &mut lines);
     }
@@ -313,7 +349,7 @@ pub fn several_faults(checker: &mut Checker, random: &mut Random) -> Outcome {
 }
 
 /// One fault in a line, in the order of the lines, or in their number.
-fn fault(random: &mut Random, lines: &mut Vec<Vec<u8>>) {
+pub fn fault(random: &mut Random, lines: &mut Vec<Vec<u8>>) {
     if lines.is_empty() {
         return lines.push(vec![10]);
     }
@@ -358,7 +394,7 @@ pub fn random_bytes(checker: &mut Checker, random: &mut Random) -> Outcome {
 }
 
 /// Numbers that tables get where other numbers were.
-const NUMBERS: [i32; 22] = [
+pub const NUMBERS: [i32; 22] = [
     i32::MIN,
     i32::MIN + 1,
     -65_536,
@@ -406,7 +442,13 @@ pub fn replace_numbers(checker: &mut Checker, random: &mut Random, table: &[i32]
 /// A random table with one to three faults.
 pub fn faulty_table(checker: &mut Checker, random: &mut Random) -> Outcome {
     let kind = random.below(KINDS.len() as u64) as usize;
-    let mut table = table_of(&small_book(random, kind));
+    let book = small_book(random, kind);
+    faulty_table_of(checker, random, &book)
+}
+
+/// The table of a book with one to three faults.
+pub fn faulty_table_of(checker: &mut Checker, random: &mut Random, book: &Book) -> Outcome {
+    let mut table = table_of(book);
     for _ in 0..1 + random.below(3) {
         damage_table(random, &mut table);
     }
@@ -414,10 +456,10 @@ pub fn faulty_table(checker: &mut Checker, random: &mut Random) -> Outcome {
     checker.write(&table, room)
 }
 
-/// Shortens or lengthens a table, or changes one of its numbers; the four before the rows more often.
+/// Shortens or lengthens a table, or changes one of its numbers; those before the rows more often.
 fn damage_table(random: &mut Random, table: &mut Vec<i32>) {
     let place = random.below(table.len() as u64 + 1) as usize;
-    let front = random.below(4) as usize;
+    let front = random.below(FRONT as u64) as usize;
     match random.below(8) {
         0 => table.truncate(place),
         1 => table.insert(place, random.pick(&NUMBERS)),

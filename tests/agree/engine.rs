@@ -1,6 +1,6 @@
 //! The engine's C interface (include/bantameasel.h), wrapped so that each call answers a Rust value.
 
-use crate::book::{Pair, Refusal};
+use crate::book::{Pair, Refusal, FRONT};
 use std::fmt::Debug;
 
 #[repr(C)]
@@ -12,7 +12,8 @@ struct BookAnswer {
     plain: u64,
     exceptions: u64,
     preferences: u64,
-    reserved: [u64; 4],
+    conditionals: u64,
+    reserved: [u64; 3],
 }
 
 #[repr(C)]
@@ -106,10 +107,10 @@ fn found(answer: PairAnswer) -> Result<Option<Pair>, Refusal> {
 
 /// Read: the numbers before the table's rows. By the engine's contract the edition is 1 and what is reserved is 0;
 /// anything else stops this program.
-pub fn read(text: &[u8], table: &mut [i32]) -> Result<[u64; 4], Refusal> {
+pub fn read(text: &[u8], table: &mut [i32]) -> Result<[u64; FRONT], Refusal> {
     let answer = unsafe { bantameasel_read(text.as_ptr(), text.len(), table.as_mut_ptr(), table.len()) };
-    let shape = [answer.statements, answer.plain, answer.exceptions, answer.preferences];
-    assert_eq!(answer.reserved, [0; 4], "what is reserved");
+    let shape = [answer.statements, answer.plain, answer.exceptions, answer.preferences, answer.conditionals];
+    assert_eq!(answer.reserved, [0; 3], "what is reserved");
     let (edition, shape) = unless_refused(answer.refusal, answer.line, (answer.edition, shape))?;
     assert_eq!(edition, 1, "the edition of an accepted book");
     Ok(shape)

@@ -33,8 +33,12 @@ pub fn small_book(random: &mut Random, kind: usize) -> Book {
     } else {
         random.pick(&[1, 2, 3, 3, 4, 4, 4, 5, 5, 6, 7])
     };
-    let room = (0..=EXCEPTIONS).rev().find(|room| 3u64.pow(statements as u32) << room <= most_sets).unwrap_or(0);
-    book_of_kind(random, kind, statements, room)
+    book_of_kind(random, kind, statements, room_within(statements, most_sets))
+}
+
+/// The most exceptions for which there are at most so many sets of conclusions and exceptions to try.
+pub fn room_within(statements: i32, most_sets: u64) -> usize {
+    (0..=EXCEPTIONS).rev().find(|room| 3u64.pow(statements as u32) << room <= most_sets).unwrap_or(0)
 }
 
 /// A random book of the kind with this number, of so many statements and at most so many exceptions.
@@ -180,7 +184,7 @@ pub fn constraints(maker: &mut Maker) {
 }
 
 /// The head of some exception, or any conclusion.
-fn some_head(maker: &mut Maker) -> i32 {
+pub fn some_head(maker: &mut Maker) -> i32 {
     let heads: Vec<i32> = maker.book.exceptions.iter().map(|rule| rule.head).collect();
     if heads.is_empty() || maker.random.one_in(6) {
         maker.conclusion()
@@ -212,7 +216,7 @@ pub fn exceptions_that_need_each_other(maker: &mut Maker) {
 }
 
 /// One exception for each statement; some of them are wanted.
-fn one_for_each(maker: &mut Maker) {
+pub fn one_for_each(maker: &mut Maker) {
     for statement in 1..=maker.n() {
         maker.exception(statement, &[], &[]);
     }

@@ -4,6 +4,7 @@
 
 use crate::book::*;
 use crate::large::{claims_of, draw_form, put_fields};
+use crate::large_conditions::add_some;
 use crate::maker::Maker;
 use crate::meaning::{closure, members, Conclusions};
 use crate::random::Random;
@@ -21,21 +22,38 @@ const FORMS: [&[i32]; 6] =
 /// A book with what is known of it.
 pub fn known_book(random: &mut Random, place: u64) -> Solved {
     if place % 2 == 0 {
-        let form = FORMS.get(place as usize / 2).map(|form| form.to_vec());
-        fields(random, form)
+        fields(random, form_at(place), prefer_some)
     } else {
-        so_many(random)
+        let count = many(random);
+        so_many(random, count, prefer_some)
     }
 }
 
+/// The same with Q lines under three of its claims or exceptions; of exceptions that are counted there are twelve.
+pub fn known_conditional_book(random: &mut Random, place: u64) -> Solved {
+    if place % 2 == 0 {
+        fields(random, form_at(place), prefer_if_some)
+    } else {
+        so_many(random, NARROW as i32, prefer_if_some)
+    }
+}
+
+/// The form that is next, as long as there are some.
+fn form_at(place: u64) -> Option<Vec<i32>> {
+    FORMS.get(place as usize / 2).map(|form| form.to_vec())
+}
+
+/// What ranks the exceptions of a book.
+type Ranking = fn(&mut Maker);
+
 /// One-value fields: a set of exceptions has a view if it leaves at most one claim of each field; the claims that are
 /// left are held. With one left in each it is a resolution's.
-fn fields(random: &mut Random, form: Option<Vec<i32>>) -> Solved {
+fn fields(random: &mut Random, form: Option<Vec<i32>>, rank: Ranking) -> Solved {
     let claims = many(random);
     let form = form.unwrap_or_else(|| draw_form(random, claims));
     let mut maker = Maker::new(random, form.iter().sum(), EXCEPTIONS);
     put_fields(&mut maker, &form);
-    prefer_some(&mut maker);
+    rank(&mut maker);
     let fields: Vec<u64> = claims_of(&form).iter().map(|field| bits(field)).collect();
     let left = |taken: u64| fields.iter().map(move |field| (field & !taken).count_ones());
     let all = bits(&(1..=maker.n()).collect::<Vec<i32>>());
@@ -51,14 +69,21 @@ fn prefer_some(maker: &mut Maker) {
     }
 }
 
+/// Adds Q lines under what three of the exceptions give, and a few preferences.
+fn prefer_if_some(maker: &mut Maker) {
+    let heads: Vec<i32> = maker.book.exceptions.iter().map(|rule| rule.head).collect();
+    let entries: Vec<i32> = (0..3).map(|_| maker.random.pick(&heads)).collect();
+    add_some(maker, CONDITIONALS as u64, &entries);
+    prefer_some(maker);
+}
+
 /// The set of these numbers.
 fn bits(numbers: &[i32]) -> u64 {
     numbers.iter().map(|number| 1 << (number - 1)).sum()
 }
 
-/// At least so many of the exceptions are needed, few or nearly all more often than half of them.
-fn so_many(random: &mut Random) -> Solved {
-    let count = many(random);
+/// Of so many exceptions at least some number is needed, few or nearly all more often than half of them.
+fn so_many(random: &mut Random, count: i32, rank: Ranking) -> Solved {
     let wanted = match random.below(5) {
         0 | 1 => random.between(1, 2),
         2 | 3 => random.between(count - 1, count),
@@ -66,7 +91,7 @@ fn so_many(random: &mut Random) -> Solved {
     };
     let mut maker = Maker::new(random, STATEMENTS, EXCEPTIONS);
     put_counting(&mut maker, count, wanted);
-    prefer_some(&mut maker);
+    rank(&mut maker);
     let book = maker.book;
     let plain = book.clone();
     let view = move |taken: u64| {

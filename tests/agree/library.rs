@@ -21,8 +21,10 @@ pub struct Outcomes {
     /// Books of 13 to 16 exceptions, and those of them of which a resolution takes one past the twelfth.
     pub wide: u64,
     pub past_twelfth: u64,
-    /// The most statements, R, X and P lines.
-    pub largest: [usize; 4],
+    /// The most statements, R, X, P and Q lines.
+    pub largest: [usize; 5],
+    /// How many answers were compared, where they were counted by kind.
+    pub asked: u64,
 }
 
 impl Outcomes {
@@ -37,13 +39,20 @@ impl Outcomes {
         self.most = self.most.max(resolutions.len());
         self.wide += u64::from(book.is_wide());
         self.past_twelfth += u64::from(resolutions.iter().any(|pair| pair.taken >> NARROW != 0));
-        let shape = [book.statements as usize, book.plain.len(), book.exceptions.len(), book.preferences.len()];
+        let [plain, exceptions, preferences, conditionals] = book.counts();
+        let shape = [book.statements as usize, plain, exceptions, preferences, conditionals];
         self.largest = std::array::from_fn(|place| self.largest[place].max(shape[place]));
         if resolutions.first().is_some_and(|pair| pair.taken != 0) {
             self.with_exceptions += 1;
         } else if !resolutions.is_empty() && !book.exceptions.is_empty() {
             self.without_need += 1;
         }
+    }
+
+    /// Counts a book by its resolutions, and so many answers that were compared on it.
+    pub fn count_asked(&mut self, book: &Book, resolutions: &[Pair], asked: u64) {
+        self.count(book, resolutions);
+        self.asked += asked;
     }
 }
 

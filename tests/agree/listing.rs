@@ -122,13 +122,25 @@ fn go_on(text: &[u8], point: &Option<Pair>) -> Answer {
     }
 }
 
-/// Calls other operations on this text and on another, without looking at what they answer.
+/// A book with a Q line: the case of request (e).
+const CONDITIONAL: &[u8] = b"\
+B   1   3
+R   0   0   0   0   0   1   3   0   0
+X   1   0   0   0   0   0   0   0   0
+X   2   0   0   0   0   0   0   0   0
+X   3   0   0   0   0   0   0   0   0
+Q   3   1   0   0   0   0   2   0   0   0
+Z   5
+";
+
+/// Calls other operations on this text and on others, without looking at what they answer.
 fn call_others(text: &[u8], pair: &Pair) {
     let other = b"B   1   2\nR   1   0   0   0   0   2   0   0   0\nR   2   0   0   0   0   1   0   0   0\nZ   2\n";
     let _ = engine::judge(text, pair);
     let _ = engine::line(text, pair, &mut [0; LINE]);
     let _ = engine::page_after(text, pair, &mut [0; 6]);
     let _ = engine::first(other);
+    let _ = engine::first(CONDITIONAL);
     let _ = engine::after(other, &Pair { taken: 0, held: 2, denied: 0 });
     let _ = engine::read(&text[1..], &mut [0; 40]);
 }

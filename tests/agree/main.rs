@@ -7,6 +7,7 @@
 //!     agree clingo SEED COUNT    so many small and as many larger books against clingo
 //!     agree ways SEED COUNT      `ways`, on so many small and as many larger books
 //!     agree points SEED COUNT    named stopping points alone: so many lists of calls
+//!     agree conditions SEED COUNT   books with Q lines alone, without `ways`
 //!
 //! Options: --ways PATH (needed by gate solver, long and ways), --clingo PATH, --save FOLDER.
 //! At the first difference it saves the book or the store, says what differs, and ends with status 1.
@@ -15,13 +16,17 @@ mod blocks;
 mod book;
 mod clingo;
 mod compare;
+mod conditional_sections;
+mod conditions;
 mod damage;
+mod damaged_conditions;
 mod damaged_stores;
 mod engine;
 mod going_on;
 mod kinds;
 mod known;
 mod large;
+mod large_conditions;
 mod library;
 mod listing;
 mod loops;
@@ -34,6 +39,7 @@ mod plain;
 mod points;
 mod process;
 mod random;
+mod readings;
 mod report;
 mod sections;
 mod small_books;
@@ -160,6 +166,9 @@ fn plan(plain: &[&str]) -> Result<(u64, Counts), String> {
         ["clingo", seed, count] => Ok((number(seed)?, Counts::clingo(number(count)?))),
         ["ways", seed, count] => Ok((number(seed)?, Counts::only_ways(number(count)?))),
         ["points", seed, count] => Ok((number(seed)?, Counts::points(number(count)?))),
-        _ => Err("use: agree gate library|solver, or agree long|library|clingo|ways|points SEED COUNT".to_string()),
+        ["conditions", seed, count] => Ok((number(seed)?, Counts::conditions(number(count)?))),
+        _ => {
+            Err("use: agree gate library|solver, or agree long|library|clingo|ways|points|conditions SEED COUNT".into())
+        }
     }
 }

@@ -89,10 +89,24 @@ impl<'a> Maker<'a> {
         }
     }
 
+    /// Adds a preference under a condition, if both exceptions are there. Call it after the exceptions.
+    pub fn prefer_if(&mut self, [a, b]: [i32; 2], needed: &[i32], barred: &[i32]) {
+        let line = Conditional { order: [a, b], needed: self.columns(needed), barred: self.columns(barred) };
+        let count = self.book.exceptions.len() as i32;
+        if a.max(b) <= count && self.book.conditionals.len() < CONDITIONALS {
+            self.book.conditionals.push(line);
+        }
+    }
+
+    /// Two exceptions, which may be the same one. There is at least one.
+    pub fn any_two(&mut self) -> [i32; 2] {
+        let count = self.book.exceptions.len() as i32;
+        [self.random.between(1, count), self.random.between(1, count)]
+    }
+
     /// Adds a preference between any two exceptions, which may be the same one. There is at least one.
     pub fn prefer_any(&mut self) {
-        let count = self.book.exceptions.len() as i32;
-        let (a, b) = (self.random.between(1, count), self.random.between(1, count));
+        let [a, b] = self.any_two();
         self.prefer(a, b);
     }
 
@@ -138,7 +152,7 @@ impl<'a> Maker<'a> {
         }
     }
 
-    /// Puts the lines of each kind into a random order; preferences follow their exceptions.
+    /// Puts the lines of each kind into a random order; preferences, under a condition or not, follow their exceptions.
     pub fn shuffled(mut self) -> Book {
         self.random.shuffle(&mut self.book.plain);
         let mut places: Vec<usize> = (0..self.book.exceptions.len()).collect();
@@ -147,10 +161,12 @@ impl<'a> Maker<'a> {
         for (number, place) in places.iter().enumerate() {
             self.book.exceptions[*place] = old[number];
         }
-        for order in &mut self.book.preferences {
+        let conditional = self.book.conditionals.iter_mut().map(|line| &mut line.order);
+        for order in self.book.preferences.iter_mut().chain(conditional) {
             *order = order.map(|number| places[number as usize - 1] as i32 + 1);
         }
         self.random.shuffle(&mut self.book.preferences);
+        self.random.shuffle(&mut self.book.conditionals);
         self.book
     }
 }

@@ -1,10 +1,10 @@
 //! Checks of the test program itself: its reading, its order and its meaning against what document 01 states, and
-//! against document 02: the closing line (a), sixteen exceptions (c), misspelt fields (d), and named stopping points
-//! (h).
+//! against document 02: the closing line (a), sixteen exceptions (c), misspelt fields (d), preferences under a condition
+//! (e), and named stopping points (h).
 
 use crate::book::*;
 use crate::meaning::{compare_pairs, Meaning, Oracle};
-use crate::small_books::{small_books, SEVENTH_LISTING, SEVENTH_TEXT};
+use crate::small_books::{conditional_cases, small_books, SEVENTH_LISTING, SEVENTH_TEXT};
 use crate::store_examples;
 use crate::text::*;
 use crate::ways::{listing_of, MOST};
@@ -12,7 +12,7 @@ use crate::ways::{listing_of, MOST};
 /// Every statement of document 01 about its small books, its order and its spelling, on this program's own code.
 pub fn check() -> Result<u64, String> {
     let mut count = 0;
-    for small in small_books() {
+    for small in small_books().into_iter().chain(conditional_cases()) {
         let meaning = Meaning::of(&small.book);
         expect(small.name, meaning.resolutions() == small.resolutions)?;
         for (pair, verdict) in &small.verdicts {
@@ -36,8 +36,10 @@ pub fn check() -> Result<u64, String> {
     check_spelling()?;
     check_misspelling()?;
     check_order_of_fields()?;
+    check_conditionals()?;
+    check_tables()?;
     store_examples::check().or_else(|name| expect(name, false))?;
-    Ok(count + 11)
+    Ok(count + 13)
 }
 
 /// A named expectation.
@@ -81,8 +83,8 @@ fn with_preference(exceptions: usize, order: [i32; 2], last: i32) -> Vec<u8> {
     [line_of(b'B', &[1, 1]), rules, line_of(b'P', &order), line_of(b'Z', &[last])].concat()
 }
 
-/// 16 X are accepted, 17 give 8; P fields up to 16 give 10 where the exception is missing, and 17 gives 6; Z up to 248
-/// is in its range; a text of 8,545 bytes is too long.
+/// 16 X are accepted, 17 give 8; P fields up to 16 give 10 where the exception is missing, and 17 gives 6; Z up to 280
+/// is in its range; a text of 9,889 bytes is too long.
 fn check_exceptions() -> Result<(), String> {
     let read = |exceptions, order, last| read_text(&with_preference(exceptions, order, last));
     let refusal = |number, line| Err(Refusal { number, line });
@@ -90,8 +92,64 @@ fn check_exceptions() -> Result<(), String> {
     expect("17 X", read(17, [1, 1], 18) == refusal(8, 18))?;
     expect("P 13 of 12", read(12, [13, 1], 13) == refusal(10, 14) && read(12, [1, 16], 13) == refusal(10, 14))?;
     expect("P 17", read(16, [17, 1], 17) == refusal(6, 18))?;
-    expect("Z 248", read(1, [1, 1], 248) == refusal(11, 4) && read(1, [1, 1], 249) == refusal(6, 4))?;
-    expect("8,544 bytes", read_text(&[b' '; 8_544]) == Err(refused(2)) && read_text(&[b' '; 8_545]) == Err(refused(1)))
+    expect("Z 280", read(1, [1, 1], 280) == refusal(11, 4) && read(1, [1, 1], 281) == refusal(6, 4))?;
+    expect("9,888 bytes", read_text(&[b' '; 9_888]) == Err(refused(2)) && read_text(&[b' '; 9_889]) == Err(refused(1)))
+}
+
+/// The text of a book of three statements and two exceptions with so many Q lines, then these lines, and this number in
+/// its last line.
+fn with_conditionals(count: usize, more: &str, last: i32) -> Vec<u8> {
+    let rules = vec![line_of(b'X', &[1, 0, 0, 0, 0, 0, 0, 0, 0]); 2].concat();
+    let lines = vec![line_of(b'Q', &[1, 2, 0, 0, 0, 0, 0, 0, 0, 0]); count].concat();
+    [line_of(b'B', &[1, 3]), rules, lines, more.as_bytes().to_vec(), line_of(b'Z', &[last])].concat()
+}
+
+/// A Q line has 42 bytes and stands after the P lines. 32 are accepted; the 33rd gives 19, after its length and its
+/// fields and before its 10. a and b lie in 1 to 16 and the entries in -n to n, all looked at before 10.
+fn check_conditionals() -> Result<(), String> {
+    let read = |count, line: &str, last| {
+        let read = read_text(&with_conditionals(count, line, last));
+        read.map(|book| book.conditionals.len()).map_err(|refusal| (refusal.number, refusal.line))
+    };
+    let zeros = "   0".repeat(7);
+    let line = |fields: &str| format!("Q{fields}{zeros}\n");
+    let one = |fields: &str| read(0, &line(fields), 3);
+    expect("32 Q", read(32, "", 34) == Ok(32))?;
+    expect("33 Q", read(32, &line("   1   1   0"), 35) == Err((19, 36)))?;
+    expect("19 before 10", read(32, &line("   1   3   0"), 35) == Err((19, 36)))?;
+    expect("6 before 19", read(32, &line("   1   1   4"), 35) == Err((6, 36)))?;
+    expect("17 before 19", read(32, &line("   1   1    "), 35) == Err((17, 36)))?;
+    expect("4 before 19", read(32, &line("   1   1"), 35) == Err((4, 36)))?;
+    expect("P after Q", read(1, "P   1   1\n", 4) == Err((3, 5)))?;
+    expect("X after Q", read(1, &line("   1   1   0").replace('Q', "X"), 4) == Err((3, 5)))?;
+    expect("a equal to b", one("   2   2  -3") == Ok(1))?;
+    expect("Q 3 of 2", one("   3   1   0") == Err((10, 4)) && one("   1  16   0") == Err((10, 4)))?;
+    expect("Q 17", one("  17   1   0") == Err((6, 4)) && one("   1   0   0") == Err((6, 4)))?;
+    expect("6 before 10", one("   3   1   4") == Err((6, 4)) && one("   3   1  -4") == Err((6, 4)))?;
+    expect("18 before 10", one("   3   1  -0") == Err((18, 4)))?;
+    expect("10 before a wrong Z", read(0, &line("   3   1   0"), 9) == Err((10, 4)))?;
+    expect("a Q line of Z's count", read(1, "", 2) == Err((11, 5)))
+}
+
+/// The number table of a book with a Q line: n, four counts, and the Q row last. Under five numbers are 16; a count out
+/// of range is 8 and never 19; a row's 6 comes before its 10.
+fn check_tables() -> Result<(), String> {
+    let text = with_conditionals(0, "P   2   1\nQ   1   2   3  -3   0   0   0   0   0  -1\n", 4);
+    let table = table_of(&read_text(&text).expect("the book is accepted"));
+    let read = |place: usize, number: i32| {
+        let mut table = table.clone();
+        table[place] = number;
+        read_table(&table).map_err(|refusal| (refusal.number, refusal.line)).err()
+    };
+    let row = [1, 2, 3, -3, 0, 0, 0, 0, 0, -1];
+    expect("five numbers before the rows", table[..5] == [3, 0, 2, 1, 1] && table.len() == 5 + 18 + 2 + 10)?;
+    expect("the Q row last", table[23..25] == [2, 1] && table[25..] == row)?;
+    expect("four numbers", read_table(&[3, 0, 0, 0]) == Err(refused(16)) && read_table(&[3, 0, 0, 0, 0]).is_ok())?;
+    expect("a Q count of 33", read(4, 33) == Some((8, 1)) && read(4, -1) == Some((8, 1)))?;
+    expect("a Q count of 2", read(4, 2) == Some((16, 0)))?;
+    expect("a Q row's 10", read(25, 16) == Some((10, 5)) && read(25, 17) == Some((6, 5)))?;
+    expect("a Q row's 6", read(27, 4) == Some((6, 5)) && read(34, -4) == Some((6, 5)))?;
+    expect("the text again", read_table(&table).map(|book| text_of(&book)) == Ok(text))
 }
 
 /// A line of a book of 12 exceptions has 12 fields for them and 54 + n bytes; of a longer book, 16 and 70 + n, also

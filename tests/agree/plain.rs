@@ -1,47 +1,87 @@
 //! What a tiny book means, read plainly: every set of exceptions with every set of conclusions, and every pair against
-//! every view, as document 01 says it. meaning.rs, which the engine is compared with, is compared with this.
+//! every view, line by line as documents 01 and 02 (e) say it. meaning.rs, which the engine is compared with, is compared
+//! with this.
 
-use crate::book::{Book, Pair, EXCEPTIONS};
-use crate::meaning::{compare_pairs, consistent_sets, outranking, outranks_some, Meaning, Oracle, Ranked};
+use crate::book::{Book, Pair};
+use crate::meaning::{compare_pairs, conclusions, consistent_sets, counts, Meaning, Oracle, Ranked};
 use crate::pairs::all_lawful;
 
 /// The most statements and exceptions of a tiny book.
 pub const MOST_STATEMENTS: i32 = 3;
 pub const MOST_EXCEPTIONS: usize = 6;
 
+/// A step from one exception to another.
+type Step = [i32; 2];
+
 /// The meaning of a tiny book.
 struct Plain {
     ranked: Ranked,
-    outranks: [[bool; EXCEPTIONS]; EXCEPTIONS],
-    /// All views, in the order of pairs.
-    views: Vec<Pair>,
+    /// All views, in the order of pairs, with the steps that rank in each.
+    views: Vec<(Pair, Vec<Step>)>,
     resolutions: Vec<Pair>,
+}
+
+/// The steps that rank in a pair's conclusions: those of the P lines, and of the Q lines that count as P lines there.
+pub fn ranking(book: &Book, pair: &Pair) -> Vec<Step> {
+    let counting = book.conditionals.iter().filter(|line| counts(line, &conclusions(pair)));
+    book.preferences.iter().copied().chain(counting.map(|line| line.order)).collect()
+}
+
+/// The steps of one list that are in the other too.
+pub fn in_both(one: &[Step], other: &[Step]) -> Vec<Step> {
+    one.iter().copied().filter(|step| other.contains(step)).collect()
+}
+
+/// Steps lead from an exception of the one set to an exception of the other.
+pub fn lead(steps: &[Step], above: u64, below: u64) -> bool {
+    let has = |set: u64, number: i32| set >> (number - 1) & 1 == 1;
+    let mut reached = 0;
+    for _ in steps {
+        let next = steps.iter().filter(|step| has(above | reached, step[0])).map(|step| 1 << (step[1] - 1));
+        reached = next.fold(reached, |set, bit| set | bit);
+    }
+    reached & below != 0
 }
 
 impl Plain {
     fn of(book: &Book) -> Plain {
-        let (ranked, outranks) = (Ranked::of(book), outranking(book));
-        let mut plain = Plain { ranked, outranks, views: Vec::new(), resolutions: Vec::new() };
+        let mut plain = Plain { ranked: Ranked::of(book), views: Vec::new(), resolutions: Vec::new() };
         for taken in 0..1 << book.exceptions.len() {
             for s in consistent_sets(book.statements) {
-                if plain.ranked.is_view(taken, &s) {
-                    plain.views.push(Pair { taken, held: s.held, denied: s.denied });
+                let pair = Pair { taken, held: s.held, denied: s.denied };
+                if plain.verdict_alone(&pair) == 0 {
+                    plain.views.push((pair, ranking(book, &pair)));
                 }
             }
         }
-        plain.views.sort_by(compare_pairs);
-        plain.resolutions = plain.views.iter().copied().filter(|view| plain.verdict(view) == 0).collect();
+        plain.views.sort_by(|one, other| compare_pairs(&one.0, &other.0));
+        plain.resolutions = plain.views.iter().map(|(view, _)| *view).filter(|view| plain.verdict(view) == 0).collect();
         plain
     }
 
-    /// Some view takes an exception that outranks one of these.
-    fn dominated(&self, taken: u64) -> bool {
-        self.views.iter().any(|view| outranks_some(&self.outranks, view.taken, taken))
+    /// The first of the verdicts 1 to 3 that applies to a lawful pair, else 0: the pair is a view.
+    fn verdict_alone(&self, pair: &Pair) -> u32 {
+        let s = conclusions(pair);
+        if !self.ranked.is_answer(pair.taken, &s) {
+            1
+        } else if lead(&ranking(&self.ranked.book, pair), pair.taken, pair.taken) {
+            2
+        } else if !self.ranked.bodies_satisfied(pair.taken, &s) {
+            3
+        } else {
+            0
+        }
     }
 
-    /// Some view takes some of these exceptions and no others, and not all.
+    /// Some view takes an exception that outranks one of these, by steps that rank in both.
+    fn dominated(&self, pair: &Pair, ranking: &[Step]) -> bool {
+        self.views.iter().any(|(view, other)| lead(&in_both(ranking, other), view.taken, pair.taken))
+    }
+
+    /// Some undominated view takes some of these exceptions and no others, and not all.
     fn has_smaller(&self, taken: u64) -> bool {
-        self.views.iter().any(|view| view.taken & !taken == 0 && view.taken != taken)
+        let smaller = |view: &Pair| view.taken & !taken == 0 && view.taken != taken;
+        self.views.iter().any(|(view, ranking)| smaller(view) && !self.dominated(view, ranking))
     }
 }
 
@@ -51,8 +91,8 @@ impl Oracle for Plain {
     }
 
     fn verdict(&self, pair: &Pair) -> u32 {
-        match self.ranked.verdict_alone(pair) {
-            0 if self.dominated(pair.taken) => 4,
+        match self.verdict_alone(pair) {
+            0 if self.dominated(pair, &ranking(&self.ranked.book, pair)) => 4,
             0 if self.has_smaller(pair.taken) => 5,
             alone => alone,
         }
@@ -65,7 +105,7 @@ pub fn compare(book: &Book) -> Result<(), String> {
     let (plain, meaning) = (Plain::of(book), Meaning::of(book));
     let mut views = meaning.views.clone();
     views.sort_by(compare_pairs);
-    if plain.views != views {
+    if !plain.views.iter().map(|(view, _)| view).eq(&views) {
         return Err(format!("views read plainly {:?}, otherwise {views:?}", plain.views));
     }
     if plain.resolutions() != meaning.resolutions() {

@@ -2,10 +2,14 @@
 
 use crate::book::{OF_BOOKS, OF_STORES};
 use crate::compare::OPERATIONS;
+use crate::conditional_sections::Met;
+use crate::conditions;
 use crate::kinds::KINDS;
 use crate::large;
+use crate::large_conditions;
 use crate::library::Outcomes;
 use crate::points::Stored;
+use crate::readings;
 use crate::sections::{Counts, Failure, Run};
 use crate::wide;
 
@@ -16,7 +20,7 @@ pub fn print(run: &Run) {
         OPERATIONS.iter().zip(tally.calls).map(|(name, count)| format!("{name} {count}")).collect();
     println!("compared: {}", calls.join(", "));
     let [of_books, of_stores] = [OF_BOOKS, OF_STORES].map(|numbers| &tally.refusals[numbers]);
-    println!("refusals 1 to 18: {of_books:?}; 24 to 26: {of_stores:?}; verdicts 0 to 5: {:?}", tally.verdicts);
+    println!("refusals 1 to 19: {of_books:?}; 24 to 26: {of_stores:?}; verdicts 0 to 5: {:?}", tally.verdicts);
     println!("First and After: {} pairs, {} Ends", tally.pairs, tally.ends);
     println!("Line: {} with 12 fields, {} with 16", tally.lines[0], tally.lines[1]);
     let walked = &run.walked;
@@ -30,7 +34,21 @@ pub fn print(run: &Run) {
         println!("SKIPPED: {} runs of ways (none was given)", run.ways_skipped);
     }
     print_stored(&run.stored);
+    print_told_apart(&run.conditional);
     print_outcomes(run);
+}
+
+/// Prints how many books would be listed otherwise by each of the other readings of request (e).
+fn print_told_apart(met: &Met) {
+    if met.read_otherwise > 0 {
+        let told: Vec<String> =
+            readings::names().iter().zip(met.told_apart).map(|(name, count)| format!("{name} {count}")).collect();
+        println!(
+            "books with Q lines read in other ways: {}, listed otherwise by {}",
+            met.read_otherwise,
+            told.join(", ")
+        );
+    }
 }
 
 /// Prints what was done with stores, if anything was.
@@ -54,7 +72,10 @@ fn print_stored(stored: &Stored) {
 /// Prints what the books were like, kind by kind.
 fn print_outcomes(run: &Run) {
     println!("books by kind: all, without a resolution, with one, with several (at most), in need of exceptions,");
-    println!("  with exceptions and no need, of 13 to 16 exceptions (taking one past the twelfth), [most n, R, X, P]");
+    println!(
+        "  with exceptions and no need, of 13 to 16 exceptions (taking one past the twelfth), [most n, R, X, P, Q],"
+    );
+    println!("  and for books with Q lines the answers compared");
     let small = KINDS.iter().map(|(name, _)| *name).chain(["many parts", "one statement"]).zip(&run.outcomes);
     let large = large::KINDS.iter().map(|(name, _)| *name).chain(["known views"]).zip(&run.large);
     for (name, seen) in small {
@@ -66,15 +87,34 @@ fn print_outcomes(run: &Run) {
     for (name, seen) in large {
         print_kind("large", name, seen);
     }
+    print_conditional(&run.conditional);
+}
+
+/// Prints what the books with Q lines were like, kind by kind.
+fn print_conditional(met: &Met) {
+    let small = conditions::KINDS.iter().map(|(name, _)| *name).chain(["one statement", "many parts"]);
+    for (name, seen) in small.zip(&met.small) {
+        print_kind("Q small", name, seen);
+    }
+    for ((name, _), seen) in wide::KINDS.iter().zip(&met.wide) {
+        print_kind("Q wide", name, seen);
+    }
+    let large = large_conditions::KINDS.iter().map(|(name, _)| *name).chain(["known views"]);
+    for (name, seen) in large.zip(&met.large) {
+        print_kind("Q large", name, seen);
+    }
 }
 
 /// Prints one kind of book, if it has come up.
 fn print_kind(size: &str, name: &str, seen: &Outcomes) {
-    let Outcomes { books, none, one, several, most, with_exceptions, without_need, wide, past_twelfth, largest } = seen;
+    let Outcomes { books, none, one, several, most, with_exceptions, without_need, wide, past_twelfth, largest, asked } =
+        seen;
     if *books > 0 {
         let (several, wide) = (format!("{several} ({most})"), format!("{wide} ({past_twelfth})"));
         let counts = format!("{books:>7}{none:>7}{one:>7}{several:>13}{with_exceptions:>7}{without_need:>7}{wide:>11}");
-        println!("  {size}, {name:<33}{counts}  {largest:?}");
+        let asked = if *asked > 0 { format!("{asked:>9}") } else { String::new() };
+        let kind = format!("{size}, {name}");
+        println!("  {kind:<43}{counts}  {largest:?}{asked}");
     }
 }
 
@@ -87,6 +127,9 @@ pub fn all_met(run: &Run, counts: &Counts) -> Result<(), Failure> {
     }
     if counts.small >= 500 {
         needed.extend(needed_answers(run));
+    }
+    if counts.conditional.small >= 500 {
+        needed.extend(needed_readings(run));
     }
     if counts.lists >= 500 {
         needed.extend(needed_stores(run));
@@ -131,6 +174,18 @@ fn needed_answers(run: &Run) -> [(&'static str, u64); 5] {
         ("a pair or End", tally.pairs.min(tally.ends)),
         ("a refused call of a listing", run.walked.refused),
         ("a line with 12 or with 16 fields", tally.lines[0].min(tally.lines[1])),
+    ]
+}
+
+/// What books with Q lines must have told from other readings, and what they must have had.
+fn needed_readings(run: &Run) -> [(&'static str, u64); 4] {
+    let met = &run.conditional;
+    let outcomes = met.small.iter().chain(&met.wide);
+    [
+        ("a book that another reading of Q lines lists otherwise", least(&met.told_apart)),
+        ("a kind of book with Q lines", outcomes.clone().map(|seen| seen.books).min().unwrap_or(0)),
+        ("a book with Q lines and several resolutions", outcomes.clone().map(|seen| seen.several).sum()),
+        ("a book with Q lines that takes an exception past the twelfth", outcomes.map(|seen| seen.past_twelfth).sum()),
     ]
 }
 

@@ -4,6 +4,7 @@ use crate::blocks::Blocks;
 use crate::book::{Book, Pair, TEXT};
 use crate::clingo::Clingo;
 use crate::compare::{Checker, Difference, Known, Outcome};
+use crate::conditional_sections::{self as conditional, Met};
 use crate::damage;
 use crate::damaged_stores;
 use crate::going_on;
@@ -31,7 +32,7 @@ use std::fs::File;
 use std::time::Instant;
 
 /// The step from one book of one statement to the next; it is prime, so that none is met twice.
-const STEP: usize = 30_011;
+pub const STEP: usize = 30_011;
 
 /// How many books or texts each section takes; 0 leaves the section out.
 #[derive(Clone, Copy, Default)]
@@ -54,6 +55,8 @@ pub struct Counts {
     pub moved: u64,
     pub stores: u64,
     pub named: u64,
+    /// The sections on books with Q lines.
+    pub conditional: conditional::Counts,
 }
 
 impl Counts {
@@ -74,20 +77,38 @@ impl Counts {
             moved: 60_000,
             stores: 1,
             named: 800,
+            conditional: conditional::Counts {
+                plain_tiny: 20_000,
+                plain_small: 2_800,
+                tiny: 3_000,
+                small: 5_600,
+                wide: 70,
+                blocks: 300,
+                free: 6,
+                limits: 1,
+                faulty: 15_000,
+                lengths: 28,
+                listings: 700,
+                ..conditional::Counts::default()
+            },
             ..none()
         }
     }
 
     /// The gate's second part: clingo and `ways`.
     pub fn gate_solver() -> Counts {
-        Counts { by_clingo: 300, large: 504, known: 24, ways: 450, ..none() }
+        let conditional =
+            conditional::Counts { by_clingo: 224, large: 180, known: 12, ways: 224, ..Default::default() };
+        Counts { by_clingo: 300, large: 504, known: 24, ways: 450, conditional, ..none() }
     }
 
     /// A long run of so many small books.
     pub fn long(count: u64) -> Counts {
         let part = |of: u64| (count / of).max(1);
         let (by_clingo, large, known, ways) = (part(50), part(100), part(1_000), part(50));
-        Counts { by_clingo, large, known, ways, ..Counts::library(count) }
+        let library = Counts::library(count);
+        let conditional = conditional::Counts { by_clingo, large, known, ways, ..library.conditional };
+        Counts { by_clingo, large, known, ways, conditional, ..library }
     }
 
     /// A run of the library alone.
@@ -104,6 +125,20 @@ impl Counts {
             full_texts: part(50_000),
             faulty: count * 2,
             lengths: part(500),
+            conditional: conditional::Counts {
+                plain_tiny: count,
+                plain_small: count,
+                tiny: count,
+                small: count,
+                wide: part(50).max(30),
+                blocks: part(20),
+                free: part(500),
+                limits: part(50_000),
+                faulty: count,
+                lengths: part(500),
+                listings: part(5),
+                ..conditional::Counts::default()
+            },
             ..Counts::points(count)
         }
     }
@@ -114,14 +149,22 @@ impl Counts {
         Counts { lists: count, moved: count * 10, stores: part(50_000), named: part(10), ..none() }
     }
 
+    /// Books with Q lines alone.
+    pub fn conditions(count: u64) -> Counts {
+        let conditional = conditional::Counts { ways: 0, ..Counts::long(count).conditional };
+        Counts { conditional, ..none() }
+    }
+
     /// Larger books by clingo alone.
     pub fn clingo(count: u64) -> Counts {
-        Counts { by_clingo: count, large: count, ..none() }
+        let conditional = conditional::Counts { by_clingo: count, large: count, ..Default::default() };
+        Counts { by_clingo: count, large: count, conditional, ..none() }
     }
 
     /// `ways` alone, on so many small books and as many larger ones.
     pub fn only_ways(count: u64) -> Counts {
-        Counts { ways: count, large: count, known: count / 10, ..none() }
+        let conditional = conditional::Counts { ways: count, large: count, known: count / 10, ..Default::default() };
+        Counts { ways: count, large: count, known: count / 10, conditional, ..none() }
     }
 }
 
@@ -162,15 +205,16 @@ pub struct Run {
     pub closed: Closed,
     pub ways_skipped: u64,
     pub stored: Stored,
+    pub conditional: Met,
 }
 
 /// Outcomes of so many kinds of book, before any came up.
-fn no_outcomes(kinds: usize) -> Vec<Outcomes> {
+pub fn no_outcomes(kinds: usize) -> Vec<Outcomes> {
     (0..kinds).map(|_| Outcomes::default()).collect()
 }
 
 /// A difference that a process or a check of this program reports, at a text.
-fn at_text(text: &[u8]) -> impl Fn(String) -> Difference + '_ {
+pub fn at_text(text: &[u8]) -> impl Fn(String) -> Difference + '_ {
     move |what| Difference { what, text: text.to_vec() }
 }
 
@@ -190,7 +234,13 @@ impl Run {
             closed: Closed::default(),
             ways_skipped: 0,
             stored: Stored::default(),
+            conditional: Met::nothing(),
         }
+    }
+
+    /// How many answers of the library have been compared.
+    pub fn questions(&self) -> u64 {
+        self.checker.tally.calls.iter().sum::<u64>() + self.walked.going_on + self.walked.refused
     }
 
     /// All sections, in order.
@@ -222,8 +272,30 @@ impl Run {
         self.section("ways on small books and faulty texts", counts.ways, Run::ways_small)?;
         self.section("ways on K7, long texts and 9,999 lines", counts.ways.min(1), Run::ways_once)?;
         self.section("ways on listings that fill whole parts", counts.ways.min(1), Run::ways_parts)?;
+        self.conditional_sections(&counts.conditional)?;
         report::print(self);
         report::all_met(self, counts)
+    }
+
+    /// The sections on books with Q lines, in order.
+    fn conditional_sections(&mut self, counts: &conditional::Counts) -> Result<(), Failure> {
+        self.section("Q lines: cases of request (e)", counts.small.min(1), conditional::cases)?;
+        let [plain_tiny, tiny] = [counts.plain_tiny, counts.tiny].map(|count| count.min(tiny::CONDITIONAL));
+        self.section("Q lines: two readings of books of one statement, two X", plain_tiny, conditional::plain_tiny)?;
+        self.section("Q lines: two readings of random small books", counts.plain_small, conditional::plain_small)?;
+        self.section("Q lines: books of one statement, two X", tiny, conditional::one_statement)?;
+        self.section("Q lines: random small books", counts.small, conditional::small)?;
+        self.section("Q lines: small books of 12 to 16 exceptions", counts.wide, conditional::wide_books)?;
+        self.section("Q lines: books of many parts, to 48 statements", counts.blocks, conditional::blocks)?;
+        self.section("Q lines: free statements, pages to 10,000", counts.free, conditional::free)?;
+        self.section("Q lines: limits", counts.limits, conditional::limits)?;
+        self.section("Q lines: texts and tables with several faults", counts.faulty, conditional::faulty)?;
+        self.section("Q lines: every length of lent buffers", counts.lengths, conditional::lengths)?;
+        self.section("Q lines: lists of calls, refused ones among them", counts.listings, conditional::listings)?;
+        self.section("Q lines: brute force against clingo", counts.by_clingo, conditional::by_clingo)?;
+        self.section("Q lines: larger books against clingo", counts.large, conditional::large_books)?;
+        self.section("Q lines: books whose views are known", counts.known, conditional::known_books)?;
+        self.section("Q lines: ways on small books and faulty texts", counts.ways, conditional::ways_small)
     }
 
     /// Runs one section for each place below the count, and prints what it did and how long it took.
@@ -368,28 +440,38 @@ impl Run {
     /// One small book with every length of every lent buffer, and all its lines and numbers damaged.
     fn lengths(&mut self, random: &mut Random, place: u64) -> Outcome {
         let (book, _) = self.next_book(random, place);
-        let text = text_of(&book);
-        damage::every_length(&mut self.checker, random, &book)?;
-        damage::every_page(&mut self.checker, random, &book)?;
+        self.lengths_of(random, &book)
+    }
+
+    /// A small book with every length of every lent buffer, and all its lines and numbers damaged.
+    pub fn lengths_of(&mut self, random: &mut Random, book: &Book) -> Outcome {
+        let text = text_of(book);
+        damage::every_length(&mut self.checker, random, book)?;
+        damage::every_page(&mut self.checker, random, book)?;
         damage::truncate(&mut self.checker, random, &text)?;
         damage::move_lines(&mut self.checker, random, &text)?;
-        damage::replace_numbers(&mut self.checker, random, &table_of(&book), usize::MAX)
+        damage::replace_numbers(&mut self.checker, random, &table_of(book), usize::MAX)
     }
 
     /// The views and the resolutions of one small book, by brute force and by clingo.
     fn by_clingo(&mut self, random: &mut Random, place: u64) -> Outcome {
         let (book, outcomes) = self.next_book(random, place);
-        let text = text_of(&book);
         let meaning = Meaning::of(&book);
         outcomes.count(&book, meaning.resolutions());
+        self.same_by_clingo(&book, &meaning)
+    }
+
+    /// The views and the resolutions of a small book by clingo are those of its meaning.
+    pub fn same_by_clingo(&mut self, book: &Book, meaning: &Meaning) -> Outcome {
+        let text = text_of(book);
         let differs = at_text(&text);
         let mut views = meaning.views.clone();
         views.sort_by(crate::meaning::compare_pairs);
-        let shown = self.clingo.views(&book).map_err(&differs)?;
+        let shown = self.clingo.views(book).map_err(&differs)?;
         if shown != views {
             return Err(differs(format!("views by brute force {views:?}, by clingo {shown:?}")));
         }
-        let listed = self.clingo.resolutions(&book).map_err(&differs)?;
+        let listed = self.clingo.resolutions(book).map_err(&differs)?;
         if listed != meaning.resolutions() {
             return Err(differs(format!(
                 "resolutions by brute force {:?}, by clingo {listed:?}",
@@ -413,11 +495,16 @@ impl Run {
     /// `ways` on one small book and on one faulty text.
     fn ways_small(&mut self, random: &mut Random, place: u64) -> Outcome {
         let (book, outcomes) = self.next_book(random, place);
-        let text = text_of(&book);
         let meaning = Meaning::of(&book);
         outcomes.count(&book, meaning.resolutions());
+        self.ways_on_book(random, &book, &meaning)
+    }
+
+    /// `ways` on a small book, and on its text with a byte replaced.
+    pub fn ways_on_book(&mut self, random: &mut Random, book: &Book, meaning: &Meaning) -> Outcome {
+        let text = text_of(book);
         self.checker.begin(&text);
-        self.ways_on(&text, &listing_of(&book, meaning.resolutions(), false))?;
+        self.ways_on(&text, &listing_of(book, meaning.resolutions(), false))?;
         let mut faulty = text.clone();
         let spot = random.below(faulty.len() as u64) as usize;
         faulty[spot] = random.pick(b"\n\0RXPZ90-+ ");
@@ -476,14 +563,19 @@ impl Run {
     /// One book of 12 to 16 exceptions whose views are known: its whole listing, other operations, and `ways`.
     fn known_books(&mut self, random: &mut Random, place: u64) -> Outcome {
         let solved = known_book(random, place);
+        self.large[large::KINDS.len()].count(&solved.ranked.book, solved.resolutions());
+        self.known_book(random, &solved)
+    }
+
+    /// A book whose resolutions are known: its whole listing, other operations, and `ways`.
+    pub fn known_book(&mut self, random: &mut Random, solved: &Solved) -> Outcome {
         let (book, all) = (&solved.ranked.book, solved.resolutions());
         let text = text_of(book);
         let read = Ok(book.clone());
-        let known = Known { text: &text, book: &read, oracle: Some(&solved) };
+        let known = Known { text: &text, book: &read, oracle: Some(solved) };
         self.checker.begin(&text);
         self.checker.first_page(&known, 3 * all.len() + 3)?;
         solved::compare_some(&mut self.checker, random, &known, all.len())?;
-        self.large[large::KINDS.len()].count(book, all);
         self.ways_on(&text, &listing_of(book, all, false))
     }
 
@@ -497,7 +589,7 @@ impl Run {
     }
 
     /// A larger book: the listing and the other operations against clingo, then `ways`. Answers the pairs listed.
-    fn large_book(&mut self, random: &mut Random, book: &Book) -> Result<Vec<Pair>, Difference> {
+    pub fn large_book(&mut self, random: &mut Random, book: &Book) -> Result<Vec<Pair>, Difference> {
         let text = text_of(book);
         let differs = at_text(&text);
         self.checker.begin(&text);

@@ -1,7 +1,7 @@
-//! The small books K1 to K14 of document 01, with the resolutions and verdicts that it names, and two worked examples
-//! of source document 000, with the views and the answer sets that it names.
+//! The small books K1 to K14 of document 01, with the resolutions and verdicts that it names, two worked examples of
+//! source document 000, with the views and the answer sets that it names, and cases of request (e), worked by hand.
 
-use crate::book::{Book, Pair, Rule};
+use crate::book::{Book, Conditional, Pair, Rule};
 
 /// A small book: its name, its book, its resolutions in order, verdicts on pairs, and its views where they are named.
 pub struct SmallBook {
@@ -45,7 +45,7 @@ fn small(
     exceptions: Vec<Rule>,
     preferences: &[[i32; 2]],
 ) -> SmallBook {
-    let book = Book { statements, plain, exceptions, preferences: preferences.to_vec() };
+    let book = Book { plain, exceptions, preferences: preferences.to_vec(), ..Book::empty(statements) };
     SmallBook { name, book, resolutions: Vec::new(), verdicts: Vec::new(), views: Vec::new() }
 }
 
@@ -64,6 +64,99 @@ impl SmallBook {
         self.verdicts.push((pair(s, t), verdict));
         self
     }
+
+    /// Adds the Q line "a before b if needed, not barred".
+    fn under(mut self, order: [i32; 2], needed: &[i32], barred: &[i32]) -> SmallBook {
+        let Rule { needed, barred, .. } = rule(0, needed, barred);
+        self.book.conditionals.push(Conditional { order, needed, barred });
+        self
+    }
+}
+
+/// Cases of request (e): the one that it states, and one for each sentence of it that can be read in two ways.
+pub fn conditional_cases() -> Vec<SmallBook> {
+    vec![stated_case(), own_ranking(), chains_apart(), chain_shared(), lines_apart(), line_and_line(), by_dominated()]
+}
+
+/// Xi gives +i, i = 1 to 3; constraint not +1, not +3; Q 3 1 barred +2. The view with {1} is dominated by the one with
+/// {3}, so it takes nothing from the one with {1, 2}, in which the Q line does not count.
+fn stated_case() -> SmallBook {
+    small("the case of request (e)", 3, vec![constraint(&[], &[1, 3])], one_each(3), &[])
+        .under([3, 1], &[], &[2])
+        .resolves(&[pair(&[3], &[3]), pair(&[1, 2], &[1, 2])])
+        .judges(&[1], &[1], 4)
+        .judges(&[1, 3], &[1, 3], 2)
+        .judges(&[2, 3], &[2, 3], 5)
+        .judges(&[1, 2, 3], &[1, 2, 3], 5)
+}
+
+/// The same exceptions are outranked in one set and a view with another: statement 3 is free, and 1 comes before 2 if +3.
+fn own_ranking() -> SmallBook {
+    let plain = vec![constraint(&[], &[1]), constraint(&[], &[2]), rule(3, &[], &[-3]), rule(-3, &[], &[3])];
+    small("a view by the rankings of its own set", 3, plain, one_each(2), &[])
+        .under([1, 2], &[3], &[])
+        .resolves(&[pair(&[1, 2, -3], &[1, 2])])
+        .judges(&[1, 2, 3], &[1, 2], 2)
+}
+
+/// One of 1 and 3 must be held, with +4 where 1 is taken and -4 where 3 is.
+fn one_or_three() -> Vec<Rule> {
+    vec![constraint(&[], &[1, 3]), constraint(&[1, 3], &[]), rule(4, &[1], &[]), rule(-4, &[3], &[])]
+}
+
+/// The one set gives the steps 1-2 and 2-3, the other 1-3 alone: no step in common, and no domination.
+fn chains_apart() -> SmallBook {
+    small("chains of each set that share no step", 4, one_or_three(), one_each(3), &[])
+        .under([1, 2], &[4], &[])
+        .under([2, 3], &[4], &[])
+        .under([1, 3], &[-4], &[])
+        .resolves(&[pair(&[1, 4], &[1]), pair(&[3, -4], &[3])])
+        .judges(&[1, 2, 4], &[1, 2], 2)
+        .judges(&[2, 3, -4], &[2, 3], 5)
+}
+
+/// A chain whose first step is a P line's and whose second is given in both sets.
+fn chain_shared() -> SmallBook {
+    small("a chain of steps that both sets give", 4, one_or_three(), one_each(3), &[[1, 2]])
+        .under([2, 3], &[], &[2])
+        .resolves(&[pair(&[1, 4], &[1])])
+        .judges(&[3, -4], &[3], 4)
+        .judges(&[2, 3, -4], &[2, 3], 4)
+}
+
+/// A step by one Q line in the one set and by another in the other.
+fn lines_apart() -> SmallBook {
+    small("a step by different Q lines", 4, one_or_three(), one_each(3), &[])
+        .under([3, 1], &[4], &[])
+        .under([3, 1], &[-4], &[])
+        .resolves(&[pair(&[3, -4], &[3])])
+        .judges(&[1, 4], &[1], 4)
+        .judges(&[1, 2, 4], &[1, 2], 4)
+}
+
+/// A step by a P line, and by a Q line that counts in one set only.
+fn line_and_line() -> SmallBook {
+    small("a step by a P line and a Q line", 4, one_or_three(), one_each(3), &[[3, 1]])
+        .under([3, 1], &[4], &[])
+        .resolves(&[pair(&[3, -4], &[3])])
+        .judges(&[1, 4], &[1], 4)
+}
+
+/// With +5, 1 comes before 2, and 2 before 3 where 1 is absent: the view with {1} dominates the one with {2}, and only
+/// this one, dominated as it is, the one with {3}. With +4 the set {2} has a second view, which nothing dominates.
+fn by_dominated() -> SmallBook {
+    let plain = vec![constraint(&[], &[1, 2, 3]), rule(4, &[2], &[5]), rule(5, &[], &[4])];
+    small("dominated by a dominated view", 5, plain, one_each(3), &[])
+        .under([1, 2], &[], &[4])
+        .under([2, 3], &[5], &[1])
+        .resolves(&[pair(&[1, 5], &[1]), pair(&[2, 4], &[2])])
+        .judges(&[2, 5], &[2], 4)
+        .judges(&[3, 5], &[3], 4)
+        .judges(&[1, 2, 5], &[1, 2], 2)
+        .judges(&[2, 3, 5], &[2, 3], 2)
+        .judges(&[1, 3, 5], &[1, 3], 5)
+        .judges(&[1, 2, 4], &[1, 2], 5)
+        .judges(&[2, 3, 4], &[2, 3], 5)
 }
 
 /// Program P1 of source document 000, Examples 4 to 7, and P2, Example 8. The statements t, p, s, q are 1 to 4 in P1;

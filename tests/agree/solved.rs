@@ -4,7 +4,7 @@ use crate::book::*;
 use crate::clingo::{Bound, Clingo};
 use crate::compare::{Checker, Known, Outcome};
 use crate::engine;
-use crate::meaning::{compare_pairs, Oracle, Ranked, Viewed};
+use crate::meaning::{compare_pairs, conclusions, Aspect, Oracle, Ranked, Viewed};
 use crate::random::Random;
 use std::cmp::Ordering;
 
@@ -33,8 +33,8 @@ pub fn list(text: &[u8]) -> Result<Listing, String> {
     }
 }
 
-/// What clingo says of a book, or what is known of it: its resolutions, up to the most that are listed, and the sets of
-/// exceptions that some view has.
+/// What clingo says of a book, or what is known of it: its resolutions, up to the most that are listed, and the aspects
+/// of all its views.
 pub struct Solved {
     pub ranked: Ranked,
     viewed: Viewed,
@@ -56,33 +56,36 @@ impl Solved {
     pub fn compare(clingo: &Clingo, book: &Book, listing: &Listing) -> Result<Solved, String> {
         let ranked = Ranked::of(book);
         let viewed = Viewed::of(book.exceptions.len(), clingo.viewed(book)?);
-        let sets = ranked.best(&viewed);
+        let best = viewed.best();
         let resolutions = if listing.more {
-            list_beginning(clingo, book, &sets, &listing.pairs)?
+            list_beginning(clingo, book, &best, &listing.pairs)?
         } else {
-            clingo.listing(book, &sets, Bound::None, listing.pairs.len() + 1)?
+            clingo.listing(book, &best, Bound::None, listing.pairs.len() + 1)?
         };
         same_pairs(&listing.pairs, &resolutions)?;
         Ok(Solved { ranked, viewed, resolutions })
     }
 
-    /// What follows where these sets, but for those with an outranked member, have one view each.
+    /// What follows where these sets, but for those with an outranked member, have one view each. Without Q lines what
+    /// ranks does not depend on the conclusions, and these are not worked out.
     pub fn known(book: Book, sets: Vec<u64>, view: impl Fn(u64) -> Pair) -> Solved {
         let ranked = Ranked::of(&book);
-        let sets = sets.into_iter().filter(|taken| ranked.unranked(*taken)).collect();
-        let viewed = Viewed::of(book.exceptions.len(), sets);
-        let resolutions = ranked.best(&viewed).into_iter().map(view).collect();
+        let without = |taken: u64| Pair { taken, held: 0, denied: 0 };
+        let ranking = |taken: u64| if book.conditionals.is_empty() { without(taken) } else { view(taken) };
+        let views = sets.into_iter().map(ranking).filter(|view| ranked.unranked(view.taken, &conclusions(view)));
+        let viewed = Viewed::of(book.exceptions.len(), views.map(|view| ranked.aspect(&view)).collect());
+        let resolutions = viewed.best().iter().map(|aspect| view(aspect.taken)).collect();
         Solved { ranked, viewed, resolutions }
     }
 }
 
 /// Where more remain: all resolutions up to the last of the pairs. There must be one beyond it.
-fn list_beginning(clingo: &Clingo, book: &Book, sets: &[u64], pairs: &[Pair]) -> Result<Vec<Pair>, String> {
+fn list_beginning(clingo: &Clingo, book: &Book, best: &[Aspect], pairs: &[Pair]) -> Result<Vec<Pair>, String> {
     let last = &pairs[MOST - 1];
-    if clingo.listing(book, sets, Bound::Beyond(last), 1)?.is_empty() {
+    if clingo.listing(book, best, Bound::Beyond(last), 1)?.is_empty() {
         return Err("the engine goes on where clingo finds nothing more".to_string());
     }
-    clingo.listing(book, sets, Bound::UpTo(last), MOST + 1)
+    clingo.listing(book, best, Bound::UpTo(last), MOST + 1)
 }
 
 /// Tests that two lists of pairs are the same.

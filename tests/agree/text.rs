@@ -1,11 +1,11 @@
 //! Reading and writing of texts, number tables and A lines, straight from document 01, and of document 02 the three
-//! refusals of misspelt fields (d). Nothing here was taken from the engine.
+//! refusals of misspelt fields (d) and the Q lines (e). Nothing here was taken from the engine.
 
 use crate::book::*;
 
 const LINE_FEED: u8 = 10;
 
-/// Reads a text, or gives the first refusal of 1 to 11, 17 and 18 that applies.
+/// Reads a text, or gives the first refusal of 1 to 11 and 17 to 19 that applies.
 pub fn read_text(text: &[u8]) -> Result<Book, Refusal> {
     if text.len() > TEXT {
         return Err(refused(1));
@@ -45,9 +45,10 @@ fn read_line(book: &mut Book, above: u8, line: &[u8]) -> Result<u8, u32> {
 fn letters_below(above: u8) -> &'static [u8] {
     match above {
         0 => b"B",
-        b'B' | b'R' => b"RXPZ",
-        b'X' => b"XPZ",
-        b'P' => b"PZ",
+        b'B' | b'R' => b"RXPQZ",
+        b'X' => b"XPQZ",
+        b'P' => b"PQZ",
+        b'Q' => b"QZ",
         _ => b"",
     }
 }
@@ -56,6 +57,7 @@ fn letters_below(above: u8) -> &'static [u8] {
 fn bytes_of_line(letter: u8) -> usize {
     match letter {
         b'B' | b'P' => 10,
+        b'Q' => 42,
         b'Z' => 6,
         _ => 38,
     }
@@ -63,7 +65,7 @@ fn bytes_of_line(letter: u8) -> usize {
 
 /// Reads the fields from left to right, each tested for its spelling first, then 7, 6.
 fn read_fields(book: &Book, letter: u8, columns: &[u8]) -> Result<Vec<i32>, u32> {
-    let mut fields = Vec::with_capacity(9);
+    let mut fields = Vec::with_capacity(10);
     for (place, field) in columns.chunks(4).enumerate() {
         let value = read_field(field)?;
         test_field(book, letter, place, value)?;
@@ -144,8 +146,8 @@ fn test_field(book: &Book, letter: u8, place: usize, value: i32) -> Result<(), u
     let (low, high) = match (letter, place) {
         (b'B', 0) => return if value == 1 { Ok(()) } else { Err(7) },
         (b'B', _) => (1, STATEMENTS),
-        (b'P', _) => (1, EXCEPTIONS as i32),
-        (b'Z', _) => (0, (PLAIN + EXCEPTIONS + PREFERENCES) as i32),
+        (b'P', _) | (b'Q', 0 | 1) => (1, EXCEPTIONS as i32),
+        (b'Z', _) => (0, (PLAIN + EXCEPTIONS + PREFERENCES + CONDITIONALS) as i32),
         _ => (-book.statements, book.statements),
     };
     if value < low || value > high {
@@ -155,30 +157,39 @@ fn test_field(book: &Book, letter: u8, place: usize, value: i32) -> Result<(), u
     }
 }
 
-/// Tests the line as a whole, 8 to 11, and takes it into the book.
+/// Tests the line as a whole, 8 or 19 and then 9 to 11, and takes it into the book.
 fn take_line(book: &mut Book, letter: u8, fields: &[i32]) -> Result<(), u32> {
+    let [plain, exceptions, preferences, conditionals] = book.counts();
     match letter {
         b'B' => book.statements = fields[1],
-        b'R' => book.plain.push(within(Rule::of_row(fields), book.plain.len(), PLAIN)?),
+        b'R' => {
+            within(plain, PLAIN, 8)?;
+            book.plain.push(Rule::of_row(fields));
+        }
         b'X' => {
-            let rule = within(Rule::of_row(fields), book.exceptions.len(), EXCEPTIONS)?;
-            book.exceptions.push(with_head(rule)?);
+            within(exceptions, EXCEPTIONS, 8)?;
+            book.exceptions.push(with_head(Rule::of_row(fields))?);
         }
         b'P' => {
-            let order = within([fields[0], fields[1]], book.preferences.len(), PREFERENCES)?;
-            book.preferences.push(of_exceptions(order, book.exceptions.len())?);
+            within(preferences, PREFERENCES, 8)?;
+            book.preferences.push(of_exceptions([fields[0], fields[1]], exceptions)?);
+        }
+        b'Q' => {
+            within(conditionals, CONDITIONALS, 19)?;
+            of_exceptions([fields[0], fields[1]], exceptions)?;
+            book.conditionals.push(Conditional::of_row(fields));
         }
         _ => return if fields[0] as usize == book.lines() { Ok(()) } else { Err(11) },
     }
     Ok(())
 }
 
-/// 8 if the line is one over its limit.
-fn within<T>(line: T, count: usize, limit: usize) -> Result<T, u32> {
+/// This refusal if the line after so many is one over its limit.
+fn within(count: usize, limit: usize, refusal: u32) -> Result<(), u32> {
     if count == limit {
-        Err(8)
+        Err(refusal)
     } else {
-        Ok(line)
+        Ok(())
     }
 }
 
@@ -191,7 +202,7 @@ fn with_head(rule: Rule) -> Result<Rule, u32> {
     }
 }
 
-/// 10 if a preference names a missing exception.
+/// 10 if a preference, under a condition or not, names a missing exception.
 fn of_exceptions(order: [i32; 2], exceptions: usize) -> Result<[i32; 2], u32> {
     if order.iter().any(|number| *number as usize > exceptions) {
         Err(10)
@@ -230,6 +241,9 @@ pub fn text_of(book: &Book) -> Vec<u8> {
     for order in &book.preferences {
         text.extend(line_of(b'P', order));
     }
+    for line in &book.conditionals {
+        text.extend(line_of(b'Q', &line.row()));
+    }
     text.extend(line_of(b'Z', &[book.lines() as i32]));
     text
 }
@@ -237,40 +251,50 @@ pub fn text_of(book: &Book) -> Vec<u8> {
 /// The number table of a book.
 pub fn table_of(book: &Book) -> Vec<i32> {
     let mut table = vec![book.statements];
-    table.extend([book.plain.len(), book.exceptions.len(), book.preferences.len()].map(|count| count as i32));
+    table.extend(book.counts().map(|count| count as i32));
     for rule in book.plain.iter().chain(&book.exceptions) {
         table.extend(rule.row());
     }
     for order in &book.preferences {
         table.extend(order);
     }
+    for line in &book.conditionals {
+        table.extend(line.row());
+    }
     table
 }
 
 /// Reads a number table, or gives the first refusal that applies.
 pub fn read_table(table: &[i32]) -> Result<Book, Refusal> {
-    if table.len() < 4 {
+    if table.len() < FRONT {
         return Err(refused(16));
     }
     if table[0] < 1 || table[0] > STATEMENTS {
         return Err(Refusal { number: 6, line: 1 });
     }
-    let limits = [PLAIN, EXCEPTIONS, PREFERENCES];
-    if (0..3).any(|place| table[place + 1] < 0 || table[place + 1] > limits[place] as i32) {
+    let limits = [PLAIN, EXCEPTIONS, PREFERENCES, CONDITIONALS];
+    if (0..4).any(|place| table[place + 1] < 0 || table[place + 1] > limits[place] as i32) {
         return Err(Refusal { number: 8, line: 1 });
     }
-    let [plain, exceptions, preferences] = [1, 2, 3].map(|place| table[place] as usize);
-    if table.len() != 4 + 9 * (plain + exceptions) + 2 * preferences {
+    let [plain, exceptions, preferences, conditionals] = [1, 2, 3, 4].map(|place| table[place] as usize);
+    if table.len() != FRONT + 9 * (plain + exceptions) + 2 * preferences + 10 * conditionals {
         return Err(refused(16));
     }
-    let (rules, orders) = table[4..].split_at(9 * (plain + exceptions));
+    let (rules, others) = table[FRONT..].split_at(9 * (plain + exceptions));
+    let (orders, lines) = others.split_at(2 * preferences);
     let mut book = Book::empty(table[0]);
     for row in rules.chunks(9) {
         let exception = book.plain.len() == plain;
         take_row(&mut book, exception, row)?;
     }
     for row in orders.chunks(2) {
-        take_order(&mut book, row)?;
+        test_order(&book, row)?;
+        book.preferences.push([row[0], row[1]]);
+    }
+    for row in lines.chunks(10) {
+        test_entries(&book, &row[2..])?;
+        test_order(&book, &row[..2])?;
+        book.conditionals.push(Conditional::of_row(row));
     }
     Ok(book)
 }
@@ -282,9 +306,7 @@ fn refused_row(book: &Book, number: u32) -> Refusal {
 
 /// Tests a row of nine numbers, 6 then 9, and takes it.
 fn take_row(book: &mut Book, exception: bool, row: &[i32]) -> Result<(), Refusal> {
-    if row.iter().any(|value| *value < -book.statements || *value > book.statements) {
-        return Err(refused_row(book, 6));
-    }
+    test_entries(book, row)?;
     if exception && row[0] == 0 {
         return Err(refused_row(book, 9));
     }
@@ -293,15 +315,22 @@ fn take_row(book: &mut Book, exception: bool, row: &[i32]) -> Result<(), Refusal
     Ok(())
 }
 
-/// Tests a row of two numbers, 6 then 10, and takes it.
-fn take_order(book: &mut Book, row: &[i32]) -> Result<(), Refusal> {
-    if row.iter().any(|value| *value < 1 || *value > EXCEPTIONS as i32) {
+/// 6 if a head or an entry of the next row is out of range.
+fn test_entries(book: &Book, entries: &[i32]) -> Result<(), Refusal> {
+    if entries.iter().any(|value| *value < -book.statements || *value > book.statements) {
         return Err(refused_row(book, 6));
     }
-    if row.iter().any(|value| *value as usize > book.exceptions.len()) {
+    Ok(())
+}
+
+/// 6 if one of the two exceptions that the next row names is out of range, then 10 if it is missing.
+fn test_order(book: &Book, order: &[i32]) -> Result<(), Refusal> {
+    if order.iter().any(|value| *value < 1 || *value > EXCEPTIONS as i32) {
+        return Err(refused_row(book, 6));
+    }
+    if order.iter().any(|value| *value as usize > book.exceptions.len()) {
         return Err(refused_row(book, 10));
     }
-    book.preferences.push([row[0], row[1]]);
     Ok(())
 }
 

@@ -1,7 +1,8 @@
 //! Every book of one statement with at most two plain rules, at most one exception and perhaps a preference of it over
-//! itself; the order of the two rules and of a rule's entries aside.
+//! itself; and every one with at most one constraint, two exceptions and a Q line. The order of the two rules and of a
+//! rule's entries aside.
 
-use crate::book::{Book, Rule};
+use crate::book::{Book, Conditional, Rule};
 use crate::compare::{Checker, Known, Outcome};
 use crate::meaning::{Meaning, Oracle};
 use crate::pairs::all_lawful;
@@ -47,12 +48,35 @@ fn exceptions() -> Vec<(Vec<Rule>, Vec<[i32; 2]>)> {
 pub fn all_books() -> Vec<Book> {
     let (lists, exceptions) = (lists(&rules(&[1, -1, 0])), exceptions());
     let with = |plain: &Vec<Rule>, (exceptions, preferences): &(Vec<Rule>, Vec<[i32; 2]>)| Book {
-        statements: 1,
         plain: plain.clone(),
         exceptions: exceptions.clone(),
         preferences: preferences.clone(),
+        ..Book::empty(1)
     };
     lists.iter().flat_map(|plain| exceptions.iter().map(move |chosen| with(plain, chosen))).collect()
+}
+
+/// How many books of one statement there are with at most one constraint, two exceptions and a Q line: the choices of
+/// the Q line's two exceptions and of its body, of the two exceptions, and of the constraint or none.
+pub const CONDITIONAL: u64 = (4 * 16) * (32 * 32) * 17;
+
+/// Takes one of the items by the lowest part of the place, and leaves the rest of it.
+fn take<T: Copy>(place: &mut usize, items: &[T]) -> T {
+    let item = items[*place % items.len()];
+    *place /= items.len();
+    item
+}
+
+/// The book with this place among them.
+pub fn conditional_book(mut place: usize) -> Book {
+    let place = &mut place;
+    let order = take(place, &[[1, 2], [2, 1], [1, 1], [2, 2]]);
+    let (needed, barred) = (take(place, &ENTRIES), take(place, &ENTRIES));
+    let exceptions = rules(&[1, -1]);
+    let exceptions = vec![take(place, &exceptions), take(place, &exceptions)];
+    let plain = rules(&[0]).get(*place).copied();
+    let conditionals = vec![Conditional { order, needed, barred }];
+    Book { plain: plain.into_iter().collect(), exceptions, conditionals, ..Book::empty(1) }
 }
 
 /// Compares First, a page, After from every lawful pair, and Judge on it.

@@ -2,9 +2,10 @@
  * functions here stand in the place of the true ones, and give their answers but for the fault that is asked for. */
 #include <ctype.h>
 
+#include "conditions.h"
 #include "true.h"
 
-enum { MOST_TEXT = BANTAMEASEL_MOST_TEXT, MOST_TABLE = BANTAMEASEL_MOST_TABLE, ROW = 9 };
+enum { MOST_TEXT = BANTAMEASEL_MOST_TEXT, MOST_TABLE = BANTAMEASEL_MOST_TABLE };
 enum { MOST_LINE = BANTAMEASEL_MOST_LINE, SIXTEEN = BANTAMEASEL_MOST_EXCEPTIONS };
 
 /* The limits before there were sixteen exceptions. */
@@ -20,31 +21,35 @@ static void change_row(int32_t *row) {
     if (fault("constraints are not looked at") && row[0] == 0) row[1] = row[5] = 1;
 }
 
-/* Takes the preferences that name an exception past the twelfth out of a table, and answers how many are left. */
-static int32_t without_later(int32_t *orders, int32_t count) {
-    int32_t left = 0;
-    for (int32_t number = 0; number < count; number++) {
-        if (orders[2 * number] > TWELVE || orders[2 * number + 1] > TWELVE) continue;
-        memmove(orders + 2 * left++, orders + 2 * number, 2 * sizeof orders[0]);
-    }
-    return left;
+/* Whether a preference is lost, given its two exceptions, its place and how many there are. */
+static int loses(const int32_t *order, int32_t place, int32_t count) {
+    if (fault("the last preference is lost") && place == count - 1) return 1;
+    return fault("preferences past the twelfth exception are lost") && (order[0] > TWELVE || order[1] > TWELVE);
 }
 
-/* Changes the table of a book, and answers how long it is then. */
-static size_t change_table(int32_t *table, size_t length) {
-    int32_t rules = table[1] + table[2], *orders = table + 4 + ROW * rules;
-    for (int32_t number = 0; number < rules; number++) change_row(table + 4 + ROW * number);
-    int32_t *last = table + 4 + ROW * 199;
-    if (fault("the rule past the 199th is lost") && table[1] == 200) last[0] = last[1] = 1;
-    if (fault("the last preference is lost") && table[3] > 0) table[3]--, length -= 2;
-    if (fault("the twelfth exception is never taken") && table[2] == 12 && table[3] > 0) orders[0] = orders[1] = 12;
-    if (fault("the sixteenth exception is never taken") && table[2] == 16 && table[3] > 0) orders[0] = orders[1] = 16;
-    if (fault("preferences past the twelfth exception are lost")) {
-        int32_t left = without_later(orders, table[3]);
-        length -= 2 * (size_t)(table[3] - left);
-        table[3] = left;
+/* Takes the preferences that are lost out of a table. */
+static void lose_preferences(int32_t *table) {
+    int32_t *orders = orders_of(table), *end = table + length_of(table), left = 0;
+    for (int32_t place = 0; place < table[PREFERENCES]; place++) {
+        if (loses(orders + 2 * place, place, table[PREFERENCES])) continue;
+        memmove(orders + 2 * left++, orders + 2 * place, 2 * sizeof orders[0]);
     }
-    return length;
+    int32_t *behind = orders + 2 * table[PREFERENCES];
+    memmove(orders + 2 * left, behind, (size_t)(end - behind) * sizeof orders[0]);
+    table[PREFERENCES] = left;
+}
+
+/* Changes the table of a book. */
+static void change_table(int32_t *table) {
+    int32_t rules = table[PLAIN] + table[EXCEPTIONS], *orders = orders_of(table), *last = table + FRONT + ROW * 199;
+    int ranked = table[PREFERENCES] > 0;
+    for (int32_t number = 0; number < rules; number++) change_row(table + FRONT + ROW * number);
+    if (fault("the rule past the 199th is lost") && table[PLAIN] == 200) last[0] = last[1] = 1;
+    if (fault("the twelfth exception is never taken") && table[EXCEPTIONS] == 12 && ranked) orders[0] = orders[1] = 12;
+    if (fault("the sixteenth exception is never taken") && table[EXCEPTIONS] == 16 && ranked)
+        orders[0] = orders[1] = 16;
+    lose_preferences(table);
+    change_conditionals(table);
 }
 
 typedef struct {
@@ -58,8 +63,8 @@ static const uint8_t *changed(const uint8_t *text, size_t *length) {
     int32_t table[MOST_TABLE];
     bantameasel_book read = true_read(text, *length, table, MOST_TABLE);
     if (getenv("FAULT") == NULL || read.refusal != 0) return text;
-    size_t numbers = 4 + ROW * (read.plain + read.exceptions) + 2 * read.preferences;
-    other.length = true_write(table, change_table(table, numbers), other.bytes, MOST_TEXT).length;
+    change_table(table);
+    other.length = true_write(table, length_of(table), other.bytes, MOST_TEXT).length;
     *length = other.length;
     return other.bytes;
 }
@@ -165,6 +170,7 @@ static const uint8_t *seen(const uint8_t *text, size_t length) {
         end = memchr(line, '\n', (size_t)(other + length + 1 - line));
         for (uint8_t *field = line + 1; field + FIELD <= end; field += FIELD) see_field(field);
     }
+    if (fault("a P line behind a Q line is seen before it")) put_orders_first(other, length);
     return other;
 }
 
@@ -178,6 +184,7 @@ static void change_refusal(uint32_t *number, uint64_t *line, const uint8_t *text
     if (fault("a preference of a missing exception past the twelfth is out of range") && *number == 10 &&
         highest_of_two(text, *line) > TWELVE)
         *number = 6;
+    change_refusal_of_conditionals(number, *line, text);
 }
 
 /* What is refused by the limits of twelve exceptions. */
@@ -206,7 +213,7 @@ bantameasel_book bantameasel_read(const uint8_t *text, size_t text_length, int32
     if (fault("a text is written") && text_length > 9) ((uint8_t *)text)[9] ^= 1;
     text = seen(text, text_length);
     bantameasel_book answer = true_read(text, text_length, table, table_length);
-    size_t numbers = 4 + ROW * (answer.plain + answer.exceptions) + 2 * answer.preferences;
+    size_t numbers = answer.refusal == 0 ? length_of(table) : 0;
     if (fault("Read writes before a refusal") && answer.refusal != 0 && table_length > 0) table[0] ^= 1;
     if (fault("Read writes past the table") && answer.refusal == 0 && table_length > numbers) table[numbers] ^= 1;
     if (fault("Read writes past the lent slice") && answer.refusal == 15) table[table_length] ^= 1;
@@ -214,13 +221,16 @@ bantameasel_book bantameasel_read(const uint8_t *text, size_t text_length, int32
     if (fault("a count stands beside a refusal") && answer.refusal != 0) answer.plain = 1;
     if (fault("a reserved field is not 0")) answer.reserved[2] = 1;
     if (fault("an accepted book has edition 0")) answer.edition = 0;
+    if (fault("Read answers no count of Q lines")) answer.conditionals = 0;
+    if (fault("Q rows stand before P rows") && answer.refusal == 0) exchange_orders(table);
     change_refusal(&answer.refusal, &answer.line, text, text_length);
     keep_to_twelve(&answer, text_length);
+    refuse_conditionals(&answer, text_length);
     return answer;
 }
 
 bantameasel_length bantameasel_write(const int32_t *table, size_t table_length, uint8_t *text, size_t text_length) {
-    bantameasel_length answer = true_write(table, table_length, text, text_length);
+    bantameasel_length answer = write_faulty_table(table, table_length, text, text_length);
     if (fault("Write writes before a refusal") && answer.refusal != 0 && text_length > 0) text[0] ^= 1;
     if (fault("Write writes past the text") && answer.refusal == 0 && text_length > answer.length)
         text[answer.length] = 0;
@@ -232,7 +242,7 @@ bantameasel_length bantameasel_write(const int32_t *table, size_t table_length, 
 
 bantameasel_verdict bantameasel_judge(const uint8_t *text, size_t length, bantameasel_pair pair) {
     const uint8_t *searched = changed(text, &length);
-    bantameasel_verdict answer = true_judge(searched, length, pair);
+    bantameasel_verdict answer = judge_otherwise(searched, length, pair);
     if (fault("every pair has verdict 1") && answer.refusal == 0) answer.verdict = 1;
     if (fault("verdict 2 is given after 3") && answer.verdict == 2) answer.verdict = 3;
     if (fault("verdict 4 is never given") && answer.verdict == 4) answer.verdict = 0;
@@ -290,7 +300,7 @@ static bantameasel_answer in_other_order(const uint8_t *text, size_t length, con
 
 bantameasel_answer bantameasel_first(const uint8_t *text, size_t length) {
     const uint8_t *searched = changed(text, &length);
-    bantameasel_answer answer = in_other_order(searched, length, NULL, true_first(searched, length));
+    bantameasel_answer answer = in_other_order(searched, length, NULL, next_otherwise(searched, length, NULL));
     if (fault("First answers End")) answer = (bantameasel_answer){0};
     if (fault("First finds a pair where there is none") && answer.refusal == 0) answer.found = 1;
     change_refusal(&answer.refusal, &answer.line, text, length);
@@ -300,7 +310,7 @@ bantameasel_answer bantameasel_first(const uint8_t *text, size_t length) {
 bantameasel_answer bantameasel_after(const uint8_t *text, size_t length, bantameasel_pair pair) {
     static int moved;
     const uint8_t *searched = changed(text, &length);
-    bantameasel_answer answer = in_other_order(searched, length, &pair, true_after(searched, length, pair));
+    bantameasel_answer answer = in_other_order(searched, length, &pair, next_otherwise(searched, length, &pair));
     int from_name = memcmp(&pair, &gone_to, sizeof pair) == 0;
     int over = fault("After passes one over") || (fault("a refused call moves the point") && moved) ||
                (fault("After passes one over from the point that Go gave") && from_name);
@@ -375,7 +385,7 @@ static void change_page(bantameasel_page *page, uint64_t *pairs, size_t length) 
 
 bantameasel_page bantameasel_first_page(const uint8_t *text, size_t length, uint64_t *pairs, size_t pairs_length) {
     const uint8_t *searched = changed(text, &length);
-    bantameasel_page answer = true_first_page(searched, length, pairs, pairs_length);
+    bantameasel_page answer = page_otherwise(searched, length, NULL, pairs, pairs_length);
     change_page(&answer, pairs, pairs_length);
     return answer;
 }
@@ -383,7 +393,7 @@ bantameasel_page bantameasel_first_page(const uint8_t *text, size_t length, uint
 bantameasel_page bantameasel_page_after(const uint8_t *text, size_t length, bantameasel_pair pair, uint64_t *pairs,
                                         size_t pairs_length) {
     const uint8_t *searched = changed(text, &length);
-    bantameasel_page answer = true_page_after(searched, length, pair, pairs, pairs_length);
+    bantameasel_page answer = page_otherwise(searched, length, &pair, pairs, pairs_length);
     change_page(&answer, pairs, pairs_length);
     change_pair_refusal(&answer.refusal, pair);
     return answer;

@@ -24,7 +24,7 @@ void expect_refusal(const char *what, uint32_t got, uint32_t wanted) {
 
 int provoked(uint32_t refusal) { return seen[refusal]; }
 
-int given(uint32_t refusal) { return refusal <= BANTAMEASEL_LAST_REFUSAL && (refusal < 19 || refusal > 23); }
+int given(uint32_t refusal) { return refusal <= BANTAMEASEL_LAST_REFUSAL && (refusal < 20 || refusal > 23); }
 
 static void put(book *b, char letter, const int *numbers, int count) {
     char *at = (char *)b->bytes + b->length;
@@ -43,12 +43,17 @@ void begin(book *b, int statements) {
     put(b, 'B', numbers, 2);
 }
 
+/* The entries of a body: the needed ones, then the barred ones. */
+static void put_body(int *numbers, row r) {
+    for (int place = 0; place < ENTRIES; place++) {
+        numbers[place] = r.needed[place];
+        numbers[ENTRIES + place] = r.barred[place];
+    }
+}
+
 void add(book *b, char letter, row r) {
     int numbers[1 + 2 * ENTRIES] = {r.head};
-    for (int place = 0; place < ENTRIES; place++) {
-        numbers[1 + place] = r.needed[place];
-        numbers[1 + ENTRIES + place] = r.barred[place];
-    }
+    put_body(numbers + 1, r);
     put(b, letter, numbers, 1 + 2 * ENTRIES);
     b->lines++;
 }
@@ -56,6 +61,13 @@ void add(book *b, char letter, row r) {
 void prefer(book *b, int one, int other) {
     int numbers[2] = {one, other};
     put(b, 'P', numbers, 2);
+    b->lines++;
+}
+
+void prefer_if(book *b, int one, int other, row condition) {
+    int numbers[2 + 2 * ENTRIES] = {one, other};
+    put_body(numbers + 2, condition);
+    put(b, 'Q', numbers, 2 + 2 * ENTRIES);
     b->lines++;
 }
 
@@ -75,5 +87,7 @@ void full(book *b) {
     for (int k = 0; k < BANTAMEASEL_MOST_EXCEPTIONS; k++) add(b, 'X', (row){.head = 1 + k});
     for (int k = 0; k < BANTAMEASEL_MOST_PREFERENCES; k++)
         prefer(b, 1 + k % (BANTAMEASEL_MOST_EXCEPTIONS - 1), BANTAMEASEL_MOST_EXCEPTIONS);
+    for (int k = 0; k < BANTAMEASEL_MOST_CONDITIONALS; k++)
+        prefer_if(b, 1 + k % BANTAMEASEL_MOST_EXCEPTIONS, 1, (row){.needed = {1 + k, -1 - k}, .barred = {-48, 0, 48}});
     finish(b);
 }

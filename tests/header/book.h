@@ -12,7 +12,8 @@ typedef struct {
     int lines; /* how many lines Z counts */
 } book;
 
-/* A rule or an exception: what it needs and what it bars; an unused entry is 0. */
+/* A rule or an exception, or the condition of a preference, which has no head: what it needs and what it bars; an
+ * unused entry is 0. */
 typedef struct {
     int head, needed[ENTRIES], barred[ENTRIES];
 } row;
@@ -21,6 +22,7 @@ typedef struct {
 void begin(book *b, int statements);
 void add(book *b, char letter, row r);
 void prefer(book *b, int one, int other);
+void prefer_if(book *b, int one, int other, row condition);
 void finish(book *b);
 
 /* The book in which each of the statements from 1 to n is held or denied, as one likes; Z is left to the caller. */
@@ -37,7 +39,7 @@ unsigned checks(void);
 void expect_refusal(const char *what, uint32_t got, uint32_t wanted);
 int provoked(uint32_t refusal);
 
-/* Whether this version gives a refusal with this number, or 0 for none: 19 to 23 are kept for later ones. */
+/* Whether this version gives a refusal with this number, or 0 for none: 20 to 23 are kept for later ones. */
 int given(uint32_t refusal);
 
 /* The tests. */
@@ -45,6 +47,7 @@ void test_refusals(void);
 void test_verdicts(void);
 void test_words(void);
 void test_limits(void);
+void test_conditions(void);
 void test_layout(void);
 void test_null(void);
 void test_listings(void);

@@ -12,12 +12,13 @@ static bantameasel_book read_book(const book *b) {
 }
 
 /* A book with so many lines of each kind is accepted, and one line more of a kind is refused at that line. */
-static void test_counts(int plain, int exceptions, int preferences, uint32_t refusal) {
+static void test_counts(int plain, int exceptions, int preferences, int conditionals, uint32_t refusal) {
     book b;
     begin(&b, 1);
     for (int k = 0; k < plain; k++) add(&b, 'R', (row){.head = 1});
     for (int k = 0; k < exceptions; k++) add(&b, 'X', (row){.head = 1});
     for (int k = 0; k < preferences; k++) prefer(&b, 1, 1);
+    for (int k = 0; k < conditionals; k++) prefer_if(&b, 1, 1, (row){.needed = {1}, .barred = {-1}});
     finish(&b);
     bantameasel_book answer = read_book(&b);
     expect_refusal("the refusal of a count", answer.refusal, refusal);
@@ -25,6 +26,19 @@ static void test_counts(int plain, int exceptions, int preferences, uint32_t ref
     expect("R lines", answer.plain, refusal == 0 ? (uint64_t)plain : 0);
     expect("X lines", answer.exceptions, refusal == 0 ? (uint64_t)exceptions : 0);
     expect("P lines", answer.preferences, refusal == 0 ? (uint64_t)preferences : 0);
+    expect("Q lines", answer.conditionals, refusal == 0 ? (uint64_t)conditionals : 0);
+}
+
+/* One Q line too many that names an exception which the book does not have is 19, and 6 if no book can have it. */
+static void test_one_too_many(int other, uint32_t refusal) {
+    book b;
+    begin(&b, 1);
+    add(&b, 'X', (row){.head = 1});
+    for (int k = 0; k < BANTAMEASEL_MOST_CONDITIONALS; k++) prefer_if(&b, 1, 1, (row){.needed = {1}});
+    prefer_if(&b, 1, other, (row){.needed = {1}});
+    finish(&b);
+    expect_refusal("one Q line too many", read_book(&b).refusal, refusal);
+    expect("its line", read_book(&b).line, (uint64_t)b.lines + 1);
 }
 
 static void test_statements(void) {
@@ -60,6 +74,25 @@ static void test_lengths(const book *b) {
     expect_refusal("one exception more", written.refusal, BANTAMEASEL_REFUSED_PAIR_TAKEN);
 }
 
+/* The room for a table that the header calls always enough is enough, and the table is as long as it says; a fourth of
+ * the text's length does only where it is not less. */
+static void test_room(int plain, int exceptions, int conditionals) {
+    book b;
+    begin(&b, 2);
+    for (int k = 0; k < plain; k++) add(&b, 'R', (row){.head = 1});
+    for (int k = 0; k < exceptions; k++) add(&b, 'X', (row){.head = 1});
+    for (int k = 0; k < conditionals; k++) prefer_if(&b, 1, 1, (row){.needed = {2}});
+    finish(&b);
+    const size_t needed = (size_t)(5 + 9 * (plain + exceptions) + 10 * conditionals), fourth = b.length / 4;
+    expect("the room that is always enough", needed <= fourth + 1, 1);
+    expect("a table", bantameasel_read(b.bytes, b.length, table, needed).refusal, 0);
+    expect("no shorter table", bantameasel_read(b.bytes, b.length, table, needed - 1).refusal,
+           BANTAMEASEL_REFUSED_BUFFER_SHORT);
+    expect("a fourth of the text", bantameasel_read(b.bytes, b.length, table, fourth).refusal,
+           needed <= fourth ? BANTAMEASEL_NOT_REFUSED : BANTAMEASEL_REFUSED_BUFFER_SHORT);
+    expect("a fourth of the text is enough", needed <= fourth, plain + exceptions + conditionals > 1);
+}
+
 /* A line has 54 + n bytes in a book of at most 12 exceptions and 70 + n in a longer one, whether the pair takes none of
  * them or all. */
 static void test_line_lengths(void) {
@@ -79,12 +112,24 @@ static void test_line_lengths(void) {
 
 void test_limits(void) {
     const int r = BANTAMEASEL_MOST_PLAIN, x = BANTAMEASEL_MOST_EXCEPTIONS, p = BANTAMEASEL_MOST_PREFERENCES;
+    const int q = BANTAMEASEL_MOST_CONDITIONALS;
     book b;
     test_statements();
-    test_counts(r, x, p, BANTAMEASEL_NOT_REFUSED);
-    test_counts(r + 1, 0, 0, BANTAMEASEL_REFUSED_TOO_MANY);
-    test_counts(0, x + 1, 0, BANTAMEASEL_REFUSED_TOO_MANY);
-    test_counts(0, 1, p + 1, BANTAMEASEL_REFUSED_TOO_MANY);
+    test_counts(r, x, p, q, BANTAMEASEL_NOT_REFUSED);
+    test_counts(r, x, p, 0, BANTAMEASEL_NOT_REFUSED);
+    test_counts(0, 1, 0, q, BANTAMEASEL_NOT_REFUSED);
+    test_counts(r + 1, 0, 0, 0, BANTAMEASEL_REFUSED_TOO_MANY);
+    test_counts(0, x + 1, 0, 0, BANTAMEASEL_REFUSED_TOO_MANY);
+    test_counts(0, 1, p + 1, 0, BANTAMEASEL_REFUSED_TOO_MANY);
+    test_counts(0, 1, 0, q + 1, BANTAMEASEL_REFUSED_TOO_MANY_CONDITIONALS);
+    test_counts(0, 1, p, q + 1, BANTAMEASEL_REFUSED_TOO_MANY_CONDITIONALS);
+    test_one_too_many(2, BANTAMEASEL_REFUSED_TOO_MANY_CONDITIONALS);
+    test_one_too_many(17, BANTAMEASEL_REFUSED_OUT_OF_RANGE);
+    test_room(0, 0, 0);
+    test_room(1, 0, 0);
+    test_room(0, 1, 0);
+    test_room(0, 1, 1);
+    test_room(2, 0, 0);
     test_line_lengths();
     full(&b);
     test_lengths(&b);
@@ -101,7 +146,8 @@ void test_layout(void) {
     expect("its line", offsetof(bantameasel_book, line), 8);
     expect("its statements", offsetof(bantameasel_book, statements), 16);
     expect("its preferences", offsetof(bantameasel_book, preferences), 40);
-    expect("what is reserved", offsetof(bantameasel_book, reserved), 48);
+    expect("its conditionals", offsetof(bantameasel_book, conditionals), 48);
+    expect("what is reserved", offsetof(bantameasel_book, reserved), 56);
     expect("the size of Write's answer", sizeof(bantameasel_length), 24);
     expect("its length", offsetof(bantameasel_length, length), 16);
     expect("the size of Judge's answer", sizeof(bantameasel_verdict), 16);
@@ -116,7 +162,11 @@ void test_layout(void) {
     book b;
     begin(&b, 3);
     add(&b, 'X', (row){.head = 1});
+    prefer(&b, 1, 1);
+    prefer_if(&b, 1, 1, (row){.needed = {3}});
+    prefer_if(&b, 1, 1, (row){.barred = {-3}});
     finish(&b);
-    bantameasel_book wanted = {.edition = 1, .statements = 3, .exceptions = 1}, answer = read_book(&b);
+    bantameasel_book wanted = {.edition = 1, .statements = 3, .exceptions = 1, .preferences = 1, .conditionals = 2};
+    bantameasel_book answer = read_book(&b);
     expect("Read's answer, what is reserved too", memcmp(&answer, &wanted, sizeof wanted) != 0, 0);
 }

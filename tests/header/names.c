@@ -39,8 +39,24 @@ static const faulty TEXTS[] = {
     {"B   1   1\nP  16   1\n", BANTAMEASEL_REFUSED_PREFERENCE, 2},
     {"B   1   1\nP  17   1\n", BANTAMEASEL_REFUSED_OUT_OF_RANGE, 2},
     {"B   1   1\nZ   1\n", BANTAMEASEL_REFUSED_TOTAL, 2},
-    {"B   1   1\nZ 248\n", BANTAMEASEL_REFUSED_TOTAL, 2},
-    {"B   1   1\nZ 249\n", BANTAMEASEL_REFUSED_OUT_OF_RANGE, 2},
+    {"B   1   1\nZ 280\n", BANTAMEASEL_REFUSED_TOTAL, 2},
+    {"B   1   1\nZ 281\n", BANTAMEASEL_REFUSED_OUT_OF_RANGE, 2},
+    {"Q   1   1   0   0   0   0   0   0   0   0\n", BANTAMEASEL_REFUSED_LINE_PLACE, 1},
+    {"B   1   1\nq\n", BANTAMEASEL_REFUSED_LINE_PLACE, 2},
+    {"B   1   1\nQ   1   1   0   0   0   0   0   0   0\n", BANTAMEASEL_REFUSED_LINE_LENGTH, 2},
+    {"B   1   1\nQ   1   1   0   0   0   0   0   0   0   x\n", BANTAMEASEL_REFUSED_FIELD_CHARACTER, 2},
+    {"B   1   1\nQ   1   1   0   0   0   0   0   0   0    \n", BANTAMEASEL_REFUSED_FIELD_GAP, 2},
+    {"B   1   1\nQ   1   1   0   0   0   0   0   0   0  -0\n", BANTAMEASEL_REFUSED_FIELD_ZERO, 2},
+    {"B   1   1\nQ   0   1   0   0   0   0   0   0   0   0\n", BANTAMEASEL_REFUSED_OUT_OF_RANGE, 2},
+    {"B   1   1\nQ   1  17   0   0   0   0   0   0   0   0\n", BANTAMEASEL_REFUSED_OUT_OF_RANGE, 2},
+    {"B   1   1\nQ   1   1   0   0   0   0   0   0   0   2\n", BANTAMEASEL_REFUSED_OUT_OF_RANGE, 2},
+    {"B   1   1\nQ   1   1   0   0   0   0   0   0   0  -1\n", BANTAMEASEL_REFUSED_PREFERENCE, 2},
+    {"B   1   1\nX   1   0   0   0   0   0   0   0   0\nQ   1   2   0   0   0   0   0   0   0   0\n",
+     BANTAMEASEL_REFUSED_PREFERENCE, 3},
+    {"B   1   1\nX   1   0   0   0   0   0   0   0   0\nQ   1   1   0   0   0   0   0   0   0   0\nP   1   1\n",
+     BANTAMEASEL_REFUSED_LINE_PLACE, 4},
+    {"B   1   1\nX   1   0   0   0   0   0   0   0   0\nQ   1   1   0   0   0   0   0   0   0   0\nZ   1\n",
+     BANTAMEASEL_REFUSED_TOTAL, 4},
 };
 
 /* Read refuses the text so, and all other numbers of its answer are 0. */
@@ -102,14 +118,41 @@ static void test_pairs(void) {
     expect("a lawful pair", bantameasel_judge(b.bytes, b.length, pairs[4].pair).refusal, pairs[4].refusal);
 }
 
+/* A number table of so many numbers, and what Write refuses it with. */
+typedef struct {
+    int32_t numbers[16];
+    size_t length;
+    uint32_t refusal;
+    uint64_t line;
+} faulty_table;
+
+/* The three before the last are tables for a version before 2.4, which did not count Q lines: one without a row, and
+ * two with an R row, of head 1 and of head -1. The last one is right, but there is no room for its text. */
+static const faulty_table TABLES[] = {
+    {{1, 0, 0}, 3, BANTAMEASEL_REFUSED_TABLE_LENGTH, 0},
+    {{1, 0, 0, 0, 0, 0}, 6, BANTAMEASEL_REFUSED_TABLE_LENGTH, 0},
+    {{0, 0, 0, 0, 33}, 5, BANTAMEASEL_REFUSED_OUT_OF_RANGE, 1},
+    {{1, 201, 0, 0, 0}, 5, BANTAMEASEL_REFUSED_TOO_MANY, 1},
+    {{1, 0, 17, 0, 0}, 5, BANTAMEASEL_REFUSED_TOO_MANY, 1},
+    {{1, 0, 0, 33, 0}, 5, BANTAMEASEL_REFUSED_TOO_MANY, 1},
+    {{1, 0, 0, 0, 33}, 5, BANTAMEASEL_REFUSED_TOO_MANY, 1},
+    {{1, 0, 0, 0, -1}, 5, BANTAMEASEL_REFUSED_TOO_MANY, 1},
+    {{1, 0, 0, 0, 1, 1, 1, 0, 0, 0, 0, 0, 0, 0}, 14, BANTAMEASEL_REFUSED_TABLE_LENGTH, 0},
+    {{1, 0, 0, 0, 1, 1, 1, 0, 0, 0, 0, 0, 0, 0, 0}, 15, BANTAMEASEL_REFUSED_PREFERENCE, 2},
+    {{1, 0, 0, 0, 1, 1, 1, 0, 0, 0, 0, 0, 0, 0, 2}, 15, BANTAMEASEL_REFUSED_OUT_OF_RANGE, 2},
+    {{1, 0, 0, 0, 1, 1, 0, 0, 0, 0, 0, 0, 0, 0, 0}, 15, BANTAMEASEL_REFUSED_OUT_OF_RANGE, 2},
+    {{1, 0, 0, 0}, 4, BANTAMEASEL_REFUSED_TABLE_LENGTH, 0},
+    {{1, 1, 0, 0, 1, 0, 0, 0, 0, 0, 0, 0, 0}, 13, BANTAMEASEL_REFUSED_TABLE_LENGTH, 0},
+    {{1, 1, 0, 0, -1, 0, 0, 0, 0, 0, 0, 0, 0}, 13, BANTAMEASEL_REFUSED_TOO_MANY, 1},
+    {{1, 0, 0, 0, 0}, 5, BANTAMEASEL_REFUSED_BUFFER_SHORT, 0},
+};
+
 static void test_tables(void) {
-    int32_t short_one[3] = {1, 0, 0}, long_one[5] = {1, 0, 0, 0, 0}, good[4] = {1, 0, 0, 0};
-    int32_t many[4] = {1, 201, 0, 0}, excepted[4] = {1, 0, 17, 0};
-    expect_refusal("a short table", bantameasel_write(short_one, 3, NULL, 0).refusal, BANTAMEASEL_REFUSED_TABLE_LENGTH);
-    expect_refusal("a long table", bantameasel_write(long_one, 5, NULL, 0).refusal, BANTAMEASEL_REFUSED_TABLE_LENGTH);
-    expect_refusal("a count over its limit", bantameasel_write(many, 4, NULL, 0).refusal, BANTAMEASEL_REFUSED_TOO_MANY);
-    expect_refusal("17 X lines", bantameasel_write(excepted, 4, NULL, 0).refusal, BANTAMEASEL_REFUSED_TOO_MANY);
-    expect_refusal("no room for the text", bantameasel_write(good, 4, NULL, 0).refusal, BANTAMEASEL_REFUSED_BUFFER_SHORT);
+    for (size_t k = 0; k < sizeof TABLES / sizeof TABLES[0]; k++) {
+        bantameasel_length answer = bantameasel_write(TABLES[k].numbers, TABLES[k].length, NULL, 0);
+        expect_refusal("a table", answer.refusal, TABLES[k].refusal);
+        expect("the line of a table", answer.line, TABLES[k].line);
+    }
 }
 
 void test_refusals(void) {
@@ -176,5 +219,7 @@ void test_words(void) {
     expect("the words of 17", strstr(bantameasel_refusal_words(17), "blank") != NULL, 1);
     expect("the words of 18", strstr(bantameasel_refusal_words(18), "leading zero") != NULL, 1);
     expect("the words of 11", strstr(bantameasel_refusal_words(11), "Z line") != NULL, 1);
+    expect("the words of 19", strstr(bantameasel_refusal_words(19), "Q lines") != NULL, 1);
     expect("the words of verdict 4", strstr(bantameasel_verdict_words(4), "outranks one taken here") != NULL, 1);
+    expect("the words of verdict 5", strstr(bantameasel_verdict_words(5), "some undominated view") != NULL, 1);
 }

@@ -112,13 +112,14 @@ static size_t test_deep(book *b, bantameasel_pair pair) {
     return most;
 }
 
-/* No three statements of the circle, at these distances, have an odd number of held ones. */
-static void even_circle(book *b, int size, int second, int third) {
+/* No three statements of the circle from first on, at these distances, have an odd number of held ones; where another
+ * statement is given, only if it is held. */
+static void even_circle(book *b, int first, int size, int second, int third, int where) {
     for (int i = 0; i < size; i++) {
-        int at[3] = {1 + i, 1 + (i + second) % size, 1 + (i + third) % size};
+        int at[3] = {first + i, first + (i + second) % size, first + (i + third) % size};
         for (int held = 1; held < 8; held++) {
             if ((held ^ held >> 1 ^ held >> 2) % 2 == 0) continue;
-            row r = {.head = 0};
+            row r = {.head = 0, .needed = {0, 0, 0, where}};
             for (int k = 0; k < 3; k++) r.needed[k] = held >> k & 1 ? at[k] : -at[k];
             add(b, 'R', r);
         }
@@ -152,7 +153,7 @@ static size_t test_denied(book *b) {
 /* The same after many dead ends, with a choice at the last statement. */
 static size_t test_dead_ends(book *b) {
     choices(b, 48, 16);
-    even_circle(b, 16, 3, 7);
+    even_circle(b, 1, 16, 3, 7, 0);
     for (int i = 17; i < 48; i++) add(b, 'R', (row){.head = -i});
     add(b, 'R', (row){.head = 48, .barred = {-48}});
     add(b, 'R', (row){.head = -48, .barred = {48}});
@@ -180,6 +181,76 @@ static size_t test_judged(book *b) {
     expect("the verdict", bantameasel_judge(b->bytes, b->length, pair).verdict, BANTAMEASEL_VERDICT_NOT_LEAST);
     return most;
 }
+
+/* As many preferences under a condition as there may be: exception 1, which holds 48, is outranked by the others, which
+ * hold 47, if one of the statements 1 to 16 is held; but then 47 is not. Whether some view that holds 47 outranks a pair
+ * is asked line by line, and there are many dead ends on the way to such a view. */
+static size_t test_conditional(book *b) {
+    const uint64_t free = (UINT64_C(1) << 32) - 1, last = UINT64_C(1) << 47, two_last = last | last >> 1;
+    choices(b, 48, 32);
+    even_circle(b, 17, 16, 3, 7, 47);
+    for (int i = 1; i <= 16; i++) add(b, 'R', (row){.needed = {i, 47}});
+    add(b, 'R', (row){.barred = {47, 48}});
+    add(b, 'X', (row){.head = 48});
+    for (int k = 1; k < BANTAMEASEL_MOST_EXCEPTIONS; k++) add(b, 'X', (row){.head = 47});
+    for (int k = 0; k < BANTAMEASEL_MOST_CONDITIONALS; k++)
+        prefer_if(b, 2 + k % (BANTAMEASEL_MOST_EXCEPTIONS - 1), 1, (row){.needed = {1 + k % 16}});
+    bantameasel_pair one = {1, last | free, 0}, all = {(1 << BANTAMEASEL_MOST_EXCEPTIONS) - 1, two_last, free};
+    size_t most = test_deep(b, one);
+    expect("the verdict on one", bantameasel_judge(b->bytes, b->length, one).verdict, BANTAMEASEL_VERDICT_RESOLUTION);
+    b->length -= 6;
+    size_t others = test_deep(b, all);
+    expect("the verdict on all", bantameasel_judge(b->bytes, b->length, all).verdict, BANTAMEASEL_VERDICT_NOT_LEAST);
+    return most > others ? most : others;
+}
+
+/* If the choices 1 to 32 are all held, or all denied where side is -1, then 47 is not held. Statements 33 to 40 say it of
+ * four choices each, 41 and 42 of sixteen each. */
+static void not_all(book *b, int side) {
+    choices(b, 48, 32);
+    for (int i = 0; i < 8; i++) {
+        int last = side * (4 * i + 4);
+        add(b, 'R', (row){.head = 33 + i, .needed = {last - 3 * side, last - 2 * side, last - side, last}});
+    }
+    add(b, 'R', (row){.head = 41, .needed = {33, 34, 35, 36}});
+    add(b, 'R', (row){.head = 42, .needed = {37, 38, 39, 40}});
+    add(b, 'R', (row){.needed = {41, 42, 47}});
+}
+
+/* A set of statements, from the first to the last. */
+static uint64_t from_to(int first, int last) { return ((UINT64_C(1) << last) - 1) & ~((UINT64_C(1) << (first - 1)) - 1); }
+
+/* A chain leads from exception 15, which holds 47, to 1, which holds 48, over exceptions that can never be taken. Its last
+ * step is given by 19 lines, each other step by one, and each line asks for another one of the choices. So the search for
+ * a view that outranks the pair of all assumes them one after the other, and finds that 47 is not held with all of them;
+ * a view with all but one of the 19 is what outranks it. The pair of more lacks the last choice, and so the first step of
+ * the chain; it takes exception 16 without need. */
+static size_t test_chain(book *b, int side) {
+    not_all(b, side);
+    add(b, 'R', (row){.barred = {47, 48}});
+    add(b, 'R', (row){.needed = {46}});
+    add(b, 'X', (row){.head = 48});
+    for (int k = 2; k <= 14; k++) add(b, 'X', (row){.head = 46});
+    add(b, 'X', (row){.head = 47});
+    add(b, 'X', (row){.head = 45});
+    for (int k = 1; k <= 19; k++) prefer_if(b, 2, 1, (row){.needed = {side * k}});
+    for (int k = 2; k <= 14; k++) prefer_if(b, k + 1, k, (row){.needed = {side * (18 + k)}});
+    bantameasel_pair all = {1, from_to(33, 42) | from_to(48, 48), 0};
+    bantameasel_pair more = {1 | 1 << 15, from_to(33, 39) | from_to(41, 41) | from_to(45, 45) | from_to(48, 48), 0};
+    *(side > 0 ? &all.held : &all.denied) |= from_to(1, 32);
+    *(side > 0 ? &more.held : &more.denied) |= from_to(1, 31);
+    *(side > 0 ? &more.denied : &more.held) |= from_to(32, 32);
+    size_t most = test_deep(b, all);
+    expect("the verdict on all", bantameasel_judge(b->bytes, b->length, all).verdict, BANTAMEASEL_VERDICT_DOMINATED);
+    b->length -= 6;
+    size_t others = test_deep(b, more);
+    expect("the verdict on more", bantameasel_judge(b->bytes, b->length, more).verdict, BANTAMEASEL_VERDICT_NOT_LEAST);
+    return most > others ? most : others;
+}
+
+static size_t test_held_chain(book *b) { return test_chain(b, 1); }
+
+static size_t test_denied_chain(book *b) { return test_chain(b, -1); }
 
 /* Every statement is a choice. */
 static size_t test_choices(book *b) {
@@ -221,7 +292,8 @@ static void test_stores_small(void) {
 
 /* A call that takes more stack than this ends the program by a signal. */
 void test_stack(void) {
-    static size_t (*const tests[])(book *) = {test_denied, test_dead_ends, test_needed, test_judged, test_choices};
+    static size_t (*const tests[])(book *) = {test_denied,      test_dead_ends,  test_needed,       test_judged,
+                                              test_conditional, test_held_chain, test_denied_chain, test_choices};
     size_t most = 0;
     book b;
     printf("stack: the deepest books in threads with %d bytes\n", BANTAMEASEL_MOST_STACK);

@@ -26,15 +26,15 @@ use Rattle.across.specs.declared.VerdictAnswer.{VerdictAnswer}
 use Rattle.across.specs.declared.PairAnswer.{PairAnswer}
 use Rattle.across.specs.declared.Done.{Done}
 
--- The version as one number, 100 for each whole version and 1 for each part of one: 2.3.
+-- The version as one number, 100 for each whole version and 1 for each part of one: 2.4.
 abbrev pub versionNumber : ℕ
-versionNumber = 203
+versionNumber = 204
 
 -- The pair beside an answer that has none.
 unfoldable pub noPair : Pair
 noPair = record { taken = 0; held = 0; denied = 0 }
 
--- Of Read: the edition, n and the three counts. What is reserved is 0.
+-- Of Read: the edition, n and the four counts. What is reserved is 0.
 unfoldable pub bookIn : Reading → BookAnswer
 bookIn (Accepted s) = record {
   refusal = 0;
@@ -44,7 +44,8 @@ bookIn (Accepted s) = record {
   plain = s .plain;
   exceptions = s .exceptions;
   preferences = s .preferences;
-  reserved = replicate 4 0;
+  conditionals = s .conditionals;
+  reserved = replicate 3 0;
 }
 bookIn (Refused q) = record {
   refusal = q .number;
@@ -54,7 +55,8 @@ bookIn (Refused q) = record {
   plain = 0;
   exceptions = 0;
   preferences = 0;
-  reserved = replicate 4 0;
+  conditionals = 0;
+  reserved = replicate 3 0;
 }
 
 -- Of Write, Line and pages: how many.

@@ -12,7 +12,8 @@ use sets::Pair;
 use text::Reading;
 use text::Writing;
 
-// What Read answers: the edition, n and the numbers of R, X and P lines. The reserved numbers are 0: room for counts to come.
+// What Read answers: the edition, n and the numbers of R, X, P and Q lines. The reserved numbers are 0: room for counts to come. The number
+// of Q lines has the place of the first of four, so that the struct keeps its size and every field its place.
 #[repr(C)]
 pub struct BookAnswer {
     pub refusal: u32,
@@ -22,7 +23,8 @@ pub struct BookAnswer {
     pub plain: u64,
     pub exceptions: u64,
     pub preferences: u64,
-    pub reserved: [u64; 4],
+    pub conditionals: u64,
+    pub reserved: [u64; 3],
 }
 
 // What Write, Line and a page answer: how many bytes, how many pairs.
@@ -58,7 +60,7 @@ pub struct Done {
 }
 
 // What stands in the place of counts to come.
-const RESERVED: [u64; 4] = [0; 4];
+const RESERVED: [u64; 3] = [0; 3];
 
 pub fn book_in(r: Reading) -> BookAnswer
     ensures { λ a. ⌜ a ≡ bookIn r ⌝ }
@@ -72,6 +74,7 @@ pub fn book_in(r: Reading) -> BookAnswer
             plain: s.plain as u64,
             exceptions: s.exceptions as u64,
             preferences: s.preferences as u64,
+            conditionals: s.conditionals as u64,
             reserved: RESERVED,
         },
         Reading::Refused(q) => BookAnswer {
@@ -82,6 +85,7 @@ pub fn book_in(r: Reading) -> BookAnswer
             plain: 0,
             exceptions: 0,
             preferences: 0,
+            conditionals: 0,
             reserved: RESERVED,
         },
     }

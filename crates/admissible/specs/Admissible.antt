@@ -6,7 +6,7 @@ use lib.ListN.{length, getD}
 use Rattle.sets.specs.declared.Pair.{Pair}
 use Rattle.sets.specs.Sets.{bitOf, Within, Apart}
 use Rattle.masks.specs.declared.Bounds.{Bounds}
-use Rattle.masks.specs.Views.{MaskView}
+use Rattle.masks.specs.Views.{MaskDominates, MaskView}
 use Rattle.bounds.specs.Sound.{In}
 
 -- No view within root has a proper subset of taken; the same of the subsets that lack the exception at place e.
@@ -27,3 +27,12 @@ pub record UndominatedAt (ws : List ℕ) (n : ℕ) (ranks : List ℕ) (root : Bo
 pub record Admissible (ws : List ℕ) (n : ℕ) (ranks : List ℕ) (root : Bounds) (taken : ℕ) : Type 0 where
   pub minimal : Minimal ws n ranks root taken
   pub undominated : Undominated ws n ranks root taken
+
+-- ---- with preferences under a condition (document 02 (e))
+-- No view within root dominates the pair: it stands.
+pub record Stands (ws : List ℕ) (n : ℕ) (ranks : List ℕ) (root : Bounds) (v : Pair) : Type 0 where
+  pub free : (w : Pair) → MaskView ws n ranks w → In root w → MaskDominates ws n ranks w v → ⊥
+
+-- No view within root that stands has a proper subset of taken.
+pub record Unexceeded (ws : List ℕ) (n : ℕ) (ranks : List ℕ) (root : Bounds) (taken : ℕ) : Type 0 where
+  pub has : (v : Pair) → MaskView ws n ranks v → In root v → Stands ws n ranks root v → Within (v .taken) taken → Within taken (v .taken)

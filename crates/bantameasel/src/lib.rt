@@ -21,8 +21,8 @@ use across::VerdictAnswer;
 use entry::Name;
 use sets::Pair;
 
-// The version as one number, 100 for each whole version and 1 for each part of one: 2.3. include/bantameasel.h and people.mk have it too.
-const VERSION: u32 = 203;
+// The version as one number, 100 for each whole version and 1 for each part of one: 2.4. include/bantameasel.h and people.mk have it too.
+const VERSION: u32 = 204;
 
 // The version of this library.
 #[no_mangle]

@@ -1,4 +1,4 @@
--- The kinds of line (document 01, 'A book and its lines'), a row of data each, and what follows from the rows and the limits.
+-- The kinds of line (document 01, 'A book and its lines'; document 02, (e)), a row of data each, and what follows from the rows and the limits.
 use Prim.Native.Nat.{ℕ, _+_, _-_, _*_, _/_, _^_}
 use mathlib.Core.Bool.{true, false}
 use mathlib.Core.List.{List, [], _∷_, _++_}
@@ -10,7 +10,8 @@ use Rattle.book.specs.declared.Content.{Content}
 use Rattle.book.specs.declared.Content.the-variants.{Edition, Statements, Literal, Exception, Total}
 use Rattle.book.specs.Limits as limit
 
--- How many fields an R or X line has: head, needed entries, barred entries; and how many a P line has. The most that a line has.
+-- How many fields a line has: an R or X line head, needed entries, barred entries; a P line two; a Q line these two, needed entries, barred
+-- entries. The most that a line has.
 abbrev pub entriesEach : ℕ
 entriesEach = 4
 
@@ -20,8 +21,11 @@ ruleFields = 1 + entriesEach + entriesEach
 abbrev pub preferenceFields : ℕ
 preferenceFields = 2
 
+abbrev pub conditionalFields : ℕ
+conditionalFields = preferenceFields + entriesEach + entriesEach
+
 abbrev pub widest : ℕ
-widest = ruleFields
+widest = conditionalFields
 
 -- How many numbers such lines give to the number table.
 abbrev pub ruleNumbers : ℕ
@@ -30,7 +34,10 @@ ruleNumbers = ruleFields
 abbrev pub preferenceNumbers : ℕ
 preferenceNumbers = preferenceFields
 
--- The kinds in the order in which they stand in a text: B, R, X, P, Z. A kind says: its letter, a byte; how many fields it has, and where
+abbrev pub conditionalNumbers : ℕ
+conditionalNumbers = conditionalFields
+
+-- The kinds in the order in which they stand in a text: B, R, X, P, Q, Z. A kind says: its letter, a byte; how many fields it has, and where
 -- in the list of contents they begin; how many numbers of the number table it gives; how many such lines a book may have, and the refusal of
 -- one over; whether it is a row of the table, which Z counts; how many of its first fields are heads, how many of these must be filled (not 0),
 -- and the refusal where fewer are; where its count stands in front of the table's rows, n having place 0 (for B and Z, which have no count, 0 too).
@@ -40,12 +47,13 @@ kinds =
     ∷ record { letter = 82; fields = ruleFields; from = 2; numbers = ruleNumbers; limit = limit.plain; over = 8; row = true; heads = 1; filled = 0; unfilled = 9; count = 1 }
     ∷ record { letter = 88; fields = ruleFields; from = 2; numbers = ruleNumbers; limit = limit.exceptions; over = 8; row = true; heads = 1; filled = 1; unfilled = 9; count = 2 }
     ∷ record { letter = 80; fields = preferenceFields; from = 11; numbers = preferenceNumbers; limit = limit.preferences; over = 8; row = true; heads = 0; filled = 0; unfilled = 9; count = 3 }
-    ∷ record { letter = 90; fields = 1; from = 13; numbers = 0; limit = 1; over = 8; row = false; heads = 0; filled = 0; unfilled = 9; count = 0 }
+    ∷ record { letter = 81; fields = conditionalFields; from = 11; numbers = conditionalNumbers; limit = limit.conditionals; over = 19; row = true; heads = 0; filled = 0; unfilled = 9; count = 4 }
+    ∷ record { letter = 90; fields = 1; from = 21; numbers = 0; limit = 1; over = 8; row = false; heads = 0; filled = 0; unfilled = 9; count = 0 }
     ∷ []
 
--- What the fields hold: those of B; of R and X, head, needed and barred entries; of P; of Z.
+-- What the fields hold: those of B; of R and X, head, needed and barred entries; of Q, the two of P, then needed and barred entries; of Z.
 unfoldable pub contents : List Content
-contents = Edition ∷ Statements ∷ (replicate ruleFields Literal ++ (Exception ∷ Exception ∷ Total ∷ []))
+contents = Edition ∷ Statements ∷ (replicate ruleFields Literal ++ (Exception ∷ Exception ∷ (replicate (entriesEach + entriesEach) Literal ++ (Total ∷ []))))
 
 -- What the fields of a line of the kind hold, left to right.
 unfoldable pub fieldsOf : Kind → List Content
@@ -68,12 +76,15 @@ exception = 2
 abbrev pub preference : ℕ
 preference = 3
 
+abbrev pub conditional : ℕ
+conditional = 4
+
 abbrev pub last : ℕ
-last = 4
+last = 5
 
 -- How many kinds there are: the place of no kind.
 abbrev pub none : ℕ
-none = 5
+none = 6
 
 -- A line of no kind.
 unfoldable pub unknown : Kind

@@ -1,4 +1,4 @@
--- The limits of a book (document 01, 'A book and its lines'; document 02, (c)). Nothing else in the definitions repeats these numbers, except that
+-- The limits of a book (document 01, 'A book and its lines'; document 02, (c), (e)). Nothing else in the definitions repeats these numbers, except that
 -- promises/specs/Noted has those of document 01, which stand still.
 use Prim.Native.Nat.{ℕ}
 
@@ -21,3 +21,7 @@ shortLine = 12
 -- The most preferences, P lines.
 abbrev pub preferences : ℕ
 preferences = 32
+
+-- The most preferences under a condition, Q lines.
+abbrev pub conditionals : ℕ
+conditionals = 32

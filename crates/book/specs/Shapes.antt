@@ -14,6 +14,7 @@ limits = record {
   plain = limit.plain;
   exceptions = limit.exceptions;
   preferences = limit.preferences;
+  conditionals = limit.conditionals;
   text = longest;
   rules = rules;
   rows = mostRows;
@@ -23,7 +24,7 @@ limits = record {
 
 -- The shape of the empty book: one statement, no line but B and Z.
 unfoldable pub emptyShape : Shape
-emptyShape = record { statements = 1; plain = 0; exceptions = 0; preferences = 0 }
+emptyShape = record { statements = 1; plain = 0; exceptions = 0; preferences = 0; conditionals = 0 }
 
 -- The empty book: that shape, and every number of its rows 0.
 unfoldable pub emptyBook : Book

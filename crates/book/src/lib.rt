@@ -14,6 +14,7 @@ pub struct Shape {
     pub plain: usize,
     pub exceptions: usize,
     pub preferences: usize,
+    pub conditionals: usize,
 }
 
 // A book: its shape, and room for the rows of any book; the rows' numbers come first.
@@ -28,6 +29,7 @@ pub struct Limits {
     pub plain: usize,
     pub exceptions: usize,
     pub preferences: usize,
+    pub conditionals: usize,
     pub text: usize,
     pub rules: usize,
     pub rows: usize,
@@ -36,7 +38,7 @@ pub struct Limits {
 }
 
 impl Book {
-    // The most statements, R lines, X lines and P lines.
+    // The most statements, R lines, X lines, P lines and Q lines.
     pub const STATEMENTS: usize = 48;
 
     pub const PLAIN: usize = 200;
@@ -45,16 +47,18 @@ impl Book {
 
     pub const PREFERENCES: usize = 32;
 
+    pub const CONDITIONALS: usize = 32;
+
     // The most exceptions of a book that keeps the short form of Line, which has as many fields for them.
     pub const SHORT_LINE: usize = 12;
 
     // The most rules, plain ones and exceptions; the most lines that Z counts.
     pub const RULES: usize = Book::PLAIN + Book::EXCEPTIONS;
 
-    pub const ROWS: usize = Book::RULES + Book::PREFERENCES;
+    pub const ROWS: usize = Book::RULES + Book::PREFERENCES + Book::CONDITIONALS;
 
-    // How many kinds of line there are, and their places in the order of a text: B, R, X, P, Z.
-    pub const KINDS: usize = 5;
+    // How many kinds of line there are, and their places in the order of a text: B, R, X, P, Q, Z.
+    pub const KINDS: usize = 6;
 
     pub const AT_FIRST: usize = 0;
 
@@ -64,9 +68,12 @@ impl Book {
 
     pub const AT_PREFERENCE: usize = 3;
 
-    pub const AT_LAST: usize = 4;
+    pub const AT_CONDITIONAL: usize = 4;
 
-    // The columns of a field, the entries that a rule needs and as many that it bars, the fields of rules and of preferences, the most that a line has, the bytes of a line beside its fields.
+    pub const AT_LAST: usize = 5;
+
+    // The columns of a field, the entries that a body needs and as many that it bars, the fields of rules, of preferences and of those under a
+    // condition, the most that a line has, the bytes of a line beside its fields.
     pub const COLUMNS: usize = 4;
 
     pub const ENTRIES: usize = 4;
@@ -75,20 +82,25 @@ impl Book {
 
     pub const PREFERENCE_FIELDS: usize = 2;
 
-    pub const WIDEST: usize = Book::RULE_FIELDS;
+    pub const CONDITIONAL_FIELDS: usize = Book::PREFERENCE_FIELDS + Book::ENTRIES + Book::ENTRIES;
 
-    // How many numbers of the number table a rule and a preference have.
+    pub const WIDEST: usize = Book::CONDITIONAL_FIELDS;
+
+    // How many numbers of the number table a rule, a preference and one under a condition have.
     pub const RULE_NUMBERS: usize = Book::RULE_FIELDS;
 
     pub const PREFERENCE_NUMBERS: usize = Book::PREFERENCE_FIELDS;
 
+    pub const CONDITIONAL_NUMBERS: usize = Book::CONDITIONAL_FIELDS;
+
     pub const ENDS: usize = 2;
 
-    // The longest text: B, the rules, the preferences, Z.
+    // The longest text: B, the rules, the preferences, those under a condition, Z.
     pub const TEXT: usize = Book::ENDS
         + 2 * Book::COLUMNS
         + Book::RULES * (Book::ENDS + Book::RULE_FIELDS * Book::COLUMNS)
         + Book::PREFERENCES * (Book::ENDS + Book::PREFERENCE_FIELDS * Book::COLUMNS)
+        + Book::CONDITIONALS * (Book::ENDS + Book::CONDITIONAL_FIELDS * Book::COLUMNS)
         + Book::ENDS
         + Book::COLUMNS;
 
@@ -97,7 +109,8 @@ impl Book {
 
     pub const NUMBERS: usize = Book::FRONT
         + Book::RULES * Book::RULE_NUMBERS
-        + Book::PREFERENCES * Book::PREFERENCE_NUMBERS;
+        + Book::PREFERENCES * Book::PREFERENCE_NUMBERS
+        + Book::CONDITIONALS * Book::CONDITIONAL_NUMBERS;
 
     pub const ROOM: usize = Book::TEXT / Book::COLUMNS + Book::WIDEST;
 
@@ -113,6 +126,7 @@ impl Book {
             plain: Book::PLAIN,
             exceptions: Book::EXCEPTIONS,
             preferences: Book::PREFERENCES,
+            conditionals: Book::CONDITIONALS,
             text: Book::TEXT,
             rules: Book::RULES,
             rows: Book::ROWS,
@@ -131,6 +145,7 @@ impl Book {
                 plain: 0,
                 exceptions: 0,
                 preferences: 0,
+                conditionals: 0,
             },
             rows: [0i32; Book::ROOM],
         }
@@ -164,7 +179,7 @@ pub struct Kind {
     pub count: usize,
 }
 
-const CONTENTS: [Content; 14] = [
+const CONTENTS: [Content; 22] = [
     Content::Edition,
     Content::Statements,
     Content::Literal,
@@ -178,6 +193,14 @@ const CONTENTS: [Content; 14] = [
     Content::Literal,
     Content::Exception,
     Content::Exception,
+    Content::Literal,
+    Content::Literal,
+    Content::Literal,
+    Content::Literal,
+    Content::Literal,
+    Content::Literal,
+    Content::Literal,
+    Content::Literal,
     Content::Total,
 ];
 
@@ -235,9 +258,22 @@ const KINDS: [Kind; Book::KINDS] = [
         count: 3,
     },
     Kind {
+        letter: b'Q',
+        fields: Book::CONDITIONAL_FIELDS,
+        from: 11,
+        numbers: Book::CONDITIONAL_NUMBERS,
+        limit: Book::CONDITIONALS,
+        over: 19,
+        row: true,
+        heads: 0,
+        filled: 0,
+        unfilled: 9,
+        count: 4,
+    },
+    Kind {
         letter: b'Z',
         fields: 1,
-        from: 13,
+        from: 21,
         numbers: 0,
         limit: 1,
         over: 8,
@@ -317,14 +353,20 @@ pub fn content_at(place: usize) -> Content
 pub fn counts_of(s: Shape) -> [usize; Book::KINDS]
     ensures { λ r. ⌜ r ≡ allCounts s ⌝ }
 {
-    [1, s.plain, s.exceptions, s.preferences, 1]
+    [1, s.plain, s.exceptions, s.preferences, s.conditionals, 1]
 }
 
 // The numbers before the rows of a number table: n, and the counts of the kinds of rows in their own order.
 pub fn front_of(s: Shape) -> [usize; Book::FRONT]
     ensures { λ r. ⌜ r ≡ frontOf s ⌝ }
 {
-    [s.statements, s.plain, s.exceptions, s.preferences]
+    [
+        s.statements,
+        s.plain,
+        s.exceptions,
+        s.preferences,
+        s.conditionals,
+    ]
 }
 
 // The shape of n statements and so many lines of each kind.
@@ -336,6 +378,7 @@ pub fn shape_from(n: usize, counts: [usize; Book::KINDS]) -> Shape
         plain: counts[Book::AT_PLAIN],
         exceptions: counts[Book::AT_EXCEPTION],
         preferences: counts[Book::AT_PREFERENCE],
+        conditionals: counts[Book::AT_CONDITIONAL],
     }
 }
 

@@ -10,7 +10,7 @@ use native.Mathlib.Omega.{arith}
 use lib.Bits.{bitAnd}
 use lib.ListN.{length, getD}
 use Rattle.logic.specs.Tests.{Decides}
-use Rattle.logic.proofs.Decide.{holds-or-not}
+use Rattle.logic.proofs.Decide.{decides-eq, holds-or-not}
 use Rattle.sets.specs.declared.Pair.{Pair}
 use Rattle.sets.specs.Sets.{bitOf, Apart}
 use Rattle.sets.specs.Pairs.{Sub, Off, joinOf, meetOf, minusOf}
@@ -20,12 +20,14 @@ use Rattle.sets.proofs.Words.{none-off, off-is, none-and, single-has, single}
 use Rattle.sets.proofs.Pairs.{sub-refl, sub-trans, join-sub, join-l, meet-sub, meet-l, sub-minus, sub-of-minus, off-sub, off-sym, off-of-meet}
 use Rattle.masks.specs.declared.Masks.{Masks}
 use Rattle.masks.specs.declared.Bounds.{Bounds}
-use Rattle.masks.specs.Views.{masksAt, Fires, Constraint, Meets, MaskView}
+use Rattle.masks.specs.Views.{masksAt, Fires, Constraint, Meets, Lined, MaskView}
 use Rattle.masks.specs.Closures.{Closure}
+use Rattle.masks.specs.Steps.{Counting, Reached}
+use Rattle.masks.proofs.Steps.{has, leads-more, leads-unranked}
 use Rattle.masks.proofs.Booleans.{refused}
 use Rattle.masks.proofs.Facts.{bounded}
 use Rattle.bounds.specs.Singles.{oneOf, Picked}
-use Rattle.bounds.specs.Sound.{In, Keeps, intoOf, outOf, narrowOf, Firing, Idle, Coherent, Levelled, LevelledAt, Ruled, Propagated}
+use Rattle.bounds.specs.Sound.{In, Keeps, intoOf, outOf, narrowOf, Firing, Idle, Coherent, Levelled, Unlinked, LevelledAt, Ruled, Propagated}
 
 -- ---- steps one after the other
 pub keeps-same : {P : Pair → Type 0} (b : Bounds) → Keeps P b b
@@ -48,8 +50,11 @@ module _ {ws : List ℕ} {n : ℕ} {ranks : List ℕ} {b o : Bounds} where
   pub by-level : Keeps (Levelled ranks) b o → Keeps (MaskView ws n ranks) b o
   by-level = keeps-less (λ v w. record { level = w .level })
 
+  pub by-lines : Keeps (Unlinked ws n ranks) b o → Keeps (MaskView ws n ranks) b o
+  by-lines = keeps-less (λ v w. record { lined = w .lined })
+
   pub by-rules : Keeps (Ruled ws n) b o → Keeps (MaskView ws n ranks) b o
-  by-rules = keeps-less (λ v w. record { coherent = w .coherent; rules = w .rules; least = w .least; level = λ a h. absurd (omega arith) })
+  by-rules = keeps-less (λ v w. record { coherent = w .coherent; rules = w .rules; least = w .least; level = λ a h. absurd (omega arith); lined = λ l a c x p. w .lined l a c x (leads-unranked ws n ranks _ p) })
 
 pub propagated : (ws : List ℕ) (n : ℕ) (ranks : List ℕ) (b o p : Bounds) → Keeps (MaskView ws n ranks) b o → p ≡ narrowOf b o → Propagated ws n ranks b p
 unfolding narrowOf
@@ -187,3 +192,23 @@ upper-bound ws n b c h cl e =
         hi = meet-sub (x .hi) (bounded w (b .lo) (b .hi) c (x .lo) (x .hi) (λ i. le-trans (x .hi .taken i) (cl .start i)) (cl .stable));
       };
     })
+
+-- ---- preferences under a condition
+module _ (ws : List ℕ) (n : ℕ) (ranks : List ℕ) (b : Bounds) where
+  -- Lines that surely count lead in every pair.
+  pub unlinked : Lined ws n → (m r : ℕ) → Counting ws n (b .hi) (b .lo) m → Reached ws n ranks m (b .lo .taken) r
+      → (o : Bounds) → o ≡ outOf b (record { taken = r; held = 0; denied = 0 }) → Keeps (Unlinked ws n ranks) b o
+  unlinked l m r c q o e = rw e (record { kept = λ v u x. out-taken b v r (apart v u x) x })
+    where
+      apart : (v : Pair) → Unlinked ws n ranks v → In b v → Apart r (v .taken)
+      apart v u x k =
+          let y = bit-lt r k in let z = bit-lt (v .taken) k in
+          ⊎-elim (λ (e : bitOf r k ≡ 1).
+          let t = q .only k e in
+          ⊎-elim (λ (f : bitOf (v .taken) k ≡ 1).
+          absurd (u .lined l (t .begin) k (has _ _ (t .begin) (x .lo .taken) (t .member)) (leads-more ws n ranks _ _ (λ j i w. sure x (c .only j w .1)) (t .leads)) f))
+          (λ f. omega (arith, less (bitOf (v .taken) k) z f)) (holds-or-not (decides-eq (bitOf (v .taken) k) 1)))
+          (λ e. omega (arith, less (bitOf r k) y e)) (holds-or-not (decides-eq (bitOf r k) 1))
+        where
+          less : (u : ℕ) → u < 2 → (u ≡ 1 → ⊥) → u ≡ 0
+          less u h n = omega arith

@@ -9,7 +9,7 @@ use Rattle.sets.specs.Sets.{bitOf, Apart}
 use Rattle.sets.specs.Pairs.{Sub, joinOf, meetOf, minusOf}
 use Rattle.masks.specs.declared.Masks.{Masks}
 use Rattle.masks.specs.declared.Bounds.{Bounds}
-use Rattle.masks.specs.Views.{Fires, Meets, Level, MaskView}
+use Rattle.masks.specs.Views.{Fires, Meets, Level, Lined, Uncrossed, MaskView}
 
 -- The pair is within the bounds.
 pub record In (b : Bounds) (v : Pair) : Type 0 where
@@ -57,6 +57,10 @@ pub record Levelled (ranks : List ℕ) (v : Pair) : Type 0 where
 
 pub record LevelledAt (rank a : ℕ) (v : Pair) : Type 0 where
   pub level : bitOf (v .taken) a ≡ 1 → Apart rank (v .taken)
+
+-- No taken exception leads to a taken one by lines that count in the pair, if there are lines.
+pub record Unlinked (ws : List ℕ) (n : ℕ) (ranks : List ℕ) (v : Pair) : Type 0 where
+  pub lined : Lined ws n → Uncrossed ws n ranks v
 
 -- The pair is a view by the rules alone, no preference stated.
 abbrev pub Ruled : List ℕ → ℕ → Pair → Type 0

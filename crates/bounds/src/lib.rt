@@ -5,9 +5,10 @@ ghost use Prim.Native.Nat.{_*_, _<_, _≤_};
 ghost use lib.ListN.{length};
 ghost use Rattle.masks.specs.Views.{Meets};
 ghost use Rattle.bounds.specs.Singles.{oneOf, Place, Picked};
-ghost use Rattle.bounds.specs.Sound.{Keeps, Firing, Idle, Coherent, Levelled, LevelledAt, Ruled, intoOf, outOf, narrowOf, withSets};
+ghost use Rattle.bounds.specs.Sound.{Keeps, Firing, Idle, Coherent, Levelled, LevelledAt, Unlinked, Ruled, intoOf, outOf, narrowOf, withSets};
 use masks::Bounds;
 use masks::Masks;
+use masks::lines;
 use sets::Pair;
 
 // The words of a pair by number.
@@ -254,6 +255,26 @@ pub fn levels(ranks: &[u64], b: Bounds) -> Bounds
         a += 1;
     }
     o
+}
+
+// What lines that surely count lead to, from an exception that is surely taken, is not taken.
+pub fn unlinked(words: &[u64], n: usize, ranks: &[u64], b: Bounds) -> Bounds
+    requires { ⌜ (n * 8 ≤ length (now words)) × (length (now ranks) ≤ 64) ⌝ }
+    ensures { λ o. ⌜ Keeps (Unlinked (now (words .entry)) n (now (ranks .entry))) b o ⌝ }
+{
+    if !lines::lined(words, n) {
+        return b;
+    }
+    let m = lines::lines_in(words, n, b.hi, b.lo);
+    let taken = lines::reach(words, n, ranks, m, b.lo.taken);
+    out(
+        b,
+        Pair {
+            taken,
+            held: 0,
+            denied: 0,
+        },
+    )
 }
 
 // What no chain of rules can give from nothing within the bounds is out: the upper end shrinks to a closure.

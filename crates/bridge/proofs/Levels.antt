@@ -19,12 +19,17 @@ use Rattle.meaning.specs.Views.{Ranked}
 use Rattle.bridge.specs.Ranks.{Names, Named, RanksOf}
 use Rattle.bridge.proofs.Singles.{apart-of}
 
+-- A chain after a chain is a chain.
+pub joined : {ls : List (ℕ × ℕ)} {a b c : ℕ} → Outranks ls a b → Outranks ls b c → Outranks ls a c
+joined (step m) s = chain m s
+joined (chain m r) s = chain m (joined r s)
+
 -- Both ends of a chain name exceptions.
 module _ (b : Book) (n : Named b) where
   abbrev Each : ℕ → Type 0
   Each i = Names (length (b .exceptions)) i
 
-  line-named : {a c : ℕ} → Among (a, c) (b .preferences) → Each a × Each c
+  pub line-named : {a c : ℕ} → Among (a, c) (b .preferences) → Each a × Each c
   line-named {a} {c} m = every-at (λ (l : ℕ × ℕ). Each (l .0) × Each (l .1)) (a, c) (b .preferences) n m
 
   pub ends-named : {a c : ℕ} → Outranks (b .preferences) a c → Each a × Each c

@@ -4,6 +4,7 @@ pub mod Entries
 pub mod Reducts
 pub mod Rules
 pub mod Levels
+pub mod Lines
 pub mod Ranks
 pub mod Views
 pub mod Roots

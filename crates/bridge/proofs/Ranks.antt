@@ -9,10 +9,10 @@ use Rattle.logic.specs.Lists.{Among}
 use Rattle.sets.specs.Sets.{bitOf}
 use Rattle.meaning.specs.Preferences.{Outranks, step, chain}
 use Rattle.meaning.specs.Books.{Book}
-use Rattle.bridge.specs.Ranks.{Named, RanksOf, Stepped}
+use Rattle.bridge.specs.Ranks.{Named, LinesNamed, RanksOf, Stepped}
 use Rattle.bridge.proofs.Levels.{ends-named, placed}
 
-module _ (b : Book) (ranks : List ℕ) (m : ℕ) (n : Named b) (l : length ranks ≤ m) (s : Stepped b ranks m) where
+module _ (b : Book) (ranks : List ℕ) (m : ℕ) (n : Named b) (q : LinesNamed b) (l : length ranks ≤ m) (s : Stepped b ranks m) where
   reach : {x y : ℕ} → Outranks (b .preferences) x y → (a c : ℕ) → x ≡ suc a → y ≡ suc c → bitOf (getD ranks a 0) c ≡ 1
   reach (step w) a c e f =
       let i = ends-named b n (step w) .0 .most in let o = s .each in
@@ -26,4 +26,4 @@ module _ (b : Book) (ranks : List ℕ) (m : ℕ) (n : Named b) (l : length ranks
       s .steps a (z - 1) c h (omega arith) (s .lines a (z - 1) h w) (reach r (z - 1) c g f)
 
   pub ranks-stepped : RanksOf b ranks
-  ranks-stepped = record { each = s .each; named = n; outranked = λ a c h. (s .chains a c h, λ r. reach r a c refl refl) }
+  ranks-stepped = record { each = s .each; named = n; lines-named = q; outranked = λ a c h. (s .chains a c h, λ r. reach r a c refl refl) }

@@ -1,5 +1,5 @@
--- The preferences of accepted rows name exceptions of the book.
--- By induction on the P rows; the book has as many exceptions as its shape says.
+-- The preferences of accepted rows name exceptions of the book, and so do those under a condition.
+-- By induction on the P rows and on the Q rows; the book has as many exceptions as its shape says.
 use mathlib.Core.Path.{_≡_, refl}
 use mathlib.Core.Bool.{Bool, true, false}
 use mathlib.Core.List.{List}
@@ -13,12 +13,14 @@ use Rattle.logic.specs.Lists.{Every}
 use Rattle.logic.specs.Tests.{pick}
 use Rattle.book.specs.declared.Measure.the-variants.{Numbers}
 use Rattle.book.specs.declared.Shape.{Shape}
-use Rattle.book.specs.Kinds.{kinds, kind, plain, exception, preference, ruleNumbers, preferenceNumbers}
+use Rattle.book.specs.Limits as limit
+use Rattle.book.specs.Kinds.{kinds, kind, plain, exception, preference, conditional, ruleNumbers, preferenceNumbers, conditionalNumbers}
 use Rattle.book.specs.Counts.{countsOf, allCounts, countAt, sumTo, startOf, rowNumbers, measured}
-use Rattle.book.proofs.Counts.{sum-up}
-use Rattle.meaning.specs.Meant.{at, number, preferencesAt, bookOf}
+use Rattle.book.proofs.Counts.{exceptions-in, sum-up}
+use Rattle.meaning.specs.Preferences.{Conditional}
+use Rattle.meaning.specs.Meant.{at, number, preferencesAt, conditionAt, conditionalAt, bookOf}
 use Rattle.meaning.proofs.Meant.{exceptions-count}
-use Rattle.bridge.specs.Ranks.{Names, Named}
+use Rattle.bridge.specs.Ranks.{Names, Named, LinesNamed}
 use Rattle.bridge.specs.Rows.{startAt, ruleStart, ruleCount, RowsLawful}
 
 -- What holds of both numbers of each P row holds of both numbers of each preference.
@@ -33,13 +35,37 @@ every-preference P t k (suc m) f =
           (λ j l i h. let e : k + suc j * preferenceNumbers + i ≡ k + preferenceNumbers + j * preferenceNumbers + i = omega arith in rw e at (f (suc j) (omega arith) i h)),
     )
 
-pub rows-named : (s : Shape) (t : List ℤ) → RowsLawful s t → Named (bookOf s t)
-unfolding bookOf
-rows-named s t w =
-    every-preference (Names (length (bookOf s t .exceptions))) t (startOf s preference) (s .preferences)
-    (λ j l i h. let n = w .names j l i h in record { from-one = n .from-one; most = rw (exceptions-count s t) (n .most) })
+-- What holds of each Q row's line holds of each preference under a condition.
+every-line : (P : Conditional → Type 0) (t : List ℤ) (k m : ℕ) → ((j : ℕ) → j < m → P (conditionAt t (k + j * conditionalNumbers))) → Every P (conditionalAt t k m)
+unfolding conditionalAt
+every-line P t k zero f = tt
+every-line P t k (suc m) f = let a : k + 0 * conditionalNumbers ≡ k = omega arith in (
+  rw a at (f 0 (omega arith)),
+  every-line P t (k + conditionalNumbers) m
+      (λ j l. let e : k + suc j * conditionalNumbers ≡ k + conditionalNumbers + j * conditionalNumbers = omega arith in rw e at (f (suc j) (omega arith))),
+)
 
--- ---- where the rows of rules stand
+module _ (s : Shape) (t : List ℤ) (w : RowsLawful s t) where
+  -- The exceptions that the shape counts are those of the book.
+  in-book : (i : ℕ) → Names (s .exceptions) i → Names (length (bookOf s t .exceptions)) i
+  in-book i n = record { from-one = n .from-one; most = rw (exceptions-count s t) (n .most) }
+
+  pub rows-named : Named (bookOf s t)
+  unfolding bookOf
+  rows-named = every-preference (Names (length (bookOf s t .exceptions))) t (startOf s preference) (s .preferences) (λ j l i h. in-book _ (w .names j l i h))
+
+  pub lines-named : LinesNamed (bookOf s t)
+  unfolding bookOf conditionAt
+  lines-named =
+      every-line (λ (q : Conditional). Names (length (bookOf s t .exceptions)) (q .line .0) × Names (length (bookOf s t .exceptions)) (q .line .1)) t (startOf s conditional) (s .conditionals)
+      (λ j l. let k = startOf s conditional + j * conditionalNumbers in let a : k + 0 ≡ k = omega arith in
+      (in-book _ (rw a at (w .line-names j l 0 (omega arith))), in-book _ (w .line-names j l 1 (omega arith))))
+
+  -- They are no more than a book may have.
+  pub names-within : (i : ℕ) → Names (s .exceptions) i → Names limit.exceptions i
+  names-within i n = record { from-one = n .from-one; most = let m = n .most in let b = exceptions-in s (w .limits) in omega arith }
+
+-- ---- where the rows stand
 module _ (r a b k : ℕ) where
   pub start-plain : k < r → startAt r a b k ≡ a + k * ruleNumbers
   unfolding startAt pick
@@ -60,6 +86,10 @@ exception-end s = omega (arith, sum-up (measured Numbers) s (suc exception) (ome
 pub preference-end : (s : Shape) → startOf s preference + s .preferences * preferenceNumbers ≤ rowNumbers s
 unfolding sumTo countAt allCounts countsOf kind kinds
 preference-end s = omega (arith, sum-up (measured Numbers) s (suc preference) (omega arith))
+
+pub conditional-end : (s : Shape) → startOf s conditional + s .conditionals * conditionalNumbers ≤ rowNumbers s
+unfolding sumTo countAt allCounts countsOf kind kinds
+conditional-end s = omega (arith, sum-up (measured Numbers) s (suc conditional) (omega arith))
 
 -- The row of a rule lies among the numbers of the rows.
 pub rule-in : (s : Shape) (k : ℕ) → k < ruleCount s → ruleStart s k + ruleNumbers ≤ rowNumbers s

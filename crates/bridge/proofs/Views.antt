@@ -2,12 +2,13 @@
 -- Each part is one condition on every rule, on masks and on entries, carried from the words to the book's lists (Rules).
 use mathlib.Core.Path.{_≡_, refl}
 use mathlib.Core.List.{List, _++_}
-use mathlib.Core.Logic.{_↔_, Iff·trans, Iff·symm}
+use mathlib.Core.Logic.{_↔_, Iff·trans, Iff·symm, ⊎-elim}
 use Prim.Native.Nat.{ℕ, _-_, _<_}
 use native.Mathlib.Nat.{le-refl}
 use native.Mathlib.Omega.{arith}
 use lib.Pow.{pow-pos}
 use Rattle.logic.specs.Lists.{Every}
+use Rattle.logic.proofs.Members.{among-left}
 use Rattle.sets.specs.declared.Pair.{Pair}
 use Rattle.sets.specs.Sets.{bitOf, Within, Apart}
 use Rattle.sets.specs.Pairs.{Sub}
@@ -16,9 +17,11 @@ use Rattle.sets.proofs.Pairs.{sub-trans}
 use Rattle.meaning.specs.Literals.{pos, neg, Conclusions, isIn, _⊆_, Consistent}
 use Rattle.meaning.specs.Rules.{Head, none, gives, Body, Satisfied}
 use Rattle.meaning.specs.AnswerSets.{reduct, Closed, Breaks}
+use Rattle.meaning.specs.Preferences.{counting}
 use Rattle.meaning.specs.Books.{Book, Lawful, conclusions, applied}
-use Rattle.meaning.specs.Views.{Answers, RankedWithin, Bodies, View}
-use Rattle.masks.specs.Views.{masksAt, Fires, MaskClosed, Constraint, Taken, Level, MaskView}
+use Rattle.meaning.specs.Views.{Answers, ranking, RankedWithin, Bodies, View}
+use Rattle.meaning.proofs.Conditions.{ranked-more, within-plain}
+use Rattle.masks.specs.Views.{masksAt, Fires, MaskClosed, Constraint, Taken, Level, Lined, Uncrossed, MaskView}
 use Rattle.bridge.specs.Packed.{maskOf, maskHead, Tagged, masksOf, Packs}
 use Rattle.bridge.specs.Ranks.{RanksOf}
 use Rattle.bridge.specs.Answers.{MaskAnswers, MaskBodies}
@@ -26,20 +29,24 @@ use Rattle.bridge.proofs.Entries.{in-one, fires-are, head-is}
 use Rattle.bridge.proofs.Reducts.{Asks, closed-reduct}
 use Rattle.bridge.proofs.Rules.{IfUsed, IfTaken, rules-same, exceptions-same}
 use Rattle.bridge.proofs.Levels.{cleared-same}
+use Rattle.bridge.proofs.Lines.{lined-or-plain, uncrossed-same}
 
--- A view of the search is its three parts.
-pub view-parts : (ws : List ℕ) (n : ℕ) (ranks : List ℕ) (v : Pair) → MaskView ws n ranks v ↔ (MaskAnswers ws n v × Level ranks (v .taken) × MaskBodies ws n v)
+-- A view of the search is its four parts.
+pub view-parts : (ws : List ℕ) (n : ℕ) (ranks : List ℕ) (v : Pair)
+    → MaskView ws n ranks v ↔ (MaskAnswers ws n v × Level ranks (v .taken) × MaskBodies ws n v × (Lined ws n → Uncrossed ws n ranks v))
 view-parts ws n ranks v = (
   λ x. (
     record { coherent = x .coherent; rules = λ k h. record { closed = x .rules k h .closed; quiet = x .rules k h .quiet }; least = x .least },
     x .level,
     λ k h. record { met = x .rules k h .met },
+    x .lined,
   ),
   λ y. record {
     coherent = y .0 .coherent;
     rules = λ k h. record { closed = y .0 .rules k h .closed; quiet = y .0 .rules k h .quiet; met = y .2 k h .met };
     least = y .0 .least;
     level = y .1;
+    lined = y .3;
   },
 )
 
@@ -133,12 +140,18 @@ module _ (b : Book) (ws : List ℕ) (n : ℕ) (pk : Packs b ws n) (p : Pair) whe
 
   module _ (ranks : List ℕ) (o : RanksOf b ranks) (l : Lawful b p) where
     -- Verdict 2: no member of T outranks a member.
-    pub unranked-same : Level ranks (p .taken) ↔ (RankedWithin b p → ⊥)
-    unranked-same = cleared-same b ranks o (p .taken) (p .taken) (l .exceptions)
+    pub unranked-same : (Level ranks (p .taken) × (Lined ws n → Uncrossed ws n ranks p)) ↔ (RankedWithin b p → ⊥)
+    unranked-same = let q = cleared-same b ranks o (p .taken) (p .taken) (l .exceptions) in let u = uncrossed-same b ws n (pk .lines) ranks o p in (
+      λ x r. ⊎-elim (λ y. u .0 (x .1 y) r) (λ e. q .0 (x .0) (within-plain b e p .0 r)) (lined-or-plain b ws n (pk .lines)),
+      λ f. (
+        q .1 (λ r. f (ranked-more (b .preferences) (ranking b p) (λ k m. among-left k (b .preferences) (counting s (b .conditional)) m) (λ i m. m) r)),
+        λ y. u .1 f,
+      ),
+    )
 
     -- A lawful pair is a view of the search exactly where it is a view.
     pub view-same : MaskView ws n ranks p ↔ View b p
     view-same = let q = view-parts ws n ranks p in (
-      λ x. let y = q .0 x in record { lawful = l; answers = answers-same .0 (y .0); unranked = unranked-same .0 (y .1); bodies = bodies-same .0 (y .2) },
-      λ y. q .1 (answers-same .1 (y .answers), unranked-same .1 (y .unranked), bodies-same .1 (y .bodies)),
+      λ x. let y = q .0 x in record { lawful = l; answers = answers-same .0 (y .0); unranked = unranked-same .0 (y .1, y .3); bodies = bodies-same .0 (y .2) },
+      λ y. let u = unranked-same .1 (y .unranked) in q .1 (answers-same .1 (y .answers), u .0, bodies-same .1 (y .bodies), u .1),
     )

@@ -6,7 +6,7 @@ use mathlib.Core.Logic.{_↔_}
 use lib.ListN.{length, getD}
 use Rattle.logic.specs.Lists.{Every, Among}
 use Rattle.sets.specs.Sets.{bitOf}
-use Rattle.meaning.specs.Preferences.{Outranks}
+use Rattle.meaning.specs.Preferences.{Conditional, Outranks}
 use Rattle.meaning.specs.Books.{Book}
 
 -- Number i names one of x exceptions.
@@ -18,10 +18,16 @@ pub record Names (x i : ℕ) : Type 0 where
 abbrev pub Named : Book → Type 0
 Named b = Every (λ (l : ℕ × ℕ). Names (length (b .exceptions)) (l .0) × Names (length (b .exceptions)) (l .1)) (b .preferences)
 
--- Word a is the set of the exceptions that exception a + 1 outranks. Each exception has a word, and words past the exceptions are empty.
+-- The same of each preference under a condition.
+abbrev pub LinesNamed : Book → Type 0
+LinesNamed b = Every (λ (q : Conditional). Names (length (b .exceptions)) (q .line .0) × Names (length (b .exceptions)) (q .line .1)) (b .conditional)
+
+-- Word a is the set of the exceptions that exception a + 1 outranks by P lines alone. Each exception has a word, and words past the exceptions are
+-- empty.
 pub record RanksOf (b : Book) (ranks : List ℕ) : Type 0 where
   pub each : length (b .exceptions) ≤ length ranks
   pub named : Named b
+  pub lines-named : LinesNamed b
   pub outranked : (a c : ℕ) → a < length ranks → (bitOf (getD ranks a 0) c ≡ 1) ↔ Outranks (b .preferences) (suc a) (suc c)
 
 -- What a loop over words can promise: a member is reached by P lines, each P line gives a member, and the sets are closed under steps through

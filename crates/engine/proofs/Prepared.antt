@@ -32,7 +32,8 @@ use Rattle.bridge.specs.Roots.{rootOf}
 use Rattle.bridge.specs.Rows.{ruleCount}
 use Rattle.resolution.proofs.Resolutions.{rooted}
 use Rattle.judge.specs.Judged.{Judged}
-use Rattle.walk.specs.Walks.{Serves, beginning, Paged}
+use Rattle.sifting.specs.Sifted.{Serves}
+use Rattle.walk.specs.Walks.{beginning, Paged}
 use Rattle.engine.specs.Loaded.{Loaded, RootIs, VerdictIs, PageIs}
 
 -- The ranks of the book's own exceptions are ranks of the book, so what is answered by them is answered by all.
@@ -51,6 +52,7 @@ module _ (s : Shape) (ranks own : List ℕ) (e : own ≡ take (s .exceptions) ra
       ranked = record {
         each = rw (own-long, exceptions-count s rows) (le-refl (s .exceptions));
         named = l .ranked .named;
+        lines-named = l .ranked .lines-named;
         outranked = λ a c h. let k = rw own-long at h in rw (e, getD-take (s .exceptions) ranks a 0 k) (l .ranked .outranked a c (omega (arith, long, exceptions-in s limits)));
       };
       limits = l .limits;

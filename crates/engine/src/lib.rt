@@ -15,8 +15,9 @@ use queue::index::Index;
 use queue::waiting;
 use sets::Pair;
 
-// The words of a book's rules, and those of its ranks. Of the ranks the search is lent those of the book's own exceptions.
-pub type Words = [u64; Book::RULES * 8];
+// The words of a book's rules and after them of its Q lines, and those of its ranks. Of the ranks the search is lent those of the book's own
+// exceptions.
+pub type Words = [u64; (Book::RULES + Book::CONDITIONALS) * 8];
 
 pub type Ranks = [u64; Book::EXCEPTIONS];
 

@@ -8,6 +8,7 @@ ghost use Rattle.meaning.specs.Order.{start, at};
 ghost use Rattle.answers.specs.Ways.{linesOf, mostLines, closingLine, failed as failedOf};
 ghost use Rattle.line.specs.Parts.{lineBytes};
 ghost use Rattle.page.specs.Pages.{pairsIn};
+ghost use Rattle.prepare.specs.Packing.{Blank};
 ghost use Rattle.listing.specs.Parts.{partLines, closingBytes, partBytes, Prepared, Ready, Closes, Prints, Lists, Begins};
 use book::Book;
 use book::Shape;
@@ -152,8 +153,9 @@ pub struct Begun {
     pub shape: Shape,
 }
 
-// The first part for a text: all of it, or as much as a part has.
+// The first part for a text: all of it, or as much as a part has. The words are lent as zeros.
 pub fn begin(text: &[u8], words: &mut Words, ranks: &mut Ranks, out: &mut Text) -> Begun
+    requires { ⌜ Blank (now words) 0 ⌝ }
     ensures { λ r. ⌜ Begins (now (text .entry)) (now (words .exit)) (now (ranks .exit)) (now (out .exit)) r ⌝ }
 {
     let got = operations::load(text, words, ranks);
@@ -175,6 +177,7 @@ pub fn begin(text: &[u8], words: &mut Words, ranks: &mut Ranks, out: &mut Text) 
                     plain: 0,
                     exceptions: 0,
                     preferences: 0,
+                    conditionals: 0,
                 },
             }
         }

@@ -3,3 +3,4 @@ pub mod Sums
 pub mod Facts
 pub mod Closures
 pub mod Tests
+pub mod Steps

@@ -22,7 +22,7 @@ use Rattle.sets.proofs.Words.{decide, or-zero, off-is, and-none, none-and}
 use Rattle.sets.proofs.Pairs.{sub-refl, sub-trans, meet-l, sub-both}
 use Rattle.masks.specs.declared.Masks.{Masks}
 use Rattle.masks.specs.declared.Outcome.{Outcome}
-use Rattle.masks.specs.Views.{masksAt, Fires, Constraint, Meets, MeetsAll, Level, MaskView}
+use Rattle.masks.specs.Views.{masksAt, Fires, Constraint, Meets, MeetsAll, Level, Lined, Uncrossed, MaskView}
 use Rattle.masks.specs.Closures.{Passed, Closure, only, bare, Swept}
 use Rattle.masks.proofs.Booleans.{refused, granted, decides-true, decides-false}
 use Rattle.masks.proofs.Facts.{bounded}
@@ -103,11 +103,14 @@ module _ (ws : List ℕ) (n : ℕ) (ranks : List ℕ) (v : Pair) where
   pub view-level : (a : Bool) → Decides a (Level ranks (v .taken)) → not a ≡ true → Decides false (MaskView ws n ranks v)
   view-level a d e = decides-false (λ w. refused d e (w .level))
 
+  pub view-crossed : (a : Bool) → Decides a (Lined ws n → Uncrossed ws n ranks v) → not a ≡ true → Decides false (MaskView ws n ranks v)
+  view-crossed a d e = decides-false (λ w. refused d e (w .lined))
+
   module _ (s : Outcome) (p : Swept ws n v s) where
     pub view-rules : not (s .ok) ≡ true → Decides false (MaskView ws n ranks v)
     view-rules e = decides-false (λ w. refused (p .exact) e (w .rules))
 
-    module _ (a : Bool) (e0 : bitAnd (v .held) (v .denied) ≡ 0) (da : Decides a (Level ranks (v .taken))) (ea : not a ≡ false) (es : not (s .ok) ≡ false) where
+    module _ (a : Bool) (e0 : bitAnd (v .held) (v .denied) ≡ 0) (da : Decides a (Level ranks (v .taken))) (ea : not a ≡ false) (l : Lined ws n → Uncrossed ws n ranks v) (es : not (s .ok) ≡ false) where
       -- The closure within the bounds [v, v] is v exactly where v is least.
       pub view-least : (o : Bool) (c : Pair) → Closure ws n (only v) c → Decides o (c ≡ v) → Decides o (MaskView ws n ranks v)
       view-least o c cl dc =
@@ -117,6 +120,7 @@ module _ (ws : List ℕ) (n : ℕ) (ranks : List ℕ) (v : Pair) where
             rules = granted (p .exact) es;
             least = λ t ht f. rw (← q) (cl .least t (λ i. let z = ap (λ (x : ℕ). bitOf x i) ht in omega arith) (λ k h x. sub-trans (meet-l _ _) (f k h x)));
             level = granted da ea;
+            lined = l;
           })
           (λ w. sub-both (cl .least v (λ i. le-refl _) (λ k h x. sub-trans (meet-l _ _) (w .rules k h .closed x)))
           (bounded w v v c (sub-refl v) (sub-refl v) (cl .start) (cl .stable)))

@@ -9,6 +9,8 @@ ghost use Rattle.masks.specs.Views.{masksAt, Fires, Constraint, Meets, L
 ghost use Rattle.masks.specs.Closures.{only, Fired, Passed, Closure, Swept};
 use sets::Pair;
 
+pub mod lines;
+
 // A rule: its head, its needed entries (the rule's own exception among them), its barred entries.
 pub struct Masks {
     pub head: Pair,
@@ -209,6 +211,9 @@ pub fn is_view(words: &[u64], n: usize, ranks: &[u64], v: Pair) -> bool
     }
     let taken = v.taken;
     if !level(ranks, taken) {
+        return false;
+    }
+    if !lines::uncrossed(words, n, ranks, v) {
         return false;
     }
     let s = sweep(words, n, v);

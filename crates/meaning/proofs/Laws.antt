@@ -29,7 +29,7 @@ choose a r s d x =
     elim a [ false ↦ 1 | true ↦ elim r [ true ↦ 2 | false ↦ elim s [ false ↦ 3 | true ↦ elim d [ true ↦ 4 | false ↦ elim x [ true ↦ 5 | false ↦ 0 ] ] ] ] ]
 
 chosen : (b : Book) (p : Pair)
-    → verdict b p ≡ choose (answers b p) (rankedWithin b p) (bodies b p) (dominatedBy b (views b) p) (exceededBy (views b) p)
+    → verdict b p ≡ choose (answers b p) (rankedWithin b p) (bodies b p) (dominatedBy b (views b) p) (exceededBy b (views b) p)
 unfolding verdict choose
 chosen b p = refl
 
@@ -55,22 +55,16 @@ verdict-zero b p l = (λ e. only (rw e at (verdict-is b p l)), λ r. verdict-onl
     only (resolution r) = r
 
 -- ---- the published form
--- A view within an undominated view is undominated.
-pub smaller-undominated : (b : Book) (p q : Pair) → ProperSubset (q .taken) (p .taken) → Dominated b q → Dominated b p
-smaller-undominated b p q s d =
-    let r = d .dominates in
-    record { other = d .other; view = d .view; dominates = record { upper = r .upper; lower = r .lower; upper-in = r .upper-in; lower-in = s .contained (r .lower) (r .lower-in); outranks = r .outranks } }
-
 pub as-published : (b : Book) (p : Pair) → Resolution b p ↔ Chosen b p
 as-published b p = (
   λ r. record {
     candidate = record { view = r .view; undominated = λ q v d. r .undominated (record { other = q; view = v; dominates = d }) };
-    minimal = λ q c s. r .minimal (record { other = q; view = c .view; smaller = s });
+    minimal = λ q c s. r .minimal (record { other = q; view = c .view; undominated = λ d. c .undominated (d .other) (d .view) (d .dominates); smaller = s });
   },
   λ c. record {
     view = c .candidate .view;
     undominated = λ d. c .candidate .undominated (d .other) (d .view) (d .dominates);
-    minimal = λ x. c .minimal (x .other) (record { view = x .view; undominated = λ q v d. let e = smaller-undominated b p (x .other) (x .smaller) (record { other = q; view = v; dominates = d }) in c .candidate .undominated (e .other) (e .view) (e .dominates) }) (x .smaller);
+    minimal = λ x. c .minimal (x .other) (record { view = x .view; undominated = λ q v d. x .undominated (record { other = q; view = v; dominates = d }) }) (x .smaller);
   },
 )
 
@@ -109,7 +103,7 @@ pub no-exception-without-need : (b : Book) (s : Pair) → Lawful b s → s .take
 no-exception-without-need b s ls es a p = (go, back)
   where
     none-there : Resolution b p → p .taken ≡ 0
-    none-there r = ⊎-elim (λ e. e) (λ n. absurd (r .minimal (record { other = s; view = plain-view b s es ls .0 a; smaller = rw es (none-smaller (p .taken) n) }))) (holds-or-not (decides-eq (p .taken) 0))
+    none-there r = ⊎-elim (λ e. e) (λ n. absurd (r .minimal (record { other = s; view = plain-view b s es ls .0 a; undominated = none-taken-undominated b s es; smaller = rw es (none-smaller (p .taken) n) }))) (holds-or-not (decides-eq (p .taken) 0))
 
     go : Resolution b p → (p .taken ≡ 0) × Lawful b p × AnswerSet (b .plain) (conclusions p)
     go r = let e = none-there r in (e, r .view .lawful, plain-view b p e (r .view .lawful) .1 (r .view))

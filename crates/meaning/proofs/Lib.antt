@@ -14,3 +14,5 @@ pub mod Next
 pub mod Ranges
 pub mod Parts
 pub mod Pages
+pub mod Conditions
+pub mod Constraints

@@ -15,9 +15,9 @@ use Rattle.sets.specs.Sets.{member}
 use Rattle.sets.specs.declared.Pair.{Pair}
 use Rattle.meaning.specs.Literals.{Literal, pos, Conclusions, _∈_}
 use Rattle.meaning.specs.AnswerSets.{Closed}
-use Rattle.meaning.specs.Preferences.{Outranks, step, chain}
+use Rattle.meaning.specs.Preferences.{inBoth, Outranks, step, chain}
 use Rattle.meaning.specs.Books.{Book}
-use Rattle.meaning.specs.Views.{Ranked, RankedWithin, Dominates}
+use Rattle.meaning.specs.Views.{ranking, Ranked, RankedWithin, Dominates}
 use Rattle.meaning.specs.Twins.Closure.{closure}
 use Rattle.meaning.specs.Twins.Verdicts.{rankRule, rankRules, outranks, rankedIn, rankedWithin, dominates}
 use Rattle.meaning.proofs.Members.{At}
@@ -101,8 +101,8 @@ decides-ranked ls t u =
 
 pub decides-within : (b : Book) (p : Pair) → Decides (rankedWithin b p) (RankedWithin b p)
 unfolding rankedWithin
-decides-within b p = decides-ranked (b .preferences) (p .taken) (p .taken)
+decides-within b p = decides-ranked (ranking b p) (p .taken) (p .taken)
 
 pub decides-dominates : (b : Book) (p q : Pair) → Decides (dominates b p q) (Dominates b p q)
 unfolding dominates
-decides-dominates b p q = decides-ranked (b .preferences) (p .taken) (q .taken)
+decides-dominates b p q = decides-ranked (inBoth (ranking b p) (ranking b q)) (p .taken) (q .taken)

@@ -12,13 +12,14 @@ use Rattle.sets.specs.declared.Pair.{Pair}
 use Rattle.book.specs.Kinds.{kinds, kind}
 use Rattle.book.specs.Counts.{countsOf, allCounts, countAt, sumTo}
 use Rattle.meaning.specs.Literals.{Literal, pos, neg, isIn}
-use Rattle.meaning.specs.Rules.{Head, none, gives, Rule}
+use Rattle.meaning.specs.Rules.{Head, none, gives, Rule, satisfied}
+use Rattle.meaning.specs.Preferences.{counting, sameStep, inBoth}
 use Rattle.meaning.specs.AnswerSets.{someIn, struck, reduct}
 use Rattle.meaning.specs.Books.{takenFrom}
-use Rattle.meaning.specs.Meant.{entry, headOf, number, entriesAt, ruleAt, rulesAt, preferencesAt, bookOf}
+use Rattle.meaning.specs.Meant.{entry, headOf, number, entriesAt, ruleAt, rulesAt, preferencesAt, conditionAt, conditionalAt, bookOf}
 use Rattle.meaning.specs.Order.{valueOf, value}
 use Rattle.meaning.specs.Twins.Closure.{addTo, add, addHead, keepBack, takeOut, closeBy, empty, closure}
-use Rattle.meaning.specs.Twins.Verdicts.{satisfied, breaks, apart, same, answerSet, rankRule, rankRules, outranks, rankedIn, rankedWithin, dominates, lawful, answers, bodies, view, below, pairs, views, containedTo, properSubset, dominatedBy, exceededBy, verdict, unbeaten, resolutionsAmong, resolutions}
+use Rattle.meaning.specs.Twins.Verdicts.{breaks, apart, same, answerSet, rankRule, rankRules, outranks, rankedIn, rankedWithin, dominates, lawful, answers, bodies, view, below, pairs, views, containedTo, properSubset, dominatedBy, exceededBy, verdict, unbeaten, resolutionsAmong, resolutions}
 use Rattle.meaning.specs.Twins.Tables.{differsFrom, before, ascending, samePair, Example, sameMembers, right}
 
 -- A rule; a rule with an empty body; a constraint.
@@ -41,7 +42,7 @@ pair t h d = record { taken = t; held = h; denied = d }
 
 -- A book of n statements, all its resolutions in order, and the verdicts on some pairs.
 abbrev example : ℕ → List Rule → List Rule → List (ℕ × ℕ) → List Pair → List (Pair × ℕ) → Example
-example n rs xs ps found judged = record { book = record { statements = n; plain = rs; exceptions = xs; preferences = ps }; found = found; judged = judged }
+example n rs xs ps found judged = record { book = record { statements = n; plain = rs; exceptions = xs; preferences = ps; conditional = [] }; found = found; judged = judged }
 
 -- K1: no rules.
 abbrev k1 : Example
@@ -111,12 +112,20 @@ held-first = example 1 (rule (gives (pos 1)) [] (neg 1 ∷ []) ∷ rule (gives (
 abbrev fewer-first : Example
 fewer-first = example 3 (never [] (pos 1 ∷ pos 3 ∷ []) ∷ never [] (pos 2 ∷ pos 3 ∷ []) ∷ []) (facts (1 ∷ 2 ∷ 3 ∷ [])) [] (pair 4 4 0 ∷ pair 3 3 0 ∷ []) []
 
+-- Document 02, (e): Xi gives +i, i=1 to 3; constraint not +1, not +3; Q 3 1 barred +2.
+abbrev e1 : Example
+e1 = record {
+  book = record { statements = 3; plain = never [] (pos 1 ∷ pos 3 ∷ []) ∷ []; exceptions = facts (1 ∷ 2 ∷ 3 ∷ []); preferences = []; conditional = record { line = (3, 1); body = record { needed = []; barred = pos 2 ∷ [] } } ∷ [] };
+  found = pair 4 4 0 ∷ pair 3 3 0 ∷ [];
+  judged = (pair 1 1 0, 4) ∷ (pair 5 5 0, 2) ∷ (pair 6 6 0, 5) ∷ (pair 7 7 0, 5) ∷ [];
+}
+
 unfoldable pub table : List Example
-table = k1 ∷ k2 ∷ k3 ∷ k4 ∷ k5 ∷ k6 ∷ k7 ∷ k8 ∷ k9 ∷ k10 ∷ k11 ∷ k12 ∷ k13 ∷ k14 ∷ held-first ∷ fewer-first ∷ []
+table = k1 ∷ k2 ∷ k3 ∷ k4 ∷ k5 ∷ k6 ∷ k7 ∷ k8 ∷ k9 ∷ k10 ∷ k11 ∷ k12 ∷ k13 ∷ k14 ∷ held-first ∷ fewer-first ∷ e1 ∷ []
 
 -- Every example of the table is right, computed.
 pub all-right : every right table ≡ true
-unfolding table size sizeTo valueOf consIf every right member isIn someIn struck reduct takenFrom value some keep concatMap addTo add addHead keepBack takeOut closeBy empty closure satisfied breaks apart same answerSet rankRule rankRules outranks rankedIn rankedWithin dominates lawful answers bodies view below pairs views containedTo properSubset dominatedBy exceededBy verdict unbeaten resolutionsAmong resolutions differsFrom before ascending samePair sameMembers
+unfolding table counting sameStep inBoth size sizeTo valueOf consIf every right member isIn someIn struck reduct takenFrom value some keep concatMap addTo add addHead keepBack takeOut closeBy empty closure satisfied breaks apart same answerSet rankRule rankRules outranks rankedIn rankedWithin dominates lawful answers bodies view below pairs views containedTo properSubset dominatedBy exceededBy verdict unbeaten resolutionsAmong resolutions differsFrom before ascending samePair sameMembers
 all-right = refl
 
 -- ---- a number table
@@ -130,6 +139,19 @@ k8-rows =
     ∷ Z.pos 1 ∷ Z.pos 2 ∷ []
 
 -- Its rows stand for the book K8.
-pub k8-meant : bookOf (record { statements = 3; plain = 2; exceptions = 2; preferences = 1 }) k8-rows ≡ k8 .book
-unfolding bookOf preferencesAt number rulesAt ruleAt entriesAt headOf entry sumTo countAt allCounts countsOf kind kinds
+pub k8-meant : bookOf (record { statements = 3; plain = 2; exceptions = 2; preferences = 1; conditionals = 0 }) k8-rows ≡ k8 .book
+unfolding bookOf preferencesAt conditionalAt number rulesAt ruleAt entriesAt headOf entry sumTo countAt allCounts countsOf kind kinds
 k8-meant = refl
+
+-- The case of document 02, (e), in the same way: its last row is that of a Q line.
+abbrev e1-rows : List ℤ
+e1-rows =
+    Z.pos 0 ∷ Z.pos 0 ∷ Z.pos 0 ∷ Z.pos 0 ∷ Z.pos 0 ∷ Z.pos 1 ∷ Z.pos 3 ∷ Z.pos 0 ∷ Z.pos 0
+    ∷ Z.pos 1 ∷ Z.pos 0 ∷ Z.pos 0 ∷ Z.pos 0 ∷ Z.pos 0 ∷ Z.pos 0 ∷ Z.pos 0 ∷ Z.pos 0 ∷ Z.pos 0
+    ∷ Z.pos 2 ∷ Z.pos 0 ∷ Z.pos 0 ∷ Z.pos 0 ∷ Z.pos 0 ∷ Z.pos 0 ∷ Z.pos 0 ∷ Z.pos 0 ∷ Z.pos 0
+    ∷ Z.pos 3 ∷ Z.pos 0 ∷ Z.pos 0 ∷ Z.pos 0 ∷ Z.pos 0 ∷ Z.pos 0 ∷ Z.pos 0 ∷ Z.pos 0 ∷ Z.pos 0
+    ∷ Z.pos 3 ∷ Z.pos 1 ∷ Z.pos 0 ∷ Z.pos 0 ∷ Z.pos 0 ∷ Z.pos 0 ∷ Z.pos 2 ∷ Z.pos 0 ∷ Z.pos 0 ∷ Z.pos 0 ∷ []
+
+pub e1-meant : bookOf (record { statements = 3; plain = 1; exceptions = 3; preferences = 0; conditionals = 1 }) e1-rows ≡ e1 .book
+unfolding bookOf preferencesAt conditionAt conditionalAt number rulesAt ruleAt entriesAt headOf entry sumTo countAt allCounts countsOf kind kinds
+e1-meant = refl

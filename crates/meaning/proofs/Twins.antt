@@ -17,13 +17,13 @@ use Rattle.sets.specs.declared.Pair.{Pair}
 use Rattle.sets.proofs.Digits.{lt-or-le, lt-pow}
 use Rattle.sets.proofs.Words.{member-past}
 use Rattle.meaning.specs.Literals.{pos, neg, Conclusions, isIn, _∈_, Consistent}
-use Rattle.meaning.specs.Rules.{Head, none, gives, Body, Rule, Satisfied}
+use Rattle.meaning.specs.Rules.{Head, none, gives, Body, Rule, Satisfied, satisfied}
 use Rattle.meaning.specs.AnswerSets.{reduct, Breaks, AnswerSet}
 use Rattle.meaning.specs.Books.{Book, Lawful, conclusions, applied}
 use Rattle.meaning.specs.Views.{Answers, RankedWithin, Bodies, View, Dominates}
 use Rattle.meaning.specs.Resolutions.{Dominated, Exceeded, Resolution, Verdict, no-answer-set, ranked-within, body-unsatisfied, dominated, not-minimal, resolution}
 use Rattle.meaning.specs.Twins.Closure.{closure}
-use Rattle.meaning.specs.Twins.Verdicts.{satisfied, breaks, apart, same, answerSet, rankedWithin, dominates, lawful, answers, bodies, view, below, pairs, views, containedTo, properSubset, dominatedBy, exceededBy, verdict, unbeaten, resolutionsAmong, resolutions}
+use Rattle.meaning.specs.Twins.Verdicts.{breaks, apart, same, answerSet, rankedWithin, dominates, lawful, answers, bodies, view, below, pairs, views, containedTo, properSubset, dominatedBy, exceededBy, verdict, unbeaten, resolutionsAmong, resolutions}
 use Rattle.meaning.proofs.Closed.{least-only, closure-only}
 use Rattle.meaning.proofs.Ranks.{decides-within, decides-dominates}
 
@@ -190,12 +190,15 @@ decides-dominated b p =
     (λ s. let q = some-at (λ q. Dominates b q p) (views b) s in record { other = q .0; view = views-only b (q .0) (q .1); dominates = q .2 })
     (λ d. some-of (λ q. Dominates b q p) (d .other) (views b) (d .dominates) (views-all b (d .other) (d .view)))
 
-pub decides-exceeded : (b : Book) (p : Pair) → Decides (exceededBy (views b) p) (Exceeded b p)
+pub decides-exceeded : (b : Book) (p : Pair) → Decides (exceededBy b (views b) p) (Exceeded b p)
 unfolding exceededBy
 decides-exceeded b p =
-    reworded (decides-some (λ q. properSubset (q .taken) (p .taken)) (λ (q : Pair). ProperSubset (q .taken) (p .taken)) (λ q. decides-proper (q .taken) (p .taken)) (views b))
-    (λ s. let q = some-at (λ (q : Pair). ProperSubset (q .taken) (p .taken)) (views b) s in record { other = q .0; view = views-only b (q .0) (q .1); smaller = q .2 })
-    (λ d. some-of (λ (q : Pair). ProperSubset (q .taken) (p .taken)) (d .other) (views b) (d .smaller) (views-all b (d .other) (d .view)))
+    reworded (decides-some _ Smaller (λ q. decides-both (properSubset (q .taken) (p .taken)) _ (decides-proper (q .taken) (p .taken)) (decides-not (decides-dominated b q))) (views b))
+    (λ s. let q = some-at Smaller (views b) s in record { other = q .0; view = views-only b (q .0) (q .1); undominated = q .2 .1; smaller = q .2 .0 })
+    (λ d. some-of Smaller (d .other) (views b) (d .smaller, d .undominated) (views-all b (d .other) (d .view)))
+  where
+    Smaller : Pair → Type 0
+    Smaller q = ProperSubset (q .taken) (p .taken) × (Dominated b q → ⊥)
 
 -- A view is a resolution if it is unbeaten.
 pub decides-unbeaten : (b : Book) (p : Pair) → View b p → Decides (unbeaten b (views b) p) (Resolution b p)
@@ -217,13 +220,13 @@ resolutions-only b p m =
 -- ---- the verdict
 pub verdict-is : (b : Book) (p : Pair) → Lawful b p → Verdict b p (verdict b p)
 unfolding verdict
-verdict-is b p l = go (answers b p) refl (rankedWithin b p) refl (bodies b p) refl (dominatedBy b (views b) p) refl (exceededBy (views b) p) refl
+verdict-is b p l = go (answers b p) refl (rankedWithin b p) refl (bodies b p) refl (dominatedBy b (views b) p) refl (exceededBy b (views b) p) refl
   where
     v : answers b p ≡ true → rankedWithin b p ≡ false → bodies b p ≡ true → View b p
     v a r s = record { lawful = l; answers = decides-answers b p l .yes a; unranked = decides-within b p .no r; bodies = decides-bodies b p .yes s }
 
     go : (a : Bool) → answers b p ≡ a → (r : Bool) → rankedWithin b p ≡ r → (s : Bool) → bodies b p ≡ s
-        → (d : Bool) → dominatedBy b (views b) p ≡ d → (x : Bool) → exceededBy (views b) p ≡ x
+        → (d : Bool) → dominatedBy b (views b) p ≡ d → (x : Bool) → exceededBy b (views b) p ≡ x
         → Verdict b p (elim a as (λ _. ℕ) [ false ↦ 1 | true ↦ elim r [ true ↦ 2 | false ↦ elim s [ false ↦ 3 | true ↦ elim d [ true ↦ 4 | false ↦ elim x [ true ↦ 5 | false ↦ 0 ] ] ] ] ])
     go false ea r er s es d ed x ex = no-answer-set (decides-answers b p l .no ea)
     go true ea true er s es d ed x ex = ranked-within (decides-answers b p l .yes ea) (decides-within b p .yes er)

@@ -7,13 +7,16 @@ use Rattle.sets.specs.Sets.{member}
 use Rattle.sets.specs.declared.Pair.{Pair}
 use Rattle.meaning.specs.Literals.{Conclusions, Consistent}
 use Rattle.meaning.specs.Rules.{Rule}
+use Rattle.meaning.specs.Preferences.{Conditional}
 
--- A book: the number n of statements, the plain rules (R lines), the exceptions (X lines), the preferences (P lines: a before b).
+-- A book: the number n of statements, the plain rules (R lines), the exceptions (X lines), the preferences (P lines: a before b),
+-- and those under a condition (Q lines).
 pub record Book : Type 0 where
   pub statements : ℕ
   pub plain : List Rule
   pub exceptions : List Rule
   pub preferences : List (ℕ × ℕ)
+  pub conditional : List Conditional
 
 -- The S of a pair (S, T); its T is the set `taken`.
 abbrev pub conclusions : Pair → Conclusions

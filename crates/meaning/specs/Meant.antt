@@ -1,4 +1,5 @@
--- The book that the rows of a number table stand for (document 01, 'A book and its lines'): R rows, then X rows, then P rows.
+-- The book that the rows of a number table stand for (document 01, 'A book and its lines'; document 02, (e)): R rows, then X rows, then P rows,
+-- then Q rows.
 use Prim.Native.Nat.{ℕ, zero, suc, _+_}
 use mathlib.Core.List.{List, [], _∷_, _++_}
 use lib.IntN.{ℤ, negsuc}
@@ -6,10 +7,11 @@ use lib.IntN as Z
 use lib.ListN.{getD}
 use Rattle.book.specs.declared.Shape.{Shape}
 use Rattle.book.specs.Kinds as kind
-use Rattle.book.specs.Kinds.{entriesEach, ruleNumbers, preferenceNumbers}
+use Rattle.book.specs.Kinds.{entriesEach, ruleNumbers, preferenceNumbers, conditionalNumbers}
 use Rattle.book.specs.Counts.{startOf}
 use Rattle.meaning.specs.Literals.{Literal, pos, neg}
 use Rattle.meaning.specs.Rules.{Head, none, gives, Rule}
+use Rattle.meaning.specs.Preferences.{Conditional}
 use Rattle.meaning.specs.Books.{Book}
 
 -- The conclusion that an entry names; entry 0 is unused.
@@ -52,6 +54,15 @@ unfoldable pub preferencesAt : List ℤ → ℕ → ℕ → List (ℕ × ℕ)
 preferencesAt t k zero = []
 preferencesAt t k (suc m) = (number (at t k), number (at t (k + 1))) ∷ preferencesAt t (k + preferenceNumbers) m
 
+-- The preference under a condition whose row begins at k: exception a before b, needed entries, barred entries.
+unfoldable pub conditionAt : List ℤ → ℕ → Conditional
+conditionAt t k = record { line = (number (at t k), number (at t (k + 1))); body = record { needed = entriesAt t (k + 2) entriesEach; barred = entriesAt t (k + (2 + entriesEach)) entriesEach } }
+
+-- Those of m rows from k on.
+unfoldable pub conditionalAt : List ℤ → ℕ → ℕ → List Conditional
+conditionalAt t k zero = []
+conditionalAt t k (suc m) = conditionAt t k ∷ conditionalAt t (k + conditionalNumbers) m
+
 -- The book of this shape with these rows.
 unfoldable pub bookOf : Shape → List ℤ → Book
 bookOf s t = record {
@@ -59,4 +70,5 @@ bookOf s t = record {
   plain = rulesAt t (startOf s kind.plain) (s .plain);
   exceptions = rulesAt t (startOf s kind.exception) (s .exceptions);
   preferences = preferencesAt t (startOf s kind.preference) (s .preferences);
+  conditional = conditionalAt t (startOf s kind.conditional) (s .conditionals);
 }

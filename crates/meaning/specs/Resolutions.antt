@@ -11,13 +11,14 @@ pub record Dominated (b : Book) (p : Pair) : Type 0 where
   pub view : View b other
   pub dominates : Dominates b other p
 
--- Some view's T is a proper subset of the pair's T.
+-- Some undominated view's T is a proper subset of the pair's T.
 pub record Exceeded (b : Book) (p : Pair) : Type 0 where
   pub other : Pair
   pub view : View b other
+  pub undominated : Dominated b other → ⊥
   pub smaller : ProperSubset (other .taken) (p .taken)
 
--- The pair is a resolution: a view that no view dominates and such that no view's T is a proper subset of its T.
+-- The pair is a resolution: a view that no view dominates and such that no undominated view's T is a proper subset of its T.
 pub record Resolution (b : Book) (p : Pair) : Type 0 where
   pub view : View b p
   pub undominated : Dominated b p → ⊥

@@ -1,7 +1,9 @@
 -- Rules and their bodies.
+use mathlib.Core.Bool.{Bool, true, false, not}
 use mathlib.Core.List.{List}
 use Rattle.logic.specs.Lists.{Every}
-use Rattle.meaning.specs.Literals.{Literal, Conclusions, _∈_}
+use Rattle.logic.specs.Tests.{every}
+use Rattle.meaning.specs.Literals.{Literal, Conclusions, isIn, _∈_}
 
 -- A head is a conclusion; a constraint has none.
 pub data Head : Type 0 where
@@ -22,3 +24,7 @@ pub record Rule : Type 0 where
 pub record Satisfied (s : Conclusions) (b : Body) : Type 0 where
   pub needs : Every (λ l. l ∈ s) (b .needed)
   pub bars : Every (λ l. l ∈ s → ⊥) (b .barred)
+
+-- The test of it.
+unfoldable pub satisfied : Conclusions → Body → Bool
+satisfied s b = elim (every (λ l. isIn l s) (b .needed)) [ true ↦ every (λ l. not (isIn l s)) (b .barred) | false ↦ false ]

@@ -1,4 +1,4 @@
--- A parsed text is loaded: an accepted book's facts are what packing its rules and its preferences ask of its rows.
+-- A parsed text is loaded: an accepted book's facts are what packing its rules, its Q lines and its preferences ask of its rows.
 use mathlib.Core.Path.{_≡_, refl, sym}
 use mathlib.Core.Bool.{Bool, true, false}
 use mathlib.Core.List.{List}
@@ -10,7 +10,7 @@ use lib.ListN.{length, take, length-take}
 use lib.Seq.{length-take-le}
 use borrow.Author.Tests.{ltb-true, ltb-false}
 use Rattle.book.specs.declared.Shape.{Shape}
-use Rattle.book.specs.Kinds.{plain, exception, preference, ruleNumbers, preferenceNumbers}
+use Rattle.book.specs.Kinds.{plain, exception, preference, conditional, ruleNumbers, preferenceNumbers, conditionalNumbers}
 use Rattle.book.specs.Counts.{countsOf, allCounts, countAt, startOf, rowNumbers, InLimits}
 use Rattle.text.specs.declared.Refusal.{Refusal}
 use Rattle.text.specs.declared.Reading.{Reading}
@@ -18,7 +18,7 @@ use Rattle.text.specs.declared.Reading.the-variants.{Accepted, Refused}
 use Rattle.text.specs.Reading.{readText}
 use Rattle.text.specs.Reading.Outcome.{accepted, refused}
 use Rattle.text.specs.Accepted.{Accepted as Facts}
-use Rattle.text.proofs.Facts.{plain-rules, exception-rules, entry-small, preference-named}
+use Rattle.text.proofs.Facts.{plain-rules, exception-rules, entry-small, Named, preference-named, conditional-named, conditional-small}
 use Rattle.read.specs.Storing.{outcomeOf}
 use Rattle.read.specs.Parsing.{Parsing}
 use Rattle.meaning.specs.Meant.{at, number, bookOf}
@@ -40,12 +40,32 @@ entries-lawful s ws f k h i l = go (ltb k (s .plain)) refl
         let z = ltb-false k (s .plain) p in
         rw (start-late (s .plain) (startOf s plain) (startOf s exception) k z) (entry-small s ws f exception exception-rules (k - s .plain) i (omega arith) l)
 
-names-lawful : (s : Shape) (ws : List ℤ) → Facts s ws → (k : ℕ) → k < s .preferences → (i : ℕ) → i < preferenceNumbers → Names (s .exceptions) (number (at ws (startOf s preference + k * preferenceNumbers + i)))
-unfolding number countAt allCounts countsOf
-names-lawful s ws f k h i l = let n = preference-named s ws f k i h l in rw (n .is) (record { from-one = n .low; most = n .high })
+names-own : (m : ℕ) (v : ℤ) → Named m v → Names m (number v)
+unfolding number
+names-own m v n = rw (n .is) (record { from-one = n .low; most = n .high })
 
-pub lawful-rows : (s : Shape) (ws : List ℤ) → Facts s ws → RowsLawful s ws
-lawful-rows s ws f = record { limits = f .limits; room = rw (f .size) (omega arith); entries = entries-lawful s ws f; names = names-lawful s ws f }
+module _ (s : Shape) (ws : List ℤ) (f : Facts s ws) where
+  names-lawful : (k : ℕ) → k < s .preferences → (i : ℕ) → i < preferenceNumbers → Names (s .exceptions) (number (at ws (startOf s preference + k * preferenceNumbers + i)))
+  unfolding countAt allCounts countsOf
+  names-lawful k h i l = names-own _ _ (preference-named s ws f k i h l)
+
+  line-names-lawful : (k : ℕ) → k < s .conditionals → (i : ℕ) → i < preferenceNumbers → Names (s .exceptions) (number (at ws (startOf s conditional + k * conditionalNumbers + i)))
+  unfolding countAt allCounts countsOf
+  line-names-lawful k h i l = names-own _ _ (conditional-named s ws f k i h l)
+
+  conditions-lawful : (k : ℕ) → k < s .conditionals → (i : ℕ) → preferenceNumbers ≤ i → i < conditionalNumbers → natAbs (at ws (startOf s conditional + k * conditionalNumbers + i)) ≤ s .statements
+  unfolding countAt allCounts countsOf
+  conditions-lawful k h i b l = conditional-small s ws f k i h b l
+
+  pub lawful-rows : RowsLawful s ws
+  lawful-rows = record {
+    limits = f .limits;
+    room = rw (f .size) (omega arith);
+    entries = entries-lawful s ws f;
+    names = names-lawful;
+    conditions = conditions-lawful;
+    line-names = line-names-lawful;
+  }
 
 -- The same of the front of a slice that has them.
 module _ (s : Shape) (rows : List ℤ) (m : ℕ) (e : m ≡ rowNumbers s) (f : Facts s (take (rowNumbers s) rows)) where

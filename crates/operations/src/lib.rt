@@ -1,5 +1,6 @@
 // The operations on texts: Judge, First, After and pages. Each reads the text once and prepares its book.
 ghost use mathlib.Core.Path.{_≡_};
+ghost use Prim.Native.Nat.{_*_};
 ghost use lib.ListN.{length, take};
 ghost use Rattle.book.specs.Counts.{rowNumbers};
 ghost use Rattle.text.specs.Accepted.{Accepted as Facts};
@@ -7,6 +8,8 @@ ghost use Rattle.meaning.specs.Order.{start, at};
 ghost use Rattle.meaning.specs.Listings.{refused, FirstLater};
 ghost use Rattle.answers.specs.Operations.{turned, answerOf, verdictOf, firstAnswer, afterAnswer, judgeAnswer, firstPage, pageAfter, PageMet};
 ghost use Rattle.answers.specs.Means.{Means, Judges};
+ghost use Rattle.bridge.specs.Rows.{ruleCount};
+ghost use Rattle.prepare.specs.Packing.{Blank};
 ghost use Rattle.operations.specs.Loads.{Loads, Filled, foundIn};
 use answers::Found;
 use answers::Judged;
@@ -19,9 +22,9 @@ use sets::Pair;
 use text::Reading;
 use text::Refusal;
 
-// Prepares an accepted book: the words of its rules, and those of its ranks.
+// Prepares an accepted book: the words of its rules and its Q lines, and those of its ranks. The words after the rules are lent as zeros.
 pub fn fill(s: Shape, rows: &[i32], words: &mut Words, ranks: &mut Ranks)
-    requires { ⌜ Facts s (take (rowNumbers s) (now rows)) ⌝ }
+    requires { ⌜ Facts s (take (rowNumbers s) (now rows)) × Blank (now words) (ruleCount s * 8) ⌝ }
     ensures { λ _. ⌜ Filled s (take (rowNumbers s) (now (rows .entry))) (now (words .exit)) (now (ranks .exit)) ⌝ }
 {
     let m = book::row_numbers(s);
@@ -31,14 +34,15 @@ pub fn fill(s: Shape, rows: &[i32], words: &mut Words, ranks: &mut Ranks)
 
 // The same of rows with room for any book.
 pub fn fill_from(s: Shape, rows: &[i32; Book::ROOM], words: &mut Words, ranks: &mut Ranks)
-    requires { ⌜ Facts s (take (rowNumbers s) (now rows)) ⌝ }
+    requires { ⌜ Facts s (take (rowNumbers s) (now rows)) × Blank (now words) (ruleCount s * 8) ⌝ }
     ensures { λ _. ⌜ Filled s (take (rowNumbers s) (now (rows .entry))) (now (words .exit)) (now (ranks .exit)) ⌝ }
 {
     fill(s, rows, words, ranks);
 }
 
-// Reads a text and prepares its book.
+// Reads a text and prepares its book. The words are lent as zeros.
 pub fn load(text: &[u8], words: &mut Words, ranks: &mut Ranks) -> Reading
+    requires { ⌜ Blank (now words) 0 ⌝ }
     ensures { λ r. ⌜ Loads (now (text .entry)) r (now (words .exit)) (now (ranks .exit)) ⌝ }
 {
     let mut scratch = Book::empty();
@@ -57,7 +61,7 @@ pub fn judge(text: &[u8], p: Pair) -> Judged
     ensures { λ r. ⌜ verdictOf r ≡ judgeAnswer (now (text .entry)) p ⌝ }
     ensures { λ r. ⌜ Means turned Judges (now (text .entry)) (at p) (verdictOf r) ⌝ }
 {
-    let mut words = [0u64; Book::RULES * 8];
+    let mut words = [0u64; (Book::RULES + Book::CONDITIONALS) * 8];
     let mut ranks = [0u64; Book::EXCEPTIONS];
     let got = load(text, &mut words, &mut ranks);
     match got {
@@ -91,7 +95,7 @@ pub fn first(text: &[u8]) -> Found
     ensures { λ r. ⌜ answerOf r ≡ firstAnswer (now (text .entry)) ⌝ }
     ensures { λ r. ⌜ Means refused FirstLater (now (text .entry)) start (answerOf r) ⌝ }
 {
-    let mut words = [0u64; Book::RULES * 8];
+    let mut words = [0u64; (Book::RULES + Book::CONDITIONALS) * 8];
     let mut ranks = [0u64; Book::EXCEPTIONS];
     let got = load(text, &mut words, &mut ranks);
     match got {
@@ -109,7 +113,7 @@ pub fn after(text: &[u8], p: Pair) -> Found
     ensures { λ r. ⌜ answerOf r ≡ afterAnswer (now (text .entry)) p ⌝ }
     ensures { λ r. ⌜ Means refused FirstLater (now (text .entry)) (at p) (answerOf r) ⌝ }
 {
-    let mut words = [0u64; Book::RULES * 8];
+    let mut words = [0u64; (Book::RULES + Book::CONDITIONALS) * 8];
     let mut ranks = [0u64; Book::EXCEPTIONS];
     let got = load(text, &mut words, &mut ranks);
     match got {
@@ -130,7 +134,7 @@ pub fn after(text: &[u8], p: Pair) -> Found
 pub fn first_page(text: &[u8], out: &mut [u64]) -> Paged
     ensures { λ r. ⌜ PageMet (firstPage (now (text .entry)) (length (now (out .entry)))) (now (out .entry)) (now (out .exit)) r ⌝ }
 {
-    let mut words = [0u64; Book::RULES * 8];
+    let mut words = [0u64; (Book::RULES + Book::CONDITIONALS) * 8];
     let mut ranks = [0u64; Book::EXCEPTIONS];
     let got = load(text, &mut words, &mut ranks);
     match got {
@@ -143,7 +147,7 @@ pub fn first_page(text: &[u8], out: &mut [u64]) -> Paged
 pub fn page_after(text: &[u8], p: Pair, out: &mut [u64]) -> Paged
     ensures { λ r. ⌜ PageMet (pageAfter (now (text .entry)) p (length (now (out .entry)))) (now (out .entry)) (now (out .exit)) r ⌝ }
 {
-    let mut words = [0u64; Book::RULES * 8];
+    let mut words = [0u64; (Book::RULES + Book::CONDITIONALS) * 8];
     let mut ranks = [0u64; Book::EXCEPTIONS];
     let got = load(text, &mut words, &mut ranks);
     match got {

@@ -1,4 +1,4 @@
--- The masks that the functions make of a row's numbers are those of the row's rule.
+-- The masks that the functions make of a row's numbers are those of the row's rule or Q line.
 -- A number's mask is that of the entry that it names; masks of entries are joined from the last to the first.
 use mathlib.Core.Path.{_≡_, refl, sym, ap, _∙_}
 use mathlib.Core.Bool.{Bool, true, false}
@@ -15,11 +15,12 @@ use Rattle.sets.proofs.Digits.{shifted}
 use Rattle.sets.specs.declared.Pair.{Pair}
 use Rattle.sets.specs.Pairs.{joinOf}
 use Rattle.meaning.specs.Literals.{Literal}
-use Rattle.meaning.specs.Meant.{entry, headOf, at, entriesAt, ruleAt}
+use Rattle.meaning.specs.Meant.{entry, headOf, number, at, entriesAt, ruleAt, conditionAt}
 use Rattle.masks.specs.declared.Masks.{Masks}
-use Rattle.bridge.specs.Packed.{nothing, maskOf, maskAll, maskHead, masksOf}
-use Rattle.prepare.specs.Packing.{Readable}
+use Rattle.bridge.specs.Packed.{nothing, maskOf, maskAll, maskHead, masksOf, lineOf}
+use Rattle.prepare.specs.Packing.{Readable, LineReadable}
 use Rattle.prepare.proofs.Numbers.{back, Small, back-same, back-small, no-neg}
+use Rattle.prepare.proofs.Preferences.{names-same}
 
 -- ---- one number
 -- The pair that has the set w on one side: denied for a negative number, else held.
@@ -107,6 +108,9 @@ readable-part t k m j n r h = record {
   small = λ i l. let e : k + j + i ≡ k + (j + i) = omega arith in rw e (r .small (j + i) (omega arith));
 }
 
+pub readable-front : (t : List ℤ) (k m n : ℕ) → Readable t k m → n ≤ m → Readable t k n
+readable-front t k m n r h = record { room = let q = r .room in omega arith; small = λ i l. r .small i (omega arith) }
+
 pub rule-is : (t : List ℤ) (k own : ℕ) → Readable t k ruleFields → (h n b : Pair) → h ≡ maskAll (entry (back (at t k)))
     → n ≡ maskAll (entriesAt t (k + 1) entriesEach) → b ≡ maskAll (entriesAt t (k + 1 + entriesEach) entriesEach)
     → _≡_ {A = Masks} (record { head = h; need = record { taken = own; held = n .held; denied = n .denied }; bar = b }) (masksOf (record { own = own; rule = ruleAt t k }))
@@ -115,3 +119,12 @@ rule-is t k own r h n b eh en eb =
     let f : h ≡ maskAll (entry (at t k)) = eh ∙ ap (λ (z : ℤ). maskAll (entry z)) (back-same _ (readable-first t k ruleFields r (omega arith))) in
     let e : k + 1 + entriesEach ≡ k + (1 + entriesEach) = omega arith in
     rw (f, en, eb, e, head-mask (at t k)) refl
+
+-- ---- a Q line
+pub line-is : (t : List ℤ) (k : ℕ) → LineReadable t k → (u l : ℕ) (n b : Pair) → u ≡ 2 ^ (number (back (at t k)) - 1) → l ≡ 2 ^ (number (back (at t (k + 1))) - 1)
+    → n ≡ maskAll (entriesAt t (k + 2) entriesEach) → b ≡ maskAll (entriesAt t (k + 2 + entriesEach) entriesEach)
+    → _≡_ {A = Masks} (record { head = record { taken = 0; held = u; denied = l }; need = record { taken = 0; held = n .held; denied = n .denied }; bar = b }) (lineOf (conditionAt t k))
+unfolding lineOf conditionAt
+line-is t k r u l n b eu el en eb =
+    let e : k + 2 + entriesEach ≡ k + (2 + entriesEach) = omega arith in
+    rw (eu, el, names-same _ (r .upper), names-same _ (r .lower), en, eb, e) refl

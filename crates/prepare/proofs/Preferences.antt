@@ -4,7 +4,7 @@ use mathlib.Core.Path.{_≡_, refl, sym, ap, _∙_}
 use mathlib.Core.Bool.{Bool, true, false}
 use mathlib.Core.List.{List, [], _∷_}
 use mathlib.Core.Logic.{_↔_, _⊎_, inl, inr, ⊎-elim}
-use Prim.Native.Nat.{ℕ, suc, _+_, _-_, _*_, _<_, _≤_}
+use Prim.Native.Nat.{ℕ, suc, _+_, _-_, _*_, _%_, _^_, _<_, _≤_}
 use native.Mathlib.Omega.{arith}
 use lib.Dec.{eqb}
 use lib.IntN.{ℤ, negsuc}
@@ -21,13 +21,13 @@ use Rattle.book.specs.declared.Shape.{Shape}
 use Rattle.book.specs.Limits as limit
 use Rattle.book.specs.Kinds.{preference, preferenceNumbers}
 use Rattle.book.specs.Counts.{startOf}
-use Rattle.book.proofs.Counts.{exceptions-in}
 use Rattle.sets.specs.Sets.{member}
+use Rattle.sets.proofs.Digits.{shifted}
 use Rattle.sets.proofs.Words.{member-empty}
 use Rattle.meaning.specs.Meant.{at, number, preferencesAt, bookOf}
 use Rattle.bridge.specs.Ranks.{Names}
 use Rattle.bridge.specs.Rows.{RowsLawful}
-use Rattle.bridge.proofs.Rows.{preference-end}
+use Rattle.bridge.proofs.Rows.{names-within, preference-end}
 use Rattle.prepare.specs.Ranking.{WithLine, LinesFrom}
 use Rattle.prepare.proofs.Numbers.{back}
 
@@ -51,6 +51,17 @@ names-back x h = rw (toZ-ofZ (names-small x h)) h
 
 pub names-range : (x : ℤ) (r : ℕ) → NamesIn x → r ≡ number x → (0 < r) × (r ≤ 64)
 names-range x r h e = let f = h .from-one in let m = h .most in (omega arith, omega arith)
+
+pub names-same : (x : ℤ) → NamesIn x → number (back x) ≡ number x
+names-same x h = ap number (toZ-ofZ (names-small x h))
+
+-- The set that is shifted to the exception's place.
+module _ (x : ℤ) (h : NamesIn x) (i : ℕ) (e : i ≡ number (back x)) where
+  pub named-range : (0 < i) × (i ≤ 64)
+  named-range = names-range (back x) i (names-back x h) e
+
+  pub named-one : 1 * 2 ^ (i - 1) % 2 ^ 64 ≡ 2 ^ (number x - 1)
+  named-one = let r = named-range .0 in let s = named-range .1 in shifted (i - 1) (omega arith) ∙ ap (λ (j : ℕ). 2 ^ (j - 1)) (e ∙ names-same x h)
 
 -- ---- one line
 either-true : (a b : Bool) → (either a b ≡ true) ↔ ((a ≡ true) ⊎ (b ≡ true))
@@ -98,14 +109,11 @@ module _ (s : Shape) (t : List ℤ) (w : RowsLawful s t) (k : ℕ) (h : 0 < k) (
   pub row-in : rowAt + preferenceNumbers ≤ length t
   row-in = omega (arith, preference-end s, w .room)
 
-  names-within : (x : ℤ) → Names (s .exceptions) (number x) → NamesIn x
-  names-within x n = record { from-one = n .from-one; most = let a = n .most in let b = exceptions-in s (w .limits) in omega arith }
-
   pub first-named : NamesIn (at t rowAt)
-  first-named = let e : rowAt + 0 ≡ rowAt = omega arith in names-within _ (rw e at (w .names (k - 1) (omega arith) 0 (omega arith)))
+  first-named = let e : rowAt + 0 ≡ rowAt = omega arith in names-within s t w _ (rw e at (w .names (k - 1) (omega arith) 0 (omega arith)))
 
   pub second-named : NamesIn (at t (rowAt + 1))
-  second-named = names-within _ (w .names (k - 1) (omega arith) 1 (omega arith))
+  second-named = names-within s t w _ (w .names (k - 1) (omega arith) 1 (omega arith))
 
   pub lines-turn : (a set x y r : ℕ) → LinesFrom (preferencesAt t (startOf s preference + k * preferenceNumbers) (s .preferences - k)) a set
       → x ≡ number (back (at t rowAt)) → y ≡ number (back (at t (rowAt + 1))) → WithLine a set x y r
@@ -114,8 +122,8 @@ module _ (s : Shape) (t : List ℤ) (w : RowsLawful s t) (k : ℕ) (h : 0 < k) (
   lines-turn a set x y r f ex ey g =
       let c : s .preferences - (k - 1) ≡ suc (s .preferences - k) = omega arith in
       let d : rowAt + preferenceNumbers ≡ startOf s preference + k * preferenceNumbers = omega arith in
-      let p : x ≡ number (at t rowAt) = ex ∙ ap number (toZ-ofZ (names-small _ first-named)) in
-      let q : y ≡ number (at t (rowAt + 1)) = ey ∙ ap number (toZ-ofZ (names-small _ second-named)) in
+      let p : x ≡ number (at t rowAt) = ex ∙ names-same _ first-named in
+      let q : y ≡ number (at t (rowAt + 1)) = ey ∙ names-same _ second-named in
       rw (c, d, sym p, sym q) (lines-more _ a set x y r f g)
 
 pub lines-last : (t : List ℤ) (k m a : ℕ) → LinesFrom (preferencesAt t k (m - m)) a 0

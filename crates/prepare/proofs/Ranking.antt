@@ -17,14 +17,15 @@ use Rattle.book.specs.declared.Shape.{Shape}
 use Rattle.sets.specs.Sets.{member, bitOf}
 use Rattle.sets.proofs.Digits.{bit-lt, bit-or, by-digits, lt-or-le}
 use Rattle.sets.proofs.Words.{member-suc}
-use Rattle.meaning.specs.Preferences.{Outranks, step, chain}
+use Rattle.meaning.specs.Preferences.{step}
 use Rattle.meaning.specs.Books.{Book}
 use Rattle.meaning.specs.Meant.{bookOf}
 use Rattle.meaning.proofs.Meant.{exceptions-count}
 use Rattle.bridge.specs.Ranks.{RanksOf, Stepped}
 use Rattle.bridge.specs.Rows.{RowsLawful}
+use Rattle.bridge.proofs.Levels.{joined}
 use Rattle.bridge.proofs.Ranks.{ranks-stepped}
-use Rattle.bridge.proofs.Rows.{rows-named}
+use Rattle.bridge.proofs.Rows.{rows-named, lines-named}
 use Rattle.prepare.specs.Ranking.{LinesFrom, LinesTo, Extended, ClosedThrough, ClosedTo}
 
 -- ---- the P rows
@@ -80,11 +81,6 @@ pub through-over : (d : ℕ) (old new : List ℕ) (k m : ℕ) → k ≤ m → m 
 through-over d old new k m h l f = let e : m ≡ k = omega arith in rw e f
 
 -- ---- chains
--- A chain after a chain is a chain.
-joined : {ls : List (ℕ × ℕ)} {a b c : ℕ} → Outranks ls a b → Outranks ls b c → Outranks ls a c
-joined (step m) s = chain m s
-joined (chain m r) s = chain m (joined r s)
-
 module _ (b : Book) where
   pub stepped-start : (ranks : List ℕ) (m : ℕ) → length (b .exceptions) ≤ length ranks → length ranks ≤ m → LinesTo (b .preferences) ranks m → Stepped b ranks 0
   stepped-start ranks m h l f = record {
@@ -134,4 +130,4 @@ pub ranks-of : (s : Shape) (t : List ℤ) (old new : List ℕ) (m k : ℕ) → R
 ranks-of s t old new m k w h l n f g =
     let x = exceptions-count s t in
     let o = g .stepped (bookOf s t) (stepped-start (bookOf s t) old m (omega arith) l f) in let q = g .same in
-    ranks-stepped (bookOf s t) new k (rows-named s t w) (omega arith) o
+    ranks-stepped (bookOf s t) new k (rows-named s t w) (lines-named s t w) (omega arith) o

@@ -1,22 +1,30 @@
--- What the functions that pack the rules of a book promise.
-use Prim.Native.Nat.{ℕ, _+_, _-_, _^_, _<_, _≤_}
+-- What the functions that pack the rules and the Q lines of a book promise.
+use Prim.Native.Nat.{ℕ, _+_, _-_, _*_, _^_, _<_, _≤_}
 use mathlib.Core.Path.{_≡_}
 use mathlib.Core.List.{List, [], _∷_}
 use lib.Dec.{ltb}
 use lib.IntN.{ℤ, natAbs}
-use lib.ListN.{length}
+use lib.ListN.{length, getD}
 use Rattle.logic.specs.Tests.{pick}
 use Rattle.book.specs.Limits as limit
-use Rattle.meaning.specs.Meant.{at, ruleAt}
+use Rattle.book.specs.Kinds.{entriesEach, preferenceFields, conditionalNumbers}
+use Rattle.meaning.specs.Meant.{at, number, ruleAt, conditionAt}
 use Rattle.masks.specs.declared.Masks.{Masks}
 use Rattle.masks.specs.Views.{masksAt}
-use Rattle.bridge.specs.Packed.{masksOf}
+use Rattle.bridge.specs.Packed.{masksOf, lineOf}
+use Rattle.bridge.specs.Ranks.{Names}
 use Rattle.bridge.specs.Rows.{startAt}
 
 -- The m numbers from place k on are there, and each names a statement or nothing.
 pub record Readable (t : List ℤ) (k m : ℕ) : Type 0 where
   pub room : k + m ≤ length t
   pub small : (i : ℕ) → i < m → natAbs (at t (k + i)) ≤ limit.statements
+
+-- The row of a Q line at place k is there: two numbers that name exceptions, then entries.
+pub record LineReadable (t : List ℤ) (k : ℕ) : Type 0 where
+  pub upper : Names limit.exceptions (number (at t k))
+  pub lower : Names limit.exceptions (number (at t (k + 1)))
+  pub entries : Readable t (k + preferenceFields) (entriesEach + entriesEach)
 
 -- The set of its own exception that rule k has, in a book with r plain rules.
 unfoldable pub ownOf : ℕ → ℕ → ℕ
@@ -26,6 +34,21 @@ ownOf r k = pick (ltb k r) 0 (2 ^ (k - r))
 unfoldable pub wordsOf : Masks → List ℕ
 wordsOf r = r .head .held ∷ r .head .denied ∷ r .need .held ∷ r .need .denied ∷ r .need .taken ∷ r .bar .held ∷ r .bar .denied ∷ []
 
--- The first m rules of the words are those of the first m rules' rows: r plain ones with rows from a on, the others with rows from b on.
-pub record PackedTo (t : List ℤ) (r a b : ℕ) (ws : List ℕ) (m : ℕ) : Type 0 where
-  pub row : (k : ℕ) → k < m → masksAt ws k ≡ masksOf (record { own = ownOf r k; rule = ruleAt t (startAt r a b k) })
+-- The masks of rule k: the first r rules are plain and have their rows from a on, the others from b on.
+unfoldable pub ruleRow : List ℤ → ℕ → ℕ → ℕ → ℕ → Masks
+ruleRow t r a b k = masksOf (record { own = ownOf r k; rule = ruleAt t (startAt r a b k) })
+
+-- The masks of Q line j, the rows of which begin at a.
+unfoldable pub lineRow : List ℤ → ℕ → ℕ → Masks
+lineRow t a j = lineOf (conditionAt t (a + j * conditionalNumbers))
+
+-- Row n of the new words and those after it, m in all, are the masks that f gives; the other rows and words are the old ones.
+pub record PackedTo (f : ℕ → Masks) (n : ℕ) (old new : List ℕ) (m : ℕ) : Type 0 where
+  pub same : length new ≡ length old
+  pub row : (k : ℕ) → k < m → masksAt new (n + k) ≡ f k
+  pub before : (k : ℕ) → k < n → masksAt new k ≡ masksAt old k
+  pub after : (i : ℕ) → (n + m) * 8 ≤ i → getD new i 0 ≡ getD old i 0
+
+-- The words from place k on are zeros.
+pub record Blank (ws : List ℕ) (k : ℕ) : Type 0 where
+  pub zeros : (i : ℕ) → k ≤ i → getD ws i 0 ≡ 0

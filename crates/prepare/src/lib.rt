@@ -1,19 +1,20 @@
-// From an accepted book's shape and rows to the words that the search reads: its rules as masks, its preferences as sets.
+// From an accepted book's shape and rows to the words that the search reads: its rules and its Q lines as masks,
+// its preferences as sets.
 ghost use mathlib.Core.Path.{_≡_};
-ghost use Prim.Native.Nat.{_+_, _*_, _<_, _≤_};
+ghost use Prim.Native.Nat.{_+_, _-_, _*_, _^_, _<_, _≤_};
 ghost use mathlib.Core.List.{List};
 ghost use lib.IntN.{ℤ, natAbs};
 ghost use lib.ListN.{length};
 ghost use lib.Seq.{sets as setsAt};
 ghost use Rattle.book.specs.Limits as limit;
-ghost use Rattle.book.specs.Kinds.{entriesEach, ruleFields, preference};
+ghost use Rattle.book.specs.Kinds.{entriesEach, ruleFields, plain, exception, preference, conditional};
 ghost use Rattle.book.specs.Counts.{startOf};
-ghost use Rattle.meaning.specs.Meant.{entry, number, entriesAt, ruleAt, bookOf};
-ghost use Rattle.bridge.specs.Packed.{maskAll, masksOf, Packs};
+ghost use Rattle.meaning.specs.Meant.{entry, number, entriesAt, ruleAt, conditionAt, bookOf};
+ghost use Rattle.bridge.specs.Packed.{maskAll, masksOf, lineOf, Packs};
 ghost use Rattle.bridge.specs.Ranks.{Names, RanksOf};
 ghost use Rattle.bridge.specs.Rows.{startAt, ruleCount, RowsLawful};
 ghost use Rattle.bridge.specs.Roots.{upTo, rootOf};
-ghost use Rattle.prepare.specs.Packing.{Readable, ownOf, wordsOf};
+ghost use Rattle.prepare.specs.Packing.{Readable, LineReadable, ownOf, wordsOf, ruleRow, lineRow, PackedTo, Blank};
 ghost use Rattle.prepare.specs.Ranking.{WithLine, LinesFrom, LinesTo, Extended, ClosedThrough, ClosedTo};
 use book::Book;
 use book::Shape;
@@ -21,7 +22,7 @@ use masks::Bounds;
 use masks::Masks;
 use sets::Pair;
 
-// The words of each rule; masks::masks_at says what each is.
+// The words of each rule and of each Q line; masks::masks_at says what each is.
 pub const WORDS: usize = 8;
 
 // The size of a head's or an entry's number: the statement that it names.
@@ -63,7 +64,7 @@ fn entry_mask(x: i32) -> Pair
     }
 }
 
-// The mask of the needed or the barred entries of a rule, which begin at a place of the rows.
+// The mask of the needed or the barred entries of a rule or a Q line, which begin at a place of the rows.
 fn entries_mask(rows: &[i32], from: usize) -> Pair
     requires { ⌜ Readable (now rows) from entriesEach ⌝ }
     ensures { λ r. ⌜ r ≡ maskAll (entriesAt (now (rows .entry)) from entriesEach) ⌝ }
@@ -100,7 +101,48 @@ fn rule_masks(rows: &[i32], from: usize, own: u64) -> Masks
     }
 }
 
-// Writes the masks of rule k into its words; the last word of a rule is not used.
+// The exception that a number of a P row or a Q row names.
+fn named(x: i32) -> u64
+    requires { ⌜ Names limit.exceptions (number x) ⌝ }
+    ensures { λ r. ⌜ r ≡ number x ⌝ }
+{
+    x as u64
+}
+
+// The set of the exception that a number names.
+fn named_set(x: i32) -> u64
+    requires { ⌜ Names limit.exceptions (number x) ⌝ }
+    ensures { λ r. ⌜ r ≡ 2 ^ (number x - 1) ⌝ }
+{
+    let i = named(x);
+    1 << (i - 1)
+}
+
+// The masks of the Q line whose row begins at a place of the rows: the two exceptions stand in the head, the body is as a rule's.
+fn line_masks(rows: &[i32], from: usize) -> Masks
+    requires { ⌜ LineReadable (now rows) from ⌝ }
+    ensures { λ r. ⌜ r ≡ lineOf (conditionAt (now (rows .entry)) from) ⌝ }
+{
+    let upper = named_set(rows[from]);
+    let lower = named_set(rows[from + 1]);
+    let needed = entries_mask(rows, from + Book::PREFERENCE_FIELDS);
+    let barred = entries_mask(rows, from + Book::PREFERENCE_FIELDS + Book::ENTRIES);
+    Masks {
+        head: Pair {
+            taken: 0,
+            held: upper,
+            denied: lower,
+        },
+        need: Pair {
+            taken: 0,
+            held: needed.held,
+            denied: needed.denied,
+        },
+        bar: barred,
+    }
+}
+
+// Writes the masks of a rule or a Q line into the words of row k; the last word of a row is not used.
 fn put(words: &mut [u64], k: usize, r: Masks)
     requires { ⌜ k * 8 + 8 ≤ length (now words) ⌝ }
     ensures { λ o. ⌜ now (words .exit) ≡ setsAt (now (words .entry)) (k * 8) (wordsOf r) ⌝ }
@@ -137,10 +179,10 @@ fn row_start(plain: usize, first: usize, other: usize, k: usize) -> usize
     other + (k - plain) * Book::RULE_NUMBERS
 }
 
-// Packs the rules of a book into words: the plain rules, then the exceptions.
-pub fn pack(shape: Shape, rows: &[i32], words: &mut [u64])
+// Packs the rules of a book into the first rows of the words: the plain rules, then the exceptions.
+fn pack_rules(shape: Shape, rows: &[i32], words: &mut [u64])
     requires { ⌜ RowsLawful shape (now rows) × (ruleCount shape * 8 ≤ length (now words)) ⌝ }
-    ensures { λ o. ⌜ Packs (bookOf shape (now (rows .entry))) (now (words .exit)) (ruleCount shape) ⌝ }
+    ensures { λ o. ⌜ PackedTo (ruleRow (now (rows .entry)) (shape .plain) (startOf shape plain) (startOf shape exception)) 0 (now (words .entry)) (now (words .exit)) (ruleCount shape) ⌝ }
 {
     let plain = shape.plain;
     let n = plain + shape.exceptions;
@@ -155,12 +197,29 @@ pub fn pack(shape: Shape, rows: &[i32], words: &mut [u64])
     }
 }
 
-// The exception that a number of a P row names.
-fn named(x: i32) -> u64
-    requires { ⌜ Names limit.exceptions (number x) ⌝ }
-    ensures { λ r. ⌜ r ≡ number x ⌝ }
+// Packs the Q lines of a book into the rows after those of its rules.
+fn pack_lines(shape: Shape, rows: &[i32], words: &mut [u64])
+    requires { ⌜ RowsLawful shape (now rows) × ((ruleCount shape + shape .conditionals) * 8 ≤ length (now words)) ⌝ }
+    ensures { λ o. ⌜ PackedTo (lineRow (now (rows .entry)) (startOf shape conditional)) (ruleCount shape) (now (words .entry)) (now (words .exit)) (shape .conditionals) ⌝ }
 {
-    x as u64
+    let n = shape.plain + shape.exceptions;
+    let m = shape.conditionals;
+    let from = book::start_of(shape, Book::AT_CONDITIONAL);
+    let mut k = 0;
+    while k < m {
+        let r = line_masks(rows, from + k * Book::CONDITIONAL_NUMBERS);
+        put(words, n + k, r);
+        k += 1;
+    }
+}
+
+// Packs the rules of a book into words, and after them its Q lines. Behind the rules the words are lent as zeros: the rows of no line.
+pub fn pack(shape: Shape, rows: &[i32], words: &mut [u64])
+    requires { ⌜ RowsLawful shape (now rows) × ((ruleCount shape + limit.conditionals) * 8 ≤ length (now words)) × Blank (now words) (ruleCount shape * 8) ⌝ }
+    ensures { λ o. ⌜ Packs (bookOf shape (now (rows .entry))) (now (words .exit)) (ruleCount shape) ⌝ }
+{
+    pack_rules(shape, rows, words);
+    pack_lines(shape, rows, words);
 }
 
 // The set, with exception y added where x is a: a P row says that x comes before y.

@@ -1,6 +1,7 @@
 -- "A point noted before the change goes on to the same resolutions" (document 02, (c)). Any table of sets that meets document 01's rule gives the one
 -- order of pairs: `all-later-by`. So the table of 4,096 sets and that of 65,536 list a book of at most 12 exceptions alike, `noted-point`; the engine
--- hands out that list, `goes-on`, in lines of the same bytes, `keeps-fields`. Such a book keeps document 01's limits, `keeps-limits`.
+-- hands out that list, `goes-on`, in lines of the same bytes, `keeps-fields`. If the book has no Q line, its resolutions are those of document 01,
+-- `same-resolutions`, so the list is document 01's by its own words, `goes-on-before`, and it keeps document 01's limits, `keeps-limits`.
 use mathlib.Core.Path.{_≡_, sym, ap, _∙_}
 use mathlib.Core.List.{List, [], _∷_}
 use mathlib.Core.Logic.{_↔_}
@@ -30,8 +31,11 @@ use Rattle.order.proofs.Places.{place-earlier, same-order}
 use Rattle.meaning.specs.Books.{Book, Lawful}
 use Rattle.meaning.specs.Meant.{bookOf}
 use Rattle.meaning.specs.Order.{Before, fewer, smaller, differs, Ascending, Point, start, at, LawfulPoint, Later, AllLater}
+use Rattle.meaning.specs.Views.{View}
+use Rattle.meaning.specs.Resolutions.{Resolution}
 use Rattle.meaning.specs.Listings.{goOn, listing}
-use Rattle.meaning.proofs.Meant.{exceptions-count}
+use Rattle.meaning.proofs.Conditions.{within-plain, dominates-plain, resolution-plain}
+use Rattle.meaning.proofs.Meant.{exceptions-count, unconditional}
 use Rattle.meaning.proofs.Pages.{page-is}
 use Rattle.meaning.proofs.Sorted.{all-later}
 use Rattle.answers.specs.Operations.{lineIn, asks}
@@ -41,7 +45,7 @@ use Rattle.bridge.proofs.Rows.{rows-named}
 use Rattle.line.proofs.PutLaws.{fields-short, line-54}
 use Rattle.walk.proofs.Places.{earlier-before}
 use Rattle.operations.proofs.Loading.{lawful-rows}
-use Rattle.promises.specs.Noted.{BeforeBy, earlier, differs as differs-by, LaterBy, AscendingBy, AllLaterBy, exceptionsBefore, KeepsLimits}
+use Rattle.promises.specs.Noted.{BeforeBy, earlier, differs as differs-by, LaterBy, AscendingBy, AllLaterBy, AllBefore, ViewBefore, ResolutionBefore, exceptionsBefore, KeepsLimits}
 
 -- ---- two pairs
 -- Pairs with different sets stand in the order of their sets.
@@ -137,6 +141,29 @@ module _ (w : ℕ) (f : ℕ → ℕ) (rule : Ordered w f) where
     pub some-later-by : (from : Point) → LawfulPoint b from → (ps : List Pair) × AllLaterBy w f b from ps
     some-later-by from h = let a = all-later b from h in (a .0, all-later-by from h (a .0) .1 (a .1))
 
+-- ---- resolutions
+-- In a book without Q lines a view and a resolution are those of document 01.
+module _ (b : Book) (none : b .conditional ≡ []) where
+  view-before : (p : Pair) → View b p ↔ ViewBefore b p
+  view-before p = let w = within-plain b none p in (
+    λ v. record { lawful = v .lawful; answers = v .answers; unranked = λ r. v .unranked (w .1 r); bodies = v .bodies },
+    λ v. record { lawful = v .lawful; answers = v .answers; unranked = λ r. v .unranked (w .0 r); bodies = v .bodies },
+  )
+
+  pub resolution-before : (p : Pair) → Resolution b p ↔ ResolutionBefore b p
+  resolution-before p = let r = resolution-plain b none p in (
+    λ x. let h = r .0 x in record {
+      view = view-before p .0 (h .0);
+      undominated = λ q v d. h .1 (record { other = q; view = view-before q .1 v; dominates = dominates-plain b none q p .1 d });
+      minimal = λ q v m. h .2 (record { other = q; view = view-before q .1 v; smaller = m });
+    },
+    λ x. r .1 (
+      view-before p .1 (x .view),
+      λ d. x .undominated (d .other) (view-before (d .other) .0 (d .view)) (dominates-plain b none (d .other) p .0 (d .dominates)),
+      λ l. x .minimal (l .other) (view-before (l .other) .0 (l .view)) (l .smaller),
+    ),
+  )
+
 -- ---- before the change and after it
 -- In a book of at most 12 exceptions the resolutions later than a point are listed alike by any table of the sets of 12 and any of the sets of 16.
 pub noted-point : (old new : ℕ → ℕ) → Ordered exceptionsBefore old → Ordered limit.exceptions new → (b : Book) → length (b .exceptions) ≤ exceptionsBefore
@@ -173,27 +200,40 @@ module _ (bs : List ℕ) (s : Shape) (ws : List ℤ) (e : readText bs ≡ accept
   unfolding bookOf
   keeps-length p = line-54 (length (bookOf s ws .exceptions)) (s .statements) p few-exceptions
 
-  -- ---- document 01's limits
-  few-bytes : textBytes s ≤ 8392
-  unfolding sumTo countAt allCounts countsOf kind kinds bytes
-  few-bytes = omega (arith, plain-in s (facts .limits), preferences-in s (facts .limits))
-
-  few-rows : total s ≤ 244
-  unfolding sumTo countAt allCounts countsOf kind kinds rowOnce pick
-  few-rows = omega (arith, plain-in s (facts .limits), preferences-in s (facts .limits))
-
+  -- ---- document 01's resolutions and limits
   names-few : (i : ℕ) → Names (length (bookOf s ws .exceptions)) i → Names exceptionsBefore i
   names-few i n = record { from-one = n .from-one; most = omega (arith, n .most, exceptions-count s ws) }
 
-  -- A text that is accepted now and has no more X lines than document 01 allows keeps all its limits.
-  pub keeps-limits : KeepsLimits bs s ws
-  unfolding bookOf
-  keeps-limits = record {
-    text = omega (arith, text-length bs s ws e, few-bytes);
-    statements = (facts .limits .some-statement, facts .limits .statements);
-    plain = plain-in s (facts .limits);
-    exceptions = few;
-    preferences = preferences-in s (facts .limits);
-    total = few-rows;
-    named = every-map (λ (l : ℕ × ℕ) n. (names-few (l .0) (n .0), names-few (l .1) (n .1))) (bookOf s ws .preferences) (rows-named s ws (lawful-rows s ws facts));
-  }
+  -- Document 01 has no Q lines.
+  module _ (none : s .conditionals ≡ 0) where
+    pub same-resolutions : (p : Pair) → Resolution (bookOf s ws) p ↔ ResolutionBefore (bookOf s ws) p
+    same-resolutions = resolution-before (bookOf s ws) (unconditional s ws none)
+
+    -- So the calls that go on from a point hand out document 01's list of document 01's resolutions.
+    pub goes-on-before : (old : ℕ → ℕ) → Ordered exceptionsBefore old → (from : Point) → LawfulPoint (bookOf s ws) from → (ps : List Pair) → AllBefore exceptionsBefore old (bookOf s ws) from ps → (k : ℕ)
+        → listing (asks bs) (replicate k (goOn 0)) from ≡ take k ps
+    goes-on-before old rule from lawful ps a k =
+        goes-on old rule from lawful ps
+        (record { only = every-map (λ p x. (same-resolutions p .1 (x .0), x .1)) ps (a .only); all = λ p r l. a .all p (same-resolutions p .0 r) l; ascending = a .ascending }) k
+
+    few-bytes : textBytes s ≤ 8392
+    unfolding sumTo countAt allCounts countsOf kind kinds bytes
+    few-bytes = omega (arith, none, plain-in s (facts .limits), preferences-in s (facts .limits))
+
+    few-rows : total s ≤ 244
+    unfolding sumTo countAt allCounts countsOf kind kinds rowOnce pick
+    few-rows = omega (arith, none, plain-in s (facts .limits), preferences-in s (facts .limits))
+
+    -- A text that is accepted now and has no more X lines than document 01 allows, and no Q line, keeps all its limits.
+    pub keeps-limits : KeepsLimits bs s ws
+    unfolding bookOf
+    keeps-limits = record {
+      text = omega (arith, text-length bs s ws e, few-bytes);
+      statements = (facts .limits .some-statement, facts .limits .statements);
+      plain = plain-in s (facts .limits);
+      exceptions = few;
+      preferences = preferences-in s (facts .limits);
+      conditionals = none;
+      total = few-rows;
+      named = every-map (λ (l : ℕ × ℕ) n. (names-few (l .0) (n .0), names-few (l .1) (n .1))) (bookOf s ws .preferences) (rows-named s ws (lawful-rows s ws facts));
+    }

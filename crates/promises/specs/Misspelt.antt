@@ -1,6 +1,7 @@
 -- Reading as it was before request (d) of document 02, in the words that text/specs had then: columns are how their number is written, or
 -- misspelt, and every misspelt field is refused by 5. It is here only to say what "all three stand where 5 stood" means. Writing, ranges, what
--- is tested of a line as a whole and what follows from line to line have no part in the request, and are text/specs's own.
+-- is tested of a line as a whole and what follows from line to line have no part in the request, and are text/specs's own; so are the kinds of
+-- line, with the Q lines that came later.
 use Prim.Native.Nat.{ℕ, suc, _+_}
 use mathlib.Core.Bool.{Bool}
 use mathlib.Core.List.{List, [], _∷_}

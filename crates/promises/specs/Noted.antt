@@ -1,7 +1,8 @@
 -- What was noted before request (c) of document 02, and the books of that time: the order of pairs as document 01 lays it down, by a table of the
--- sets of taken exceptions, and document 01's limits. A text was accepted before if document 01 accepts it. That such a text is accepted now, with
+-- sets of taken exceptions, document 01's resolutions, and its limits. A text was accepted before if document 01 accepts it. That such a text is accepted now, with
 -- the same book, rests on the limits having only grown (each range and limit of document 01 lies within that of document 02); it is not stated as a
--- theorem here. What is proved is that a text accepted now with at most 12 X lines keeps every limit of document 01.
+-- theorem here. What is proved is that a text accepted now with at most 12 X lines and no Q line, which document 01 does not have, keeps every limit
+-- of document 01.
 use Prim.Native.Nat.{ℕ, _^_, _<_, _≤_}
 use mathlib.Core.Path.{_≡_}
 use mathlib.Core.List.{List, [], _∷_}
@@ -9,11 +10,13 @@ use lib.IntN.{ℤ}
 use lib.ListN.{length}
 use Rattle.logic.specs.Lists.{Every, Among}
 use Rattle.sets.specs.declared.Pair.{Pair}
+use Rattle.sets.specs.Sets.{ProperSubset}
 use Rattle.book.specs.declared.Shape.{Shape}
 use Rattle.book.specs.Counts.{total as rowsIn}
-use Rattle.meaning.specs.Books.{Book}
+use Rattle.meaning.specs.Books.{Book, Lawful}
 use Rattle.meaning.specs.Meant.{bookOf}
 use Rattle.meaning.specs.Order.{value, Point, start, at}
+use Rattle.meaning.specs.Views.{Answers, Ranked, Bodies}
 use Rattle.meaning.specs.Resolutions.{Resolution}
 use Rattle.bridge.specs.Ranks.{Names}
 
@@ -40,18 +43,39 @@ pub record AllLaterBy (w : ℕ) (f : ℕ → ℕ) (b : Book) (from : Point) (ps 
   pub all : (p : Pair) → Resolution b p → LaterBy w f from p → Among p ps
   pub ascending : AscendingBy w f ps
 
+-- ---- resolutions of document 01
+-- A view and a resolution as document 01 has them, before request (e) of document 02: P lines alone rank, whatever S is, and no view at all has a
+-- proper subset of a resolution's T.
+pub record ViewBefore (b : Book) (p : Pair) : Type 0 where
+  pub lawful : Lawful b p
+  pub answers : Answers b p
+  pub unranked : Ranked (b .preferences) (p .taken) (p .taken) → ⊥
+  pub bodies : Bodies b p
+
+pub record ResolutionBefore (b : Book) (p : Pair) : Type 0 where
+  pub view : ViewBefore b p
+  pub undominated : (q : Pair) → ViewBefore b q → Ranked (b .preferences) (q .taken) (p .taken) → ⊥
+  pub minimal : (q : Pair) → ViewBefore b q → ProperSubset (q .taken) (p .taken) → ⊥
+
+-- The list of all of document 01's resolutions later than the point, in the order by the table, each once.
+pub record AllBefore (w : ℕ) (f : ℕ → ℕ) (b : Book) (from : Point) (ps : List Pair) : Type 0 where
+  pub only : Every (λ p. ResolutionBefore b p × LaterBy w f from p) ps
+  pub all : (p : Pair) → ResolutionBefore b p → LaterBy w f from p → Among p ps
+  pub ascending : AscendingBy w f ps
+
 -- ---- the limits of document 01
 -- The most X lines before request (c).
 abbrev pub exceptionsBefore : ℕ
 exceptionsBefore = 12
 
 -- A text and its book keep the limits of document 01: the bytes of the text; n; how many R, X and P lines there are, and all of them together, as Z
--- says; and the exceptions that the P lines name.
+-- says; that there is no other row, no Q line; and the exceptions that the P lines name.
 pub record KeepsLimits (bs : List ℕ) (s : Shape) (ws : List ℤ) : Type 0 where
   pub text : length bs ≤ 8392
   pub statements : (0 < s .statements) × (s .statements ≤ 48)
   pub plain : s .plain ≤ 200
   pub exceptions : s .exceptions ≤ exceptionsBefore
   pub preferences : s .preferences ≤ 32
+  pub conditionals : s .conditionals ≡ 0
   pub total : rowsIn s ≤ 244
   pub named : Every (λ (l : ℕ × ℕ). Names exceptionsBefore (l .0) × Names exceptionsBefore (l .1)) (bookOf s ws .preferences)

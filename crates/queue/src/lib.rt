@@ -205,7 +205,7 @@ pub fn whole(words: &[u64], n: usize, ranks: &[u64], index: &Index, b: Bounds) -
     requires { ⌜ (n * 8 ≤ length (now words)) × (length (now ranks) ≤ 64) ⌝ }
     ensures { λ o. ⌜ Keeps (MaskView (now (words .entry)) n (now (ranks .entry))) b o ⌝ }
 {
-    let o = bounds::levels(ranks, b);
+    let o = bounds::unlinked(words, n, ranks, bounds::levels(ranks, b));
     if !bounds::unchanged(o, b) {
         return o;
     }

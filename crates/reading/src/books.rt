@@ -1,9 +1,10 @@
-// Books that are accepted: the small books of document 01, and those at the limits; and one line more than each limit.
+// Books that are accepted: the small books of document 01 and the case of document 02, (e), and those at the limits; and one line more than each
+// limit.
 ghost use Prim.Native.Nat.{_≤_};
 use crate::rows;
 
 // Room for the texts that are made here, some of which are too long.
-pub const ROOM: usize = 8700;
+pub const ROOM: usize = 10100;
 
 // ---- the small books
 
@@ -73,18 +74,27 @@ fn last_seven() {
     );
 }
 
+// The case of document 02, (e), in the same way.
+fn conditional() {
+    rows::letter(b'e');
+    rows::both(
+        b"B   1   3\nR   0   0   0   0   0   1   3   0   0\nX   1   0   0   0   0   0   0   0   0\nX   2   0   0   0   0   0   0   0   0\nX   3   0   0   0   0   0   0   0   0\nQ   3   1   0   0   0   0   2   0   0   0\nZ   5\n",
+    );
+}
+
 // The small books.
 pub fn small() {
     first_seven();
     last_seven();
+    conditional();
 }
 
 // ---- texts made line by line
 
 // A line put into a buffer from a place on; the place after it. What has no room is left out.
 pub fn put(buf: &mut [u8; ROOM], at: usize, line: &[u8]) -> usize
-    requires { ⌜ at ≤ 8700 ⌝ }
-    ensures { λ r. ⌜ r ≤ 8700 ⌝ }
+    requires { ⌜ at ≤ 10100 ⌝ }
+    ensures { λ r. ⌜ r ≤ 10100 ⌝ }
 {
     let mut to = at;
     let mut i = 0;
@@ -100,8 +110,8 @@ pub fn put(buf: &mut [u8; ROOM], at: usize, line: &[u8]) -> usize
 
 // A line put k times.
 fn repeat(buf: &mut [u8; ROOM], at: usize, line: &[u8], k: usize) -> usize
-    requires { ⌜ at ≤ 8700 ⌝ }
-    ensures { λ r. ⌜ r ≤ 8700 ⌝ }
+    requires { ⌜ at ≤ 10100 ⌝ }
+    ensures { λ r. ⌜ r ≤ 10100 ⌝ }
 {
     let mut to = at;
     let mut i = 0;
@@ -112,15 +122,16 @@ fn repeat(buf: &mut [u8; ROOM], at: usize, line: &[u8], k: usize) -> usize
     to
 }
 
-// A book of 48 statements with r R lines, x X lines and p P lines in a buffer, and these last bytes; the place after them.
-fn fill(buf: &mut [u8; ROOM], r: usize, x: usize, p: usize, last: &[u8]) -> usize
-    ensures { λ r. ⌜ r ≤ 8700 ⌝ }
+// A book of 48 statements with r R lines, x X lines, p P lines and q Q lines in a buffer, and these last bytes; the place after them.
+fn fill(buf: &mut [u8; ROOM], r: usize, x: usize, p: usize, q: usize, last: &[u8]) -> usize
+    ensures { λ r. ⌜ r ≤ 10100 ⌝ }
 {
     let b = put(buf, 0, b"B   1  48\n");
     let c = repeat(buf, b, b"R -48  48   0   0   0   0   0   0 -48\n", r);
     let d = repeat(buf, c, b"X  48   0   0   0   0   0   0   0   0\n", x);
     let e = repeat(buf, d, b"P   1   1\n", p);
-    put(buf, e, last)
+    let f = repeat(buf, e, b"Q   1   1 -48  48   0   0   0   0   0 -48\n", q);
+    put(buf, f, last)
 }
 
 // The text in front of a buffer.
@@ -129,48 +140,52 @@ pub fn filled(buf: &[u8; ROOM], e: usize) -> &[u8] {
 }
 
 // What such a book has.
-fn say(r: usize, x: usize, p: usize, last: &[u8]) {
+fn say(r: usize, x: usize, p: usize, q: usize, last: &[u8]) {
     rows::letter(b'R');
     rows::number(r);
     io::write_all(1, b" X");
     rows::number(x);
     io::write_all(1, b" P");
     rows::number(p);
+    io::write_all(1, b" Q");
+    rows::number(q);
     rows::letter(b' ');
     rows::quote(last);
 }
 
 // Such a book, read and written again.
-fn fits(r: usize, x: usize, p: usize, last: &[u8; 6]) {
+fn fits(r: usize, x: usize, p: usize, q: usize, last: &[u8; 6]) {
     let mut buf = [0u8; ROOM];
-    let e = fill(&mut buf, r, x, p, last);
-    say(r, x, p, last);
+    let e = fill(&mut buf, r, x, p, q, last);
+    say(r, x, p, q, last);
     rows::both(filled(&buf, e));
 }
 
 // Such a book, read only.
-pub fn over(r: usize, x: usize, p: usize, last: &[u8]) {
+pub fn over(r: usize, x: usize, p: usize, q: usize, last: &[u8]) {
     let mut buf = [0u8; ROOM];
-    let e = fill(&mut buf, r, x, p, last);
-    say(r, x, p, last);
+    let e = fill(&mut buf, r, x, p, q, last);
+    say(r, x, p, q, last);
     rows::read_row(filled(&buf, e));
 }
 
 // The same, where the last bytes are a Z line.
-pub fn over_by(r: usize, x: usize, p: usize, last: &[u8; 6]) {
-    over(r, x, p, last);
+pub fn over_by(r: usize, x: usize, p: usize, q: usize, last: &[u8; 6]) {
+    over(r, x, p, q, last);
 }
 
 // Each limit reached, and passed by one.
 pub fn limits() {
-    fits(0, 0, 0, b"Z   0\n");
-    fits(200, 0, 0, b"Z 200\n");
-    over_by(201, 0, 0, b"Z 201\n");
-    fits(0, 13, 0, b"Z  13\n");
-    fits(0, 16, 0, b"Z  16\n");
-    over_by(0, 17, 0, b"Z  17\n");
-    fits(0, 1, 32, b"Z  33\n");
-    over_by(0, 1, 33, b"Z  34\n");
-    fits(200, 16, 32, b"Z 248\n");
-    over(200, 16, 32, b"Z 248\n\n");
+    fits(0, 0, 0, 0, b"Z   0\n");
+    fits(200, 0, 0, 0, b"Z 200\n");
+    over_by(201, 0, 0, 0, b"Z 201\n");
+    fits(0, 13, 0, 0, b"Z  13\n");
+    fits(0, 16, 0, 0, b"Z  16\n");
+    over_by(0, 17, 0, 0, b"Z  17\n");
+    fits(0, 1, 32, 0, b"Z  33\n");
+    over_by(0, 1, 33, 0, b"Z  34\n");
+    fits(0, 1, 0, 32, b"Z  33\n");
+    over_by(0, 1, 0, 33, b"Z  34\n");
+    fits(200, 16, 32, 32, b"Z 280\n");
+    over(200, 16, 32, 32, b"Z 280\n\n");
 }

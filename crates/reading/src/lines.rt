@@ -1,13 +1,13 @@
 // Texts that Read turns down, by place: the whole text, each line's letter, length, fields, the line as a whole, the lent slice.
-// One book of eleven lines is read with other bytes in the place of one of its lines, or of one or two of its fields.
+// One book of fourteen lines is read with other bytes in the place of one of its lines, or of one or two of its fields.
 ghost use Prim.Native.Nat.{_≤_};
 use crate::books;
 use crate::rows;
 
 // A line of the book, or the bytes that stand for it.
 fn line(buf: &mut [u8; books::ROOM], at: usize, other: bool, new: &[u8], own: &[u8]) -> usize
-    requires { ⌜ at ≤ 8700 ⌝ }
-    ensures { λ r. ⌜ r ≤ 8700 ⌝ }
+    requires { ⌜ at ≤ 10100 ⌝ }
+    ensures { λ r. ⌜ r ≤ 10100 ⌝ }
 {
     if other {
         return books::put(buf, at, new);
@@ -17,7 +17,7 @@ fn line(buf: &mut [u8; books::ROOM], at: usize, other: bool, new: &[u8], own: &[
 
 // The lines B and R of the book, with these bytes in the place of line k and its line feed. The place after them.
 fn first_lines(buf: &mut [u8; books::ROOM], k: usize, new: &[u8]) -> usize
-    ensures { λ r. ⌜ r ≤ 8700 ⌝ }
+    ensures { λ r. ⌜ r ≤ 10100 ⌝ }
 {
     let b = line(buf, 0, k == 1, new, b"B   1   3\n");
     let r = line(
@@ -45,8 +45,8 @@ fn first_lines(buf: &mut [u8; books::ROOM], k: usize, new: &[u8]) -> usize
 
 // The lines X, in the same way, from a place on.
 fn middle_lines(buf: &mut [u8; books::ROOM], at: usize, k: usize, new: &[u8]) -> usize
-    requires { ⌜ at ≤ 8700 ⌝ }
-    ensures { λ r. ⌜ r ≤ 8700 ⌝ }
+    requires { ⌜ at ≤ 10100 ⌝ }
+    ensures { λ r. ⌜ r ≤ 10100 ⌝ }
 {
     let x = line(
         buf,
@@ -71,22 +71,59 @@ fn middle_lines(buf: &mut [u8; books::ROOM], at: usize, k: usize, new: &[u8]) ->
     )
 }
 
-// The book with these bytes in the place of line k and its line feed; line 12 comes after the last, line 0 is none. The place after it all.
+// The lines P, in the same way.
+fn later_lines(buf: &mut [u8; books::ROOM], at: usize, k: usize, new: &[u8]) -> usize
+    requires { ⌜ at ≤ 10100 ⌝ }
+    ensures { λ r. ⌜ r ≤ 10100 ⌝ }
+{
+    let p = line(buf, at, k == 8, new, b"P   1   2\n");
+    let q = line(buf, p, k == 9, new, b"P   2   3\n");
+    line(buf, q, k == 10, new, b"P   3   3\n")
+}
+
+// The lines Q, in the same way.
+fn conditional_lines(buf: &mut [u8; books::ROOM], at: usize, k: usize, new: &[u8]) -> usize
+    requires { ⌜ at ≤ 10100 ⌝ }
+    ensures { λ r. ⌜ r ≤ 10100 ⌝ }
+{
+    let q = line(
+        buf,
+        at,
+        k == 11,
+        new,
+        b"Q   1   3   0   0   0   0   2   0   0   0\n",
+    );
+    let c = line(
+        buf,
+        q,
+        k == 12,
+        new,
+        b"Q   3   2  -1   2   0   0   0   0   0  -3\n",
+    );
+    line(
+        buf,
+        c,
+        k == 13,
+        new,
+        b"Q   2   2   0   0   0   0   0   0   0   0\n",
+    )
+}
+
+// The book with these bytes in the place of line k and its line feed; line 15 comes after the last, line 0 is none. The place after it all.
 fn exchange(buf: &mut [u8; books::ROOM], k: usize, new: &[u8]) -> usize
-    ensures { λ r. ⌜ r ≤ 8700 ⌝ }
+    ensures { λ r. ⌜ r ≤ 10100 ⌝ }
 {
     let r = first_lines(buf, k, new);
     let x = middle_lines(buf, r, k, new);
-    let p = line(buf, x, k == 8, new, b"P   1   2\n");
-    let q = line(buf, p, k == 9, new, b"P   2   3\n");
-    let o = line(buf, q, k == 10, new, b"P   3   3\n");
-    let e = line(buf, o, k == 11, new, b"Z   9\n");
-    line(buf, e, k == 12, new, b"")
+    let p = later_lines(buf, x, k, new);
+    let q = conditional_lines(buf, p, k, new);
+    let e = line(buf, q, k == 14, new, b"Z  12\n");
+    line(buf, e, k == 15, new, b"")
 }
 
 // Where line k of the book begins.
 fn start(k: usize) -> usize
-    ensures { λ r. ⌜ r ≤ 268 ⌝ }
+    ensures { λ r. ⌜ r ≤ 394 ⌝ }
 {
     if k < 2 {
         return 0;
@@ -97,7 +134,10 @@ fn start(k: usize) -> usize
     if k < 11 {
         return 238 + (k - 8) * 10;
     }
-    268
+    if k < 14 {
+        return 268 + (k - 11) * 42;
+    }
+    394
 }
 
 // The row of a whole text.
@@ -144,17 +184,18 @@ fn fields(k: usize, f: u8, new: &[u8; 8]) {
     at_field(k, f, new);
 }
 
-// 1 and 2, the whole text: 1 comes before 2, 2 before 3, 1 before 8.
+// 1 and 2, the whole text: 1 comes before 2, 2 before 3, 1 before 8 and 19.
 pub fn whole() {
     text(b"");
     text(b"B   1   1\nZ   0");
     text(b"B   1   1\nZ   0\n\r");
     text(b"B   1   1\nZ   0\n\x00");
-    with(11, b"Z   9");
-    with(11, b"Q");
-    books::over(200, 16, 32, b"Z 248\nZ");
-    books::over(200, 16, 32, b"Z 248 ");
-    books::over(200, 16, 33, b"Z 249\n");
+    with(14, b"Z  12");
+    with(14, b"Q");
+    books::over(200, 16, 32, 32, b"Z 280\nZ");
+    books::over(200, 16, 32, 32, b"Z 280 ");
+    books::over(200, 16, 33, 32, b"Z 281\n");
+    books::over(200, 16, 32, 33, b"Z 281\n");
 }
 
 // 3, the letter, on the first line.
@@ -174,23 +215,28 @@ fn middle_letters() {
     with(6, b"\n");
     with(6, b"\r\n");
     with(6, b"R   2   0   0   0   0   0   0   0   0\n");
-    with(6, b"Q   2   0   0   0   0   0   0   0   0\n");
+    with(6, b"S   2   0   0   0   0   0   0   0   0\n");
     with(6, b"\x00   2   0   0   0   0   0   0   0   0\n");
     with(6, b"\xd8   2   0   0   0   0   0   0   0   0\n");
     with(9, b"X   2   0   0   0   0   0   0   0   0\n");
     with(10, b"R   2   3\n");
+    with(6, b"Q   1   1   0   0   0   0   0   0   0   0\n");
+    with(9, b"Q   1   1   0   0   0   0   0   0   0   0\n");
+    with(12, b"P   1   1\n");
+    with(13, b"q   2   2   0   0   0   0   0   0   0   0\n");
 }
 
 // On the last line, where it is missing, and after it.
 fn last_letters() {
     text(b"B   1   1\n");
     with(6, b"Z   4\n");
-    with(11, b"B   1   3\n");
-    with(11, b"");
-    with(11, b"\n");
-    with(12, b"\n");
-    with(12, b"Z   9\n");
-    with(12, b"P   1   1\n");
+    with(14, b"B   1   3\n");
+    with(14, b"");
+    with(14, b"\n");
+    with(15, b"\n");
+    with(15, b"Z  12\n");
+    with(15, b"P   1   1\n");
+    with(15, b"Q   1   1   0   0   0   0   0   0   0   0\n");
 }
 
 // 3, the letter.
@@ -214,12 +260,15 @@ fn first_lengths() {
 fn later_lengths() {
     with(6, b"X   2   0   0   0   0   0   0   0   0 \n");
     with(6, b"X   2   0   0   0   0   0   0   0   0\r\n");
-    with(6, b"Q    9\n");
+    with(6, b"S    9\n");
     with(8, b"P   1\n");
     with(10, b"P   3   3   0\n");
-    with(11, b"Z\n");
-    with(11, b"Z   9\r\n");
-    with(11, b"Z    9\n");
+    with(12, b"Q   3   2\n");
+    with(12, b"Q   3   2  -1   2   0   0   0   0   0\n");
+    with(12, b"Q   3   2  -1   2   0   0   0   0   0  -3   0\n");
+    with(14, b"Z\n");
+    with(14, b"Z  12\r\n");
+    with(14, b"Z   12\n");
 }
 
 // 4, the length.
@@ -292,8 +341,11 @@ pub fn misspelt() {
     field(8, 1, b"  01");
     field(9, 2, b"3   ");
     field(10, 2, b"  +3");
-    field(11, 1, b"    ");
-    field(11, 1, b"  -0");
+    field(11, 1, b"  01");
+    field(12, 10, b" - 3");
+    field(13, 3, b"0   ");
+    field(14, 1, b"    ");
+    field(14, 1, b"  -0");
 }
 
 // 6, a number outside its range; the leftmost field that is wrong decides. With n 2 the first number outside is in line 3.
@@ -313,22 +365,36 @@ pub fn ranges() {
     field(8, 1, b"   0");
     field(9, 2, b"  17");
     field(10, 1, b"  -1");
-    field(11, 1, b" 249");
-    field(11, 1, b"  -1");
+    field(11, 1, b"   0");
+    field(11, 2, b"  17");
+    field(12, 3, b"  -4");
+    field(12, 10, b"   4");
+    field(14, 1, b" 281");
+    field(14, 1, b"  -1");
 }
 
 // 8, a line over its limit: before 9, 10 and what is wrong in a later line; after 6.
 pub fn overs() {
-    books::over_by(201, 16, 1, b"Z 218\n");
-    books::over_by(200, 17, 0, b"Z 217\n");
-    books::over_by(0, 16, 33, b"Z  49\n");
-    books::over(0, 17, 0, b"R\n");
-    books::over(0, 16, 0, b"X   0   0   0   0   0   0   0   0   0\n");
-    books::over(0, 16, 0, b"X  49   0   0   0   0   0   0   0   0\n");
-    books::over(0, 1, 32, b"P   2   2\n");
+    books::over_by(201, 16, 1, 0, b"Z 218\n");
+    books::over_by(200, 17, 0, 0, b"Z 217\n");
+    books::over_by(0, 16, 33, 0, b"Z  49\n");
+    books::over(0, 17, 0, 0, b"R\n");
+    books::over(0, 16, 0, 0, b"X   0   0   0   0   0   0   0   0   0\n");
+    books::over(0, 16, 0, 0, b"X  49   0   0   0   0   0   0   0   0\n");
+    books::over(0, 1, 32, 0, b"P   2   2\n");
 }
 
-// 9 and 10: an exception without head, a preference that names a missing one; 6 comes before them.
+// 19, a Q line over its limit, in the same places; after 4.
+pub fn conditional_overs() {
+    books::over_by(200, 16, 0, 33, b"Z 249\n");
+    books::over_by(0, 1, 33, 33, b"Z  67\n");
+    books::over(0, 1, 0, 33, b"P\n");
+    books::over(0, 1, 0, 32, b"Q   2   2   0   0   0   0   0   0   0   0\n");
+    books::over(0, 1, 0, 32, b"Q   2   2   0   0   0   0   0   0   0  49\n");
+    books::over(0, 1, 0, 32, b"Q   1   1\n");
+}
+
+// 9 and 10: an exception without head, a P or Q line that names a missing one; 6 comes before them.
 pub fn heads() {
     fields(5, 1, b"   0   1");
     field(6, 1, b"   0");
@@ -339,19 +405,26 @@ pub fn heads() {
     field(9, 2, b"  13");
     fields(10, 1, b"  16  16");
     fields(8, 1, b"   4  17");
+    field(11, 1, b"   4");
+    field(12, 2, b"  16");
+    fields(13, 1, b"   4  17");
+    with(12, b"Q   4   2  -1   2   0   0   0   0   0  -4\n");
     with(5, b"P   1   1\n");
+    with(5, b"Q   1   1   0   0   0   0   0   0   0   0\n");
     with(7, b"");
 }
 
 // 11, Z's number wrong.
 pub fn totals() {
     text(b"B   1   1\nZ   1\n");
-    field(11, 1, b"   8");
-    field(11, 1, b"  10");
-    field(11, 1, b"   0");
-    field(11, 1, b" 248");
+    field(14, 1, b"  11");
+    field(14, 1, b"  13");
+    field(14, 1, b"   9");
+    field(14, 1, b"   0");
+    field(14, 1, b" 280");
     with(10, b"");
-    with(11, b"Z   8\n\n");
+    with(13, b"");
+    with(14, b"Z  11\n\n");
 }
 
 // Small book k read into a slice of m numbers.
@@ -371,13 +444,13 @@ fn text_into(t: &[u8], m: usize) {
 pub fn lent() {
     let k1 = b"B   1   1\nZ   0\n";
     book_into(1, k1, 0);
-    book_into(1, k1, 3);
     book_into(1, k1, 4);
+    book_into(1, k1, 5);
     let k7 =
         b"B   1   3\nR   0   0   0   0   0   1   2   0   0\nR   3   1   0   0   0   0   0   0   0\nX   1   0   0   0   0   0   0   0   0\nX   2   0   0   0   0   0   0   0   0\nZ   4\n";
-    book_into(7, k7, 39);
     book_into(7, k7, 40);
     book_into(7, k7, 41);
+    book_into(7, k7, 42);
     text_into(b"B   1   1\nZ   1\n", 3);
     text_into(b"", 0);
 }

@@ -1,5 +1,5 @@
 // Read and Write on texts and tables, good and bad, a row for each; and each leaves the lent slice as it was where it refuses. What is to
-// come out stands in the file `stdout` and follows from document 01.
+// come out stands in the file `stdout` and follows from documents 01 and 02.
 mod books;
 mod lines;
 mod rows;
@@ -18,6 +18,7 @@ fn main() {
     lines::misspelt();
     lines::ranges();
     lines::overs();
+    lines::conditional_overs();
     lines::heads();
     lines::totals();
     lines::lent();
@@ -25,5 +26,6 @@ fn main() {
     tables::few();
     tables::counts();
     tables::lines();
+    tables::conditional_lines();
     tables::lent();
 }

@@ -72,6 +72,7 @@ fn reading(r: Reading) {
             number(s.plain);
             number(s.exceptions);
             number(s.preferences);
+            number(s.conditionals);
         }
         Reading::Refused(q) => {
             refusal(q);
@@ -243,9 +244,9 @@ fn write_part(t: &[i32], b: &mut [u8], m: usize) {
     letter(b'\n');
 }
 
-// Write into a slice of m bytes, m at most 300.
+// Write into a slice of m bytes, m at most 500.
 pub fn write_short(t: &[i32], m: usize) {
-    let mut b = [MARK_BYTE; 300];
+    let mut b = [MARK_BYTE; 500];
     io::write_all(1, b" into");
     number(m);
     write_part(t, &mut b, m);

@@ -1,42 +1,53 @@
 // Tables for Write: the table of the book in `lines`, which is right, and the same with a number or two exchanged, or cut.
 use crate::rows;
 
-// n and the counts; then the R, X and P rows, from places 4, 31 and 58 on.
-fn table() -> [i32; 64] {
-    let mut t = [0i32; 64];
+// n and the counts; then the R, X, P and Q rows, from places 5, 32, 59 and 65 on.
+fn table() -> [i32; 95] {
+    let mut t = [0i32; 95];
     t[0] = 3;
     t[1] = 3;
     t[2] = 3;
     t[3] = 3;
-    t[9] = 1;
-    t[10] = 2;
-    t[13] = 3;
-    t[14] = 1;
-    t[22] = -1;
-    t[23] = -2;
-    t[27] = 3;
-    t[30] = -3;
-    t[31] = 1;
-    t[40] = 2;
-    t[49] = 3;
-    t[58] = 1;
-    t[59] = 2;
+    t[4] = 3;
+    t[10] = 1;
+    t[11] = 2;
+    t[14] = 3;
+    t[15] = 1;
+    t[23] = -1;
+    t[24] = -2;
+    t[28] = 3;
+    t[31] = -3;
+    t[32] = 1;
+    t[41] = 2;
+    t[50] = 3;
+    t[59] = 1;
     t[60] = 2;
-    t[61] = 3;
+    t[61] = 2;
     t[62] = 3;
     t[63] = 3;
+    t[64] = 3;
+    t[65] = 1;
+    t[66] = 3;
+    t[71] = 2;
+    t[75] = 3;
+    t[76] = 2;
+    t[77] = -1;
+    t[78] = 2;
+    t[84] = -3;
+    t[85] = 2;
+    t[86] = 2;
     t
 }
 
 // The row of Write of such a table.
-fn row(t: &[i32; 64]) {
+fn row(t: &[i32; 95]) {
     rows::write_row(t);
 }
 
 // A table with v at a place.
-fn set(t: [i32; 64], at: usize, v: i32) -> [i32; 64] {
+fn set(t: [i32; 95], at: usize, v: i32) -> [i32; 95] {
     let mut u = t;
-    if at < 64 {
+    if at < 95 {
         u[at] = v;
     }
     u
@@ -100,34 +111,34 @@ fn cut(m: usize) {
 // The table is what Read gives of its text, and Write gives the text back. Other good tables.
 pub fn good() {
     let text =
-        b"B   1   3\nR   0   0   0   0   0   1   2   0   0\nR   3   1   0   0   0   0   0   0   0\nR  -1  -2   0   0   0   3   0   0  -3\nX   1   0   0   0   0   0   0   0   0\nX   2   0   0   0   0   0   0   0   0\nX   3   0   0   0   0   0   0   0   0\nP   1   2\nP   2   3\nP   3   3\nZ   9\n";
+        b"B   1   3\nR   0   0   0   0   0   1   2   0   0\nR   3   1   0   0   0   0   0   0   0\nR  -1  -2   0   0   0   3   0   0  -3\nX   1   0   0   0   0   0   0   0   0\nX   2   0   0   0   0   0   0   0   0\nX   3   0   0   0   0   0   0   0   0\nP   1   2\nP   2   3\nP   3   3\nQ   1   3   0   0   0   0   2   0   0   0\nQ   3   2  -1   2   0   0   0   0   0  -3\nQ   2   2   0   0   0   0   0   0   0   0\nZ  12\n";
     let t = table();
     rows::letter(b't');
     rows::read_same(text, &t);
     rows::write_same(&t, text);
     with(0, 48);
-    with(13, 0);
-    minus(21, 3);
+    with(14, 0);
+    minus(22, 3);
 }
 
 // Tables with no row: a good one, one too short (16 before 6), one too long.
 pub fn few() {
-    let right = [1, 0, 0, 0];
-    io::write_all(1, b"1 0 0 0");
-    rows::write_row(&right);
-    let short = [49, 0, 0];
-    io::write_all(1, b"49 0 0");
-    rows::write_row(&short);
-    let long = [1, 0, 0, 0, 0];
+    let right = [1, 0, 0, 0, 0];
     io::write_all(1, b"1 0 0 0 0");
+    rows::write_row(&right);
+    let short = [49, 0, 0, 0];
+    io::write_all(1, b"49 0 0 0");
+    rows::write_row(&short);
+    let long = [1, 0, 0, 0, 0, 0];
+    io::write_all(1, b"1 0 0 0 0 0");
     rows::write_row(&long);
 }
 
-// 16 under 4 numbers; 6 for n; 8 for the counts; 16 where the length differs from the counts.
+// 16 under 5 numbers; 6 for n; 8 for the counts; 16 where the length differs from the counts.
 pub fn counts() {
     cut(0);
     cut(1);
-    cut(3);
+    cut(4);
     with(0, 0);
     with(0, 49);
     minus(0, 1);
@@ -141,37 +152,57 @@ pub fn counts() {
     with(3, 33);
     with(3, 2147483647);
     least(3);
+    minus(4, 1);
+    with(4, 33);
+    with(4, 2147483647);
+    least(4);
     with_two(0, 0, 1, 201);
-    cut(4);
-    cut(63);
+    cut(5);
+    cut(94);
     with(1, 4);
     with(2, 2);
     with(3, 0);
-    with_two(1, 4, 4, 4);
+    with(4, 2);
+    with(4, 32);
+    with_two(1, 4, 5, 4);
 }
 
 // 6, 9 and 10 in the rows, each with the line that the row would have; in a row 6 comes first, and the first row that is wrong decides.
 pub fn lines() {
-    with(4, 4);
-    minus(12, 4);
-    with(14, 2147483647);
-    with(30, 4);
-    minus(31, 4);
-    least(57);
-    with(58, 0);
-    with(61, 17);
-    minus(63, 1);
-    with(31, 0);
-    with(40, 0);
-    with(49, 0);
-    with_two(40, 0, 48, 4);
-    with_two(40, 0, 50, 4);
-    with(58, 4);
-    with(61, 4);
-    with(62, 16);
-    with_two(58, 4, 59, 0);
+    with(5, 4);
+    minus(13, 4);
+    with(15, 2147483647);
+    with(31, 4);
+    minus(32, 4);
+    least(58);
+    with(59, 0);
+    with(62, 17);
+    minus(64, 1);
+    with(32, 0);
+    with(41, 0);
+    with(50, 0);
+    with_two(41, 0, 49, 4);
+    with_two(41, 0, 51, 4);
+    with(59, 4);
+    with(62, 4);
+    with(63, 16);
     with_two(59, 4, 60, 0);
+    with_two(60, 4, 61, 0);
     with(0, 2);
+}
+
+// The same in the rows of Q lines.
+pub fn conditional_lines() {
+    with(65, 0);
+    with(66, 17);
+    with(67, 4);
+    least(78);
+    minus(94, 4);
+    with(65, 4);
+    with(76, 4);
+    with(85, 16);
+    with_two(65, 4, 74, 4);
+    with_two(65, 4, 75, 0);
 }
 
 // The table written into a slice of m bytes.
@@ -184,10 +215,10 @@ fn into(m: usize) {
 // 15, the lent slice: one byte short, just enough, one more; after all else.
 pub fn lent() {
     into(0);
-    into(273);
-    into(274);
-    into(275);
-    let bad = [0, 0, 0, 0];
-    io::write_all(1, b"0 0 0 0");
+    into(399);
+    into(400);
+    into(401);
+    let bad = [0, 0, 0, 0, 0];
+    io::write_all(1, b"0 0 0 0 0");
     rows::write_short(&bad, 0);
 }

@@ -1,4 +1,4 @@
--- Books that are accepted: the empty book, and a full one of 48 statements, 200 R, 16 X and 32 P lines. So no shape of book is shut out.
+-- Books that are accepted: the empty book, and a full one of 48 statements, 200 R, 16 X, 32 P and 32 Q lines. So no shape of book is shut out.
 -- The tables' tests are computed; that the texts are accepted follows by `write-read`.
 use mathlib.Core.Path.{_≡_, refl}
 use mathlib.Core.List.{List, [], _∷_, _++_}
@@ -25,14 +25,15 @@ empty-table = refl
 pub empty-text : readText (textOf emptyShape []) ≡ accepted emptyShape []
 empty-text = write-read (tableOf emptyShape []) emptyShape [] empty-table .0
 
--- The full book: constraints with empty bodies, exceptions that give +1, preferences of the first exception over itself.
+-- The full book: constraints with empty bodies, exceptions that give +1, preferences of the first exception over itself, and the same under an empty condition.
 unfoldable pub fullShape : Shape
-fullShape = record { statements = limit.statements; plain = limit.plain; exceptions = limit.exceptions; preferences = limit.preferences }
+fullShape = record { statements = limit.statements; plain = limit.plain; exceptions = limit.exceptions; preferences = limit.preferences; conditionals = limit.conditionals }
 
 unfoldable pub fullRows : List ℤ
 fullRows =
     replicate (limit.plain * ruleFields) (pos 0)
-    ++ (concatMap (λ x. x) (replicate limit.exceptions (pos 1 ∷ replicate 8 (pos 0))) ++ replicate (limit.preferences * preferenceFields) (pos 1))
+    ++ (concatMap (λ x. x) (replicate limit.exceptions (pos 1 ∷ replicate 8 (pos 0)))
+    ++ (replicate (limit.preferences * preferenceFields) (pos 1) ++ concatMap (λ x. x) (replicate limit.conditionals (pos 1 ∷ pos 1 ∷ replicate 8 (pos 0)))))
 
 pub full-table : testTable (tableOf fullShape fullRows) ≡ accepted fullShape fullRows
 unfolding kinds kind unknown contents fieldsOf numbersOf mostRows most rowOnce rangeOf between inside andThen testField code numbersIn filledIn headless missing unless judged both pick consIf some concatMap toNat rowOf prepend onLine tableOf countsOf frontOf allCounts countAt shapeFrom sumTo layout cut rowsOf testFields rowFault testRow testRows shapeIn miscount testTable fullShape fullRows

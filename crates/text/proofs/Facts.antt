@@ -19,7 +19,7 @@ use Rattle.book.specs.declared.Measure.the-variants.{Numbers}
 use Rattle.book.specs.declared.Shape.{Shape}
 use Rattle.book.specs.declared.Content.{Content}
 use Rattle.book.specs.declared.Content.the-variants.{Edition, Literal, Exception}
-use Rattle.book.specs.Kinds.{kinds, kind, contents, fieldsOf, numbersOf, none, first, last, plain, exception, preference, ruleNumbers, preferenceNumbers, rangeOf}
+use Rattle.book.specs.Kinds.{kinds, kind, contents, fieldsOf, numbersOf, none, first, last, plain, exception, preference, conditional, entriesEach, ruleNumbers, preferenceNumbers, conditionalNumbers, rangeOf}
 use Rattle.book.specs.Counts.{countsOf, countAt, sumTo, startOf, rowNumbers, textBytes, measured}
 use Rattle.book.proofs.Counts.{sum-next, sum-up}
 use Rattle.text.specs.declared.Field.the-variants.{Value}
@@ -29,7 +29,7 @@ use Rattle.text.specs.Reading.{readText, tableOf}
 use Rattle.text.specs.Reading.Outcome.{accepted}
 use Rattle.text.specs.Tables.{layout, cut, rowsOf, testFields, rowFault, testRows}
 use Rattle.text.specs.Accepted.{rowAt, RowRight, Accepted}
-use Rattle.text.proofs.KindFacts.{unfilled-some, numbers-wide}
+use Rattle.text.proofs.KindFacts.{unfilled-some, numbers-same, numbers-wide}
 use Rattle.text.proofs.Lines.{first-numbers}
 use Rattle.text.proofs.Layouts.{row-counts, counts-long}
 use Rattle.text.proofs.Books.{in-first}
@@ -154,6 +154,63 @@ literal-size n (pos m) e = leb-true m n (both-right (leZ (negℤ (pos n)) (pos m
 literal-size zero (negsuc m) e = absurd (clash (both-left (leZ (pos 0) (negsuc m)) _ e))
 literal-size (suc n) (negsuc m) e = omega (arith, leb-true m n (both-left (leb m n) _ e))
 
+-- ---- the numbers of accepted rows
+-- The number of one of m exceptions.
+pub record Named (m : ℕ) (v : ℤ) : Type 0 where
+  pub number : ℕ
+  pub is : v ≡ pos number
+  pub low : 1 ≤ number
+  pub high : number ≤ m
+
+exception-named : (m n : ℕ) (v : ℤ) → inside (rangeOf Exception n) v ≡ true → leZ v (pos m) ≡ true → Named m v
+unfolding inside between rangeOf
+exception-named m n (pos a) e f = record { number = a; is = refl; low = leb-true 1 a (both-left (leb 1 a) _ e); high = leb-true a m f }
+exception-named m n (negsuc a) e f = absurd (clash (both-left (leZ (pos 1) (negsuc a)) _ e))
+
+-- Exceptions that a row names are the book's own.
+some-not : (m : ℕ) (v : ℤ) (vs : List ℤ) → some (λ u. not (leZ u (pos m))) (v ∷ vs) ≡ false → (leZ v (pos m) ≡ true) × (some (λ u. not (leZ u (pos m))) vs ≡ false)
+unfolding some
+some-not m v vs e = go (leZ v (pos m)) e
+  where
+    go : (b : Bool) → elim (not b) [ true ↦ true | false ↦ some (λ u. not (leZ u (pos m))) vs ] ≡ false → (b ≡ true) × (some (λ u. not (leZ u (pos m))) vs ≡ false)
+    go true e = (refl, e)
+    go false e = absurd (clash (sym e))
+
+named-at : (m : ℕ) (cs : List Content) (vs : List ℤ) (j : ℕ) → some (λ u. not (leZ u (pos m))) (numbersIn Exception cs vs) ≡ false → j < length vs → getD cs j Edition ≡ Exception → leZ (getD vs j (pos 0)) (pos m) ≡ true
+unfolding numbersIn code consIf
+named-at m [] vs j e h c = absurd (let z : _≡_ {A = ℕ} 0 3 = ap code c in omega arith)
+named-at m (d ∷ ds) [] j e h c = absurd (not-suc-le-zero h)
+named-at m (d ∷ ds) (v ∷ vs) zero e h c = some-not m v (numbersIn Exception ds vs) (rw c at e) .0
+named-at m (d ∷ ds) (v ∷ vs) (suc j) e h c = go (eqb (code Exception) (code d)) e (λ p. named-at m ds vs j p (omega arith) c)
+  where
+    go : (b : Bool) → some (λ u. not (leZ u (pos m))) (consIf b v (numbersIn Exception ds vs)) ≡ false → (some (λ u. not (leZ u (pos m))) (numbersIn Exception ds vs) ≡ false → leZ (getD vs j (pos 0)) (pos m) ≡ true)
+        → leZ (getD vs j (pos 0)) (pos m) ≡ true
+    go true e ih = ih (some-not m v (numbersIn Exception ds vs) e .1)
+    go false e ih = ih e
+
+start-in : (s : Shape) (k i : ℕ) → k < none → i < countAt s k → startOf s k + i * kind k .numbers + kind k .numbers ≤ rowNumbers s
+start-in s k i h l =
+    let n = sum-next (measured Numbers) s k (startOf s k) (countAt s k) (kind k .numbers) refl refl refl in
+    omega (arith, n, sum-up (measured Numbers) s (k + 1) (omega arith), suc-mul i (kind k .numbers), mul-le-mul-right (kind k .numbers) l)
+
+-- Number j of row i of the kind at place k, by what it holds: heads and entries lie in -n to n; an exception is one of the book's.
+module _ (s : Shape) (ws : List ℤ) (a : Accepted s ws) (k i j : ℕ) (h : first < k) (g : k < last) (l : i < countAt s k) (w : j < kind k .numbers) where
+  literal-at : getD (numbersOf (kind k)) j Edition ≡ Literal → natAbs (getD ws (startOf s k + i * kind k .numbers + j) (pos 0)) ≤ s .statements
+  literal-at c = literal-size (s .statements) _ (rw c at (a .rows k i h g l .ranges j w))
+
+  row-long : length (rowAt s ws k i) ≡ kind k .numbers
+  row-long = length-take-le (kind k .numbers) (drop (startOf s k + i * kind k .numbers) ws) (simp length-drop (omega (arith, a .size, start-in s k i (omega arith) l)))
+
+  no-larger : getD (numbersOf (kind k)) j Edition ≡ Exception → leZ (getD (rowAt s ws k i) j (pos 0)) (pos (s .exceptions)) ≡ true
+  unfolding missing
+  no-larger c = named-at (s .exceptions) (fieldsOf (kind k)) (rowAt s ws k i) j (a .rows k i h g l .names) (rw row-long w) (rw (numbers-same k h g) at c)
+
+  exception-at : getD (numbersOf (kind k)) j Edition ≡ Exception → Named (s .exceptions) (getD ws (startOf s k + i * kind k .numbers + j) (pos 0))
+  exception-at c =
+      exception-named (s .exceptions) (s .statements) _ (rw c at (a .rows k i h g l .ranges j w))
+      (rw (getD-take (kind k .numbers) (drop (startOf s k + i * kind k .numbers) ws) j (pos 0) w, getD-drop (startOf s k + i * kind k .numbers) ws j (pos 0)) at (no-larger c))
+
+-- ---- rules
 -- A kind whose numbers are all heads and entries.
 abbrev pub RuleKind : ℕ → Type 0
 RuleKind k = (first < k) × (k < last) × (kind k .numbers ≡ ruleNumbers) × (numbersOf (kind k) ≡ replicate ruleNumbers Literal)
@@ -169,57 +226,30 @@ exception-rules = (omega arith, omega arith, refl, refl)
 -- Heads and entries lie in -n to n.
 pub entry-small : (s : Shape) (ws : List ℤ) → Accepted s ws → (k : ℕ) → RuleKind k → (i j : ℕ) → i < countAt s k → j < ruleNumbers → natAbs (getD ws (startOf s k + i * ruleNumbers + j) (pos 0)) ≤ s .statements
 entry-small s ws a k r i j l h =
-    let e = a .rows k i (r .0) (r .1) l .ranges j (rw (r .2) h) in
-    let c : getD (numbersOf (kind k)) j Edition ≡ Literal = ap (λ (l : List Content). getD l j Edition) (r .3) ∙ getD-replicate ruleNumbers j Literal Edition h in
-    let p : startOf s k + i * kind k .numbers + j ≡ startOf s k + i * ruleNumbers + j = ap (λ (w : ℕ). startOf s k + i * w + j) (r .2) in
-    literal-size (s .statements) _ (rw c at (ap (λ (m : ℕ). inside (rangeOf (getD (numbersOf (kind k)) j Edition) (s .statements)) (getD ws m (pos 0))) (sym p) ∙ e))
+    rw (ap (λ (w : ℕ). startOf s k + i * w + j) (r .2))
+    at (literal-at s ws a k i j (r .0) (r .1) l (rw (r .2) h) (ap (λ (l : List Content). getD l j Edition) (r .3) ∙ getD-replicate ruleNumbers j Literal Edition h))
 
--- The number of one of m exceptions.
-pub record Named (m : ℕ) (v : ℤ) : Type 0 where
-  pub number : ℕ
-  pub is : v ≡ pos number
-  pub low : 1 ≤ number
-  pub high : number ≤ m
-
--- Exceptions that a preference names are the book's own.
-some-not : (m : ℕ) (v : ℤ) (vs : List ℤ) → some (λ u. not (leZ u (pos m))) (v ∷ vs) ≡ false → (leZ v (pos m) ≡ true) × (some (λ u. not (leZ u (pos m))) vs ≡ false)
-unfolding some
-some-not m v vs e = go (leZ v (pos m)) e
-  where
-    go : (b : Bool) → elim (not b) [ true ↦ true | false ↦ some (λ u. not (leZ u (pos m))) vs ] ≡ false → (b ≡ true) × (some (λ u. not (leZ u (pos m))) vs ≡ false)
-    go true e = (refl, e)
-    go false e = absurd (clash (sym e))
-
-exception-named : (m n : ℕ) (v : ℤ) → inside (rangeOf Exception n) v ≡ true → leZ v (pos m) ≡ true → Named m v
-unfolding inside between rangeOf
-exception-named m n (pos a) e f = record { number = a; is = refl; low = leb-true 1 a (both-left (leb 1 a) _ e); high = leb-true a m f }
-exception-named m n (negsuc a) e f = absurd (clash (both-left (leZ (pos 1) (negsuc a)) _ e))
-
-two-named : (m : ℕ) (vs : List ℤ) → length vs ≡ preferenceNumbers → missing m (kind preference) vs ≡ false → (j : ℕ) → j < preferenceNumbers → leZ (getD vs j (pos 0)) (pos m) ≡ true
-unfolding missing fieldsOf kind kinds contents numbersIn code consIf
-two-named m [] l e j h = absurd (omega arith)
-two-named m (v ∷ []) l e j h = absurd (omega arith)
-two-named m (v ∷ w ∷ []) l e zero h = some-not m v (w ∷ []) e .0
-two-named m (v ∷ w ∷ []) l e (suc zero) h = some-not m w [] (some-not m v (w ∷ []) e .1) .0
-two-named m (v ∷ w ∷ []) l e (suc (suc j)) h = absurd (omega arith)
-two-named m (v ∷ w ∷ x ∷ vs) l e j h = absurd (omega arith)
-
-preference-kind : (kind preference .numbers ≡ preferenceNumbers) × (numbersOf (kind preference) ≡ replicate preferenceNumbers Exception)
-unfolding kind kinds numbersOf contents
-preference-kind = (refl, refl)
-
-start-in : (s : Shape) (k i : ℕ) → k < none → i < countAt s k → startOf s k + i * kind k .numbers + kind k .numbers ≤ rowNumbers s
-start-in s k i h l =
-    let n = sum-next (measured Numbers) s k (startOf s k) (countAt s k) (kind k .numbers) refl refl refl in
-    omega (arith, n, sum-up (measured Numbers) s (k + 1) (omega arith), suc-mul i (kind k .numbers), mul-le-mul-right (kind k .numbers) l)
+-- ---- preferences
+-- P and Q rows begin with two exceptions; in a Q row entries follow.
+two-first : (ds : List Content) (j : ℕ) → j < preferenceNumbers → getD (Exception ∷ Exception ∷ ds) j Edition ≡ Exception
+two-first ds zero h = refl
+two-first ds (suc zero) h = refl
+two-first ds (suc (suc j)) h = absurd (omega arith)
 
 pub preference-named : (s : Shape) (ws : List ℤ) → Accepted s ws → (i j : ℕ) → i < countAt s preference → j < preferenceNumbers → Named (s .exceptions) (getD ws (startOf s preference + i * preferenceNumbers + j) (pos 0))
-preference-named s ws a i j l h =
-    let k = preference-kind in
-    let r = a .rows preference i (omega arith) (omega arith) l in
-    let z = startOf s preference + i * kind preference .numbers in
-    let w : length (rowAt s ws preference i) ≡ preferenceNumbers = length-take-le (kind preference .numbers) (drop z ws) (simp length-drop (omega (arith, a .size, start-in s preference i (omega arith) l))) ∙ k .0 in
-    let g = rw (getD-take (kind preference .numbers) (drop z ws) j (pos 0) (rw (k .0) h), getD-drop z ws j (pos 0)) at (two-named (s .exceptions) (rowAt s ws preference i) w (r .names) j h) in
-    let c : getD (numbersOf (kind preference)) j Edition ≡ Exception = ap (λ (l : List Content). getD l j Edition) (k .1) ∙ getD-replicate preferenceNumbers j Exception Edition h in
-    let e = exception-named (s .exceptions) (s .statements) (getD ws (z + j) (pos 0)) (rw c at (r .ranges j (rw (k .0) h))) g in
-    rw (ap (λ (m : ℕ). startOf s preference + i * m + j) (k .0)) at e
+unfolding kind kinds numbersOf contents
+preference-named s ws a i j l h = exception-at s ws a preference i j (omega arith) (omega arith) l h (two-first [] j h)
+
+module _ (s : Shape) (ws : List ℤ) (a : Accepted s ws) (i j : ℕ) (l : i < countAt s conditional) where
+  pub conditional-named : j < preferenceNumbers → Named (s .exceptions) (getD ws (startOf s conditional + i * conditionalNumbers + j) (pos 0))
+  unfolding kind kinds numbersOf contents
+  conditional-named h = exception-at s ws a conditional i j (omega arith) (omega arith) l (omega arith) (two-first (replicate (entriesEach + entriesEach) Literal) j h)
+
+  pub conditional-small : preferenceNumbers ≤ j → j < conditionalNumbers → natAbs (getD ws (startOf s conditional + i * conditionalNumbers + j) (pos 0)) ≤ s .statements
+  unfolding kind kinds numbersOf contents
+  conditional-small b h = literal-at s ws a conditional i j (omega arith) (omega arith) l h (then-entries j b h)
+    where
+      then-entries : (j : ℕ) → preferenceNumbers ≤ j → j < conditionalNumbers → getD (Exception ∷ Exception ∷ replicate (entriesEach + entriesEach) Literal) j Edition ≡ Literal
+      then-entries zero b h = absurd (omega arith)
+      then-entries (suc zero) b h = absurd (omega arith)
+      then-entries (suc (suc j)) b h = getD-replicate (entriesEach + entriesEach) j Literal Edition (omega arith)

@@ -16,7 +16,7 @@ use Rattle.logic.proofs.Decide.{clash}
 use Rattle.book.specs.declared.Kind.{Kind}
 use Rattle.book.specs.declared.Shape.{Shape}
 use Rattle.book.specs.declared.Content.the-variants.{Statements}
-use Rattle.book.specs.Kinds.{kinds, kind, unknown, none, first, last, plain, exception, preference, front, most, longest, rowOnce, mostRows, rangeOf}
+use Rattle.book.specs.Kinds.{kinds, kind, unknown, none, first, last, plain, exception, preference, conditional, front, most, longest, rowOnce, mostRows, rangeOf}
 use Rattle.book.specs.Counts.{countsOf, frontOf, allCounts, countAt, shapeFrom, total, rowNumbers, InLimits}
 use Rattle.book.proofs.Counts.{many}
 use Rattle.text.specs.Lines.{between, inside, lines}
@@ -86,7 +86,8 @@ count-at s ws zero h g = absurd (omega arith)
 count-at s ws (suc zero) h g = refl
 count-at s ws (suc (suc zero)) h g = refl
 count-at s ws (suc (suc (suc zero))) h g = refl
-count-at s ws (suc (suc (suc (suc k)))) h g = absurd (omega arith)
+count-at s ws (suc (suc (suc (suc zero)))) h g = refl
+count-at s ws (suc (suc (suc (suc (suc k))))) h g = absurd (omega arith)
 
 counted : (t : List ℤ) (k : ℕ) → first < k → k < last → countAt (shapeIn t) k ≡ toNat (getD t (kind k .count) (pos 0))
 unfolding shapeIn shapeFrom countAt allCounts countsOf kind kinds
@@ -94,7 +95,8 @@ counted t zero h g = absurd (omega arith)
 counted t (suc zero) h g = refl
 counted t (suc (suc zero)) h g = refl
 counted t (suc (suc (suc zero))) h g = refl
-counted t (suc (suc (suc (suc k)))) h g = absurd (omega arith)
+counted t (suc (suc (suc (suc zero)))) h g = refl
+counted t (suc (suc (suc (suc (suc k))))) h g = absurd (omega arith)
 
 -- Some test of a list holds if it holds at a place, and only then.
 some-none : {A : Type 0} (f : A → Bool) (xs : List A) (d : A) → ((k : ℕ) → k < length xs → f (getD xs k d) ≡ false) → some f xs ≡ false
@@ -175,12 +177,13 @@ unfolding inside between rangeOf toNat
 n-is (pos m) e = (refl, e)
 n-is (negsuc m) e = absurd (clash (both-left (leZ (pos 1) (negsuc m)) _ e))
 
-four-numbers : (t : List ℤ) → 4 ≤ length t → getD t 0 (pos 0) ∷ getD t 1 (pos 0) ∷ getD t 2 (pos 0) ∷ getD t 3 (pos 0) ∷ drop 4 t ≡ t
-four-numbers [] h = absurd (omega arith)
-four-numbers (a ∷ []) h = absurd (omega arith)
-four-numbers (a ∷ b ∷ []) h = absurd (omega arith)
-four-numbers (a ∷ b ∷ c ∷ []) h = absurd (omega arith)
-four-numbers (a ∷ b ∷ c ∷ d ∷ t) h = refl
+front-numbers : (t : List ℤ) → front ≤ length t → getD t 0 (pos 0) ∷ getD t 1 (pos 0) ∷ getD t 2 (pos 0) ∷ getD t 3 (pos 0) ∷ getD t 4 (pos 0) ∷ drop front t ≡ t
+front-numbers [] h = absurd (omega arith)
+front-numbers (a ∷ []) h = absurd (omega arith)
+front-numbers (a ∷ b ∷ []) h = absurd (omega arith)
+front-numbers (a ∷ b ∷ c ∷ []) h = absurd (omega arith)
+front-numbers (a ∷ b ∷ c ∷ d ∷ []) h = absurd (omega arith)
+front-numbers (a ∷ b ∷ c ∷ d ∷ e ∷ t) h = refl
 
 -- What an accepted table is.
 pub record Table (t : List ℤ) (s : Shape) (ws : List ℤ) : Type 0 where
@@ -212,8 +215,9 @@ module _ (t : List ℤ) (long : front ≤ length t) (n : inside (rangeOf Stateme
         count-is _ _ (count-right plain (omega arith) (omega arith)) .0,
         count-is _ _ (count-right exception (omega arith) (omega arith)) .0,
         count-is _ _ (count-right preference (omega arith) (omega arith)) .0,
+        count-is _ _ (count-right conditional (omega arith) (omega arith)) .0,
       )
-      (four-numbers t long)
+      (front-numbers t long)
 
   module _ (s : Shape) (ws : List ℤ) (exact : length t ≡ front + rowNumbers (shapeIn t)) (e : testRows (shapeIn t) (rowsOf (shapeIn t) (drop front t)) 2 ≡ accepted s ws) where
     rest-size : length (drop front t) ≡ rowNumbers (shapeIn t)

@@ -1,4 +1,4 @@
--- A number table is refused only by 16, 6, 8, 9 and 10 (document 01, 'Turned down, by place').
+-- A number table is refused only by 16, 6, 8, 9 and 10 (document 01, 'Turned down, by place'); so not by 19, which Q lines of a text have.
 -- By cases on the tests in their order; a row's own refusals by its kind's contents, all of whose ranges refuse by 6.
 use mathlib.Core.Path.{_≡_, refl, sym, _∙_}
 use mathlib.Core.Bool.{Bool, true, false, not}

@@ -1,15 +1,15 @@
 -- Texts and tables with their refusal and its line, or 0 and how many numbers the table has: computed through the definitions.
--- They are the small books K7 and K8, and for each refusal a case or more, at the first, a middle and the last line.
+-- They are the small books K7 and K8, the case of document 02, (e), and for each refusal a case or more, at the first, a middle and the last line.
 use mathlib.Core.Bool.{Bool, true, false}
-use mathlib.Core.List.{List, [], _∷_}
+use mathlib.Core.List.{List, [], _∷_, _++_}
 use Prim.Native.Nat.{ℕ}
 use Prim.Native.Char.{code as codeOf}
 use Prim.Native.String.{String}
 use Prim.Native.String as S
 use lib.Dec.{T, eqb}
 use lib.IntN.{ℤ, pos, negsuc}
-use lib.ListN.{length}
-use Rattle.logic.specs.Tests.{both, either, pick, consIf, every, some}
+use lib.ListN.{length, replicate}
+use Rattle.logic.specs.Tests.{both, either, pick, consIf, every, some, concatMap}
 use Rattle.book.specs.Kinds.{kinds, kind, unknown, contents, fieldsOf, numbersOf, bytes, most, longest, rowOnce, mostRows, rangeOf}
 use Rattle.book.specs.Counts.{countsOf, frontOf, allCounts, countAt, shapeFrom, sumTo}
 use Rattle.text.specs.Fields.{columnOf, columns, digitOf, sizeOf, minusIn, signed, same, isSpace, isMinus, isDigit, someFrom, someByte, otherByte, strayByte, stray, spaceAfterDigit, gapped, leadingZero, wrongZero, misspelling, readColumns, spelt, firstField, inColumns}
@@ -31,16 +31,25 @@ abbrev texts : List (ℕ × ℕ × String) → Bool
 texts [] = true
 texts (v ∷ vs) = elim (is (v .0) (v .1) (readText (ascii (v .2)))) [ true ↦ texts vs | false ↦ false ]
 
+-- Texts with many equal lines: each piece so many times.
+abbrev pieces : List (ℕ × String) → List ℕ
+pieces [] = []
+pieces (p ∷ ps) = concatMap (λ x. x) (replicate (p .0) (ascii (p .1))) ++ pieces ps
+
+abbrev longTexts : List (ℕ × ℕ × List (ℕ × String)) → Bool
+longTexts [] = true
+longTexts (v ∷ vs) = elim (is (v .0) (v .1) (readText (pieces (v .2)))) [ true ↦ longTexts vs | false ↦ false ]
+
 abbrev tables : List (ℕ × ℕ × List ℤ) → Bool
 tables [] = true
 tables (v ∷ vs) = elim (is (v .0) (v .1) (testTable (v .2))) [ true ↦ tables vs | false ↦ false ]
 
 pub texts-right : T (texts
-    ((0, 40, "B   1   3\nR   0   0   0   0   0   1   2   0   0\nR   3   1   0   0   0   0   0   0   0\nX   1   0   0   0   0   0   0   0   0\nX   2   0   0   0   0   0   0   0   0\nZ   4\n") ∷
-    (0, 42, "B   1   3\nR   0   0   0   0   0   1   2   0   0\nR   3   1   0   0   0   0   0   0   0\nX   1   0   0   0   0   0   0   0   0\nX   2   0   0   0   0   0   0   0   0\nP   1   2\nZ   5\n") ∷
-    (0, 4, "B   1   1\nZ   0\n") ∷
-    (0, 4, "B   1  48\nZ   0\n") ∷
-    (0, 150, "B   1   1\nX   1   0   0   0   0   0   0   0   0\nX   1   0   0   0   0   0   0   0   0\nX   1   0   0   0   0   0   0   0   0\nX   1   0   0   0   0   0   0   0   0\nX   1   0   0   0   0   0   0   0   0\nX   1   0   0   0   0   0   0   0   0\nX   1   0   0   0   0   0   0   0   0\nX   1   0   0   0   0   0   0   0   0\nX   1   0   0   0   0   0   0   0   0\nX   1   0   0   0   0   0   0   0   0\nX   1   0   0   0   0   0   0   0   0\nX   1   0   0   0   0   0   0   0   0\nX   1   0   0   0   0   0   0   0   0\nX   1   0   0   0   0   0   0   0   0\nX   1   0   0   0   0   0   0   0   0\nX   1   0   0   0   0   0   0   0   0\nP  16  13\nZ  17\n") ∷
+    ((0, 41, "B   1   3\nR   0   0   0   0   0   1   2   0   0\nR   3   1   0   0   0   0   0   0   0\nX   1   0   0   0   0   0   0   0   0\nX   2   0   0   0   0   0   0   0   0\nZ   4\n") ∷
+    (0, 43, "B   1   3\nR   0   0   0   0   0   1   2   0   0\nR   3   1   0   0   0   0   0   0   0\nX   1   0   0   0   0   0   0   0   0\nX   2   0   0   0   0   0   0   0   0\nP   1   2\nZ   5\n") ∷
+    (0, 51, "B   1   3\nR   0   0   0   0   0   1   3   0   0\nX   1   0   0   0   0   0   0   0   0\nX   2   0   0   0   0   0   0   0   0\nX   3   0   0   0   0   0   0   0   0\nQ   3   1   0   0   0   0   2   0   0   0\nZ   5\n") ∷
+    (0, 5, "B   1   1\nZ   0\n") ∷
+    (0, 5, "B   1  48\nZ   0\n") ∷
     (2, 0, "") ∷
     (2, 0, "B   1   1") ∷
     (3, 1, "\n") ∷
@@ -81,37 +90,71 @@ pub texts-right : T (texts
     (6, 1, "B   1   0\nZ   0\n") ∷
     (6, 2, "B   1   1\nR   2   0   0   0   0   0   0   0   0\nZ   1\n") ∷
     (6, 2, "B   1   1\nR  -2   0   0   0   0   0   0   0   0\nZ   1\n") ∷
-    (6, 2, "B   1   1\nZ 249\n") ∷
+    (6, 2, "B   1   1\nZ 281\n") ∷
     (6, 2, "B   1   1\nZ  -1\n") ∷
     (6, 3, "B   1   1\nX   1   0   0   0   0   0   0   0   0\nP  17   1\nZ   2\n") ∷
-    (8, 18, "B   1   1\nX   1   0   0   0   0   0   0   0   0\nX   1   0   0   0   0   0   0   0   0\nX   1   0   0   0   0   0   0   0   0\nX   1   0   0   0   0   0   0   0   0\nX   1   0   0   0   0   0   0   0   0\nX   1   0   0   0   0   0   0   0   0\nX   1   0   0   0   0   0   0   0   0\nX   1   0   0   0   0   0   0   0   0\nX   1   0   0   0   0   0   0   0   0\nX   1   0   0   0   0   0   0   0   0\nX   1   0   0   0   0   0   0   0   0\nX   1   0   0   0   0   0   0   0   0\nX   1   0   0   0   0   0   0   0   0\nX   1   0   0   0   0   0   0   0   0\nX   1   0   0   0   0   0   0   0   0\nX   1   0   0   0   0   0   0   0   0\nX   1   0   0   0   0   0   0   0   0\nZ  17\n") ∷
     (9, 2, "B   1   1\nX   0   0   0   0   0   0   0   0   0\nZ   1\n") ∷
     (10, 2, "B   1   1\nP   1   1\nZ   1\n") ∷
     (10, 3, "B   1   1\nX   1   0   0   0   0   0   0   0   0\nP   1   2\nZ   2\n") ∷
     (10, 3, "B   1   1\nX   1   0   0   0   0   0   0   0   0\nP  16   1\nZ   2\n") ∷
     (11, 2, "B   1   1\nZ   1\n") ∷
-    (11, 2, "B   1   1\nZ 248\n") ∷
-    (11, 4, "B   1   1\nR   0   0   0   0   0   0   0   0   0\nR   0   0   0   0   0   0   0   0   0\nZ   1\n") ∷ []))
+    (11, 2, "B   1   1\nZ 280\n") ∷
+    (11, 4, "B   1   1\nR   0   0   0   0   0   0   0   0   0\nR   0   0   0   0   0   0   0   0   0\nZ   1\n") ∷
+    (0, 26, "B   1   1\nX   1   0   0   0   0   0   0   0   0\nP   1   1\nQ   1   1   1  -1   0   0   0   0   0   1\nZ   3\n") ∷
+    (3, 4, "B   1   1\nX   1   0   0   0   0   0   0   0   0\nQ   1   1   0   0   0   0   0   0   0   0\nP   1   1\nZ   3\n") ∷
+    (3, 4, "B   1   1\nX   1   0   0   0   0   0   0   0   0\nQ   1   1   0   0   0   0   0   0   0   0\nX   1   0   0   0   0   0   0   0   0\nZ   3\n") ∷
+    (4, 3, "B   1   1\nX   1   0   0   0   0   0   0   0   0\nQ   1   1\nZ   2\n") ∷
+    (4, 3, "B   1   1\nX   1   0   0   0   0   0   0   0   0\nQ   1   1   0   0   0   0   0   0   0\nZ   2\n") ∷
+    (18, 3, "B   1   1\nX   1   0   0   0   0   0   0   0   0\nQ   1   1   0   0   0   0   0   0   0  00\nZ   2\n") ∷
+    (6, 3, "B   1   1\nX   1   0   0   0   0   0   0   0   0\nQ  17   1   0   0   0   0   0   0   0   0\nZ   2\n") ∷
+    (6, 3, "B   1   1\nX   1   0   0   0   0   0   0   0   0\nQ   1   0   0   0   0   0   0   0   0   0\nZ   2\n") ∷
+    (6, 3, "B   1   1\nX   1   0   0   0   0   0   0   0   0\nQ   1   1   2   0   0   0   0   0   0   0\nZ   2\n") ∷
+    (6, 3, "B   1   1\nX   1   0   0   0   0   0   0   0   0\nQ   1   2   0   0   0   0   0   0   0  -2\nZ   2\n") ∷
+    (10, 3, "B   1   1\nX   1   0   0   0   0   0   0   0   0\nQ   1   2   0   0   0   0   0   0   0   0\nZ   2\n") ∷
+    (10, 2, "B   1   1\nQ   1   1   0   0   0   0   0   0   0   0\nZ   1\n") ∷
+    (11, 4, "B   1   1\nX   1   0   0   0   0   0   0   0   0\nQ   1   1   0   0   0   0   0   0   0   0\nZ   1\n") ∷ []))
 unfolding kinds kind unknown contents fieldsOf bytes most longest rowOnce mostRows shapeFrom frontOf rangeOf both either pick consIf every some columnOf columns inColumns digitOf sizeOf minusIn signed same isSpace isMinus isDigit someFrom someByte otherByte strayByte stray spaceAfterDigit gapped leadingZero wrongZero misspelling readColumns spelt firstField toFirst lines seek kindFor between inside andThen testField readFields code numbersIn filledIn headless missing miscounted wholeOf unless judged readRest readKind readLine start toNat lastOr after step rowOf prepend readEnd onLine readLines lastByte readText tableOf
 texts-right = tt
 
+pub long-texts-right : T (longTexts
+    ((0, 151, (1, "B   1   1\n") ∷ (16, "X   1   0   0   0   0   0   0   0   0\n") ∷ (1, "P  16  13\nZ  17\n") ∷ []) ∷
+    (8, 18, (1, "B   1   1\n") ∷ (17, "X   1   0   0   0   0   0   0   0   0\n") ∷ (1, "Z  17\n") ∷ []) ∷
+    (0, 398, (1, "B   1   1\n") ∷ (1, "X   1   0   0   0   0   0   0   0   0\n") ∷ (32, "P   1   1\n") ∷ (32, "Q   1   1   0   0   0   0   0   0   0   0\n") ∷ (1, "Z  65\n") ∷ []) ∷
+    (8, 35, (1, "B   1   1\n") ∷ (1, "X   1   0   0   0   0   0   0   0   0\n") ∷ (33, "P   1   1\n") ∷ (32, "Q   1   1   0   0   0   0   0   0   0   0\n") ∷ (1, "Z  66\n") ∷ []) ∷
+    (19, 35, (1, "B   1   1\n") ∷ (1, "X   1   0   0   0   0   0   0   0   0\n") ∷ (33, "Q   1   1   0   0   0   0   0   0   0   0\n") ∷ (1, "Z  34\n") ∷ []) ∷
+    (19, 35, (1, "B   1   1\n") ∷ (1, "X   1   0   0   0   0   0   0   0   0\n") ∷ (32, "Q   1   1   0   0   0   0   0   0   0   0\n") ∷ (1, "Q   1   2   0   0   0   0   0   0   0   0\nZ  34\n") ∷ []) ∷
+    (6, 35, (1, "B   1   1\n") ∷ (1, "X   1   0   0   0   0   0   0   0   0\n") ∷ (32, "Q   1   1   0   0   0   0   0   0   0   0\n") ∷ (1, "Q   1   2   0   0   0   0   0   0   0   2\nZ  34\n") ∷ []) ∷
+    (4, 35, (1, "B   1   1\n") ∷ (1, "X   1   0   0   0   0   0   0   0   0\n") ∷ (32, "Q   1   1   0   0   0   0   0   0   0   0\n") ∷ (1, "Q   1   1\nZ  34\n") ∷ []) ∷ []))
+unfolding kinds kind unknown contents fieldsOf bytes most longest rowOnce mostRows shapeFrom frontOf rangeOf both either pick consIf every some columnOf columns inColumns digitOf sizeOf minusIn signed same isSpace isMinus isDigit someFrom someByte otherByte strayByte stray spaceAfterDigit gapped leadingZero wrongZero misspelling readColumns spelt firstField toFirst lines seek kindFor between inside andThen testField readFields code numbersIn filledIn headless missing miscounted wholeOf unless judged readRest readKind readLine start toNat lastOr after step rowOf prepend readEnd onLine readLines lastByte readText tableOf concatMap
+long-texts-right = tt
+
 pub tables-right : T (tables
     ((16, 0, []) ∷
-    (16, 0, pos 1 ∷ pos 0 ∷ pos 0 ∷ []) ∷
-    (6, 1, pos 0 ∷ pos 0 ∷ pos 0 ∷ pos 0 ∷ []) ∷
-    (6, 1, pos 49 ∷ pos 201 ∷ pos 0 ∷ pos 0 ∷ []) ∷
-    (8, 1, pos 1 ∷ pos 201 ∷ pos 0 ∷ pos 0 ∷ []) ∷
-    (8, 1, pos 1 ∷ pos 0 ∷ negsuc 0 ∷ pos 0 ∷ []) ∷
-    (8, 1, pos 48 ∷ pos 0 ∷ pos 0 ∷ pos 33 ∷ []) ∷
-    (8, 1, pos 48 ∷ pos 0 ∷ pos 17 ∷ pos 0 ∷ []) ∷
-    (16, 0, pos 48 ∷ pos 0 ∷ pos 16 ∷ pos 0 ∷ []) ∷
-    (16, 0, pos 1 ∷ pos 0 ∷ pos 0 ∷ pos 0 ∷ pos 0 ∷ []) ∷
-    (16, 0, pos 1 ∷ pos 1 ∷ pos 0 ∷ pos 0 ∷ pos 0 ∷ pos 0 ∷ pos 0 ∷ pos 0 ∷ pos 0 ∷ pos 0 ∷ pos 0 ∷ pos 0 ∷ []) ∷
-    (6, 2, pos 1 ∷ pos 1 ∷ pos 0 ∷ pos 0 ∷ pos 0 ∷ pos 0 ∷ pos 0 ∷ pos 0 ∷ pos 0 ∷ pos 0 ∷ pos 0 ∷ pos 0 ∷ pos 2 ∷ []) ∷
-    (9, 3, pos 1 ∷ pos 1 ∷ pos 1 ∷ pos 0 ∷ pos 0 ∷ pos 0 ∷ pos 0 ∷ pos 0 ∷ pos 0 ∷ pos 0 ∷ pos 0 ∷ pos 0 ∷ pos 0 ∷ pos 0 ∷ pos 0 ∷ pos 0 ∷ pos 0 ∷ pos 0 ∷ pos 0 ∷ pos 0 ∷ pos 0 ∷ pos 0 ∷ []) ∷
-    (10, 4, pos 1 ∷ pos 1 ∷ pos 1 ∷ pos 1 ∷ pos 0 ∷ pos 0 ∷ pos 0 ∷ pos 0 ∷ pos 0 ∷ pos 0 ∷ pos 0 ∷ pos 0 ∷ pos 0 ∷ pos 1 ∷ pos 0 ∷ pos 0 ∷ pos 0 ∷ pos 0 ∷ pos 0 ∷ pos 0 ∷ pos 0 ∷ pos 0 ∷ pos 1 ∷ pos 2 ∷ []) ∷
-    (6, 4, pos 1 ∷ pos 1 ∷ pos 1 ∷ pos 1 ∷ pos 0 ∷ pos 0 ∷ pos 0 ∷ pos 0 ∷ pos 0 ∷ pos 0 ∷ pos 0 ∷ pos 0 ∷ pos 0 ∷ pos 1 ∷ pos 0 ∷ pos 0 ∷ pos 0 ∷ pos 0 ∷ pos 0 ∷ pos 0 ∷ pos 0 ∷ pos 0 ∷ pos 0 ∷ pos 1 ∷ []) ∷
-    (0, 24, pos 1 ∷ pos 1 ∷ pos 1 ∷ pos 1 ∷ pos 0 ∷ pos 0 ∷ pos 0 ∷ pos 0 ∷ pos 0 ∷ pos 0 ∷ pos 0 ∷ pos 0 ∷ pos 0 ∷ pos 1 ∷ pos 0 ∷ pos 0 ∷ pos 0 ∷ pos 0 ∷ pos 0 ∷ pos 0 ∷ pos 0 ∷ pos 0 ∷ pos 1 ∷ pos 1 ∷ []) ∷
-    (0, 4, pos 48 ∷ pos 0 ∷ pos 0 ∷ pos 0 ∷ []) ∷ []))
+    (16, 0, pos 1 ∷ pos 0 ∷ pos 0 ∷ pos 0 ∷ []) ∷
+    (6, 1, pos 0 ∷ pos 0 ∷ pos 0 ∷ pos 0 ∷ pos 0 ∷ []) ∷
+    (6, 1, pos 49 ∷ pos 201 ∷ pos 0 ∷ pos 0 ∷ pos 0 ∷ []) ∷
+    (8, 1, pos 1 ∷ pos 201 ∷ pos 0 ∷ pos 0 ∷ pos 0 ∷ []) ∷
+    (8, 1, pos 1 ∷ pos 0 ∷ negsuc 0 ∷ pos 0 ∷ pos 0 ∷ []) ∷
+    (8, 1, pos 48 ∷ pos 0 ∷ pos 0 ∷ pos 33 ∷ pos 0 ∷ []) ∷
+    (8, 1, pos 48 ∷ pos 0 ∷ pos 17 ∷ pos 0 ∷ pos 0 ∷ []) ∷
+    (16, 0, pos 48 ∷ pos 0 ∷ pos 16 ∷ pos 0 ∷ pos 0 ∷ []) ∷
+    (16, 0, pos 1 ∷ pos 0 ∷ pos 0 ∷ pos 0 ∷ pos 0 ∷ pos 0 ∷ []) ∷
+    (16, 0, pos 1 ∷ pos 1 ∷ pos 0 ∷ pos 0 ∷ pos 0 ∷ pos 0 ∷ pos 0 ∷ pos 0 ∷ pos 0 ∷ pos 0 ∷ pos 0 ∷ pos 0 ∷ pos 0 ∷ []) ∷
+    (6, 2, pos 1 ∷ pos 1 ∷ pos 0 ∷ pos 0 ∷ pos 0 ∷ pos 0 ∷ pos 0 ∷ pos 0 ∷ pos 0 ∷ pos 0 ∷ pos 0 ∷ pos 0 ∷ pos 0 ∷ pos 2 ∷ []) ∷
+    (9, 3, pos 1 ∷ pos 1 ∷ pos 1 ∷ pos 0 ∷ pos 0 ∷ pos 0 ∷ pos 0 ∷ pos 0 ∷ pos 0 ∷ pos 0 ∷ pos 0 ∷ pos 0 ∷ pos 0 ∷ pos 0 ∷ pos 0 ∷ pos 0 ∷ pos 0 ∷ pos 0 ∷ pos 0 ∷ pos 0 ∷ pos 0 ∷ pos 0 ∷ pos 0 ∷ []) ∷
+    (10, 4, pos 1 ∷ pos 1 ∷ pos 1 ∷ pos 1 ∷ pos 0 ∷ pos 0 ∷ pos 0 ∷ pos 0 ∷ pos 0 ∷ pos 0 ∷ pos 0 ∷ pos 0 ∷ pos 0 ∷ pos 0 ∷ pos 1 ∷ pos 0 ∷ pos 0 ∷ pos 0 ∷ pos 0 ∷ pos 0 ∷ pos 0 ∷ pos 0 ∷ pos 0 ∷ pos 1 ∷ pos 2 ∷ []) ∷
+    (6, 4, pos 1 ∷ pos 1 ∷ pos 1 ∷ pos 1 ∷ pos 0 ∷ pos 0 ∷ pos 0 ∷ pos 0 ∷ pos 0 ∷ pos 0 ∷ pos 0 ∷ pos 0 ∷ pos 0 ∷ pos 0 ∷ pos 1 ∷ pos 0 ∷ pos 0 ∷ pos 0 ∷ pos 0 ∷ pos 0 ∷ pos 0 ∷ pos 0 ∷ pos 0 ∷ pos 0 ∷ pos 1 ∷ []) ∷
+    (0, 25, pos 1 ∷ pos 1 ∷ pos 1 ∷ pos 1 ∷ pos 0 ∷ pos 0 ∷ pos 0 ∷ pos 0 ∷ pos 0 ∷ pos 0 ∷ pos 0 ∷ pos 0 ∷ pos 0 ∷ pos 0 ∷ pos 1 ∷ pos 0 ∷ pos 0 ∷ pos 0 ∷ pos 0 ∷ pos 0 ∷ pos 0 ∷ pos 0 ∷ pos 0 ∷ pos 1 ∷ pos 1 ∷ []) ∷
+    (0, 5, pos 48 ∷ pos 0 ∷ pos 0 ∷ pos 0 ∷ pos 0 ∷ []) ∷
+    (8, 1, pos 48 ∷ pos 0 ∷ pos 0 ∷ pos 0 ∷ pos 33 ∷ []) ∷
+    (8, 1, pos 1 ∷ pos 0 ∷ pos 0 ∷ pos 0 ∷ negsuc 0 ∷ []) ∷
+    (8, 1, pos 1 ∷ pos 0 ∷ pos 0 ∷ pos 33 ∷ pos 33 ∷ []) ∷
+    (16, 0, pos 48 ∷ pos 0 ∷ pos 0 ∷ pos 0 ∷ pos 32 ∷ []) ∷
+    (16, 0, pos 1 ∷ pos 0 ∷ pos 1 ∷ pos 0 ∷ pos 1 ∷ pos 1 ∷ pos 0 ∷ pos 0 ∷ pos 0 ∷ pos 0 ∷ pos 0 ∷ pos 0 ∷ pos 0 ∷ pos 0 ∷ pos 1 ∷ pos 1 ∷ []) ∷
+    (0, 24, pos 1 ∷ pos 0 ∷ pos 1 ∷ pos 0 ∷ pos 1 ∷ pos 1 ∷ pos 0 ∷ pos 0 ∷ pos 0 ∷ pos 0 ∷ pos 0 ∷ pos 0 ∷ pos 0 ∷ pos 0 ∷ pos 1 ∷ pos 1 ∷ pos 1 ∷ negsuc 0 ∷ pos 0 ∷ pos 0 ∷ pos 0 ∷ pos 0 ∷ pos 0 ∷ pos 1 ∷ []) ∷
+    (6, 3, pos 1 ∷ pos 0 ∷ pos 1 ∷ pos 0 ∷ pos 1 ∷ pos 1 ∷ pos 0 ∷ pos 0 ∷ pos 0 ∷ pos 0 ∷ pos 0 ∷ pos 0 ∷ pos 0 ∷ pos 0 ∷ pos 17 ∷ pos 1 ∷ pos 0 ∷ pos 0 ∷ pos 0 ∷ pos 0 ∷ pos 0 ∷ pos 0 ∷ pos 0 ∷ pos 0 ∷ []) ∷
+    (6, 3, pos 1 ∷ pos 0 ∷ pos 1 ∷ pos 0 ∷ pos 1 ∷ pos 1 ∷ pos 0 ∷ pos 0 ∷ pos 0 ∷ pos 0 ∷ pos 0 ∷ pos 0 ∷ pos 0 ∷ pos 0 ∷ pos 1 ∷ pos 2 ∷ pos 0 ∷ pos 0 ∷ pos 0 ∷ pos 0 ∷ pos 0 ∷ pos 0 ∷ pos 0 ∷ pos 2 ∷ []) ∷
+    (10, 3, pos 1 ∷ pos 0 ∷ pos 1 ∷ pos 0 ∷ pos 1 ∷ pos 1 ∷ pos 0 ∷ pos 0 ∷ pos 0 ∷ pos 0 ∷ pos 0 ∷ pos 0 ∷ pos 0 ∷ pos 0 ∷ pos 1 ∷ pos 2 ∷ pos 0 ∷ pos 0 ∷ pos 0 ∷ pos 0 ∷ pos 0 ∷ pos 0 ∷ pos 0 ∷ pos 0 ∷ []) ∷
+    (10, 4, pos 1 ∷ pos 0 ∷ pos 1 ∷ pos 1 ∷ pos 1 ∷ pos 1 ∷ pos 0 ∷ pos 0 ∷ pos 0 ∷ pos 0 ∷ pos 0 ∷ pos 0 ∷ pos 0 ∷ pos 0 ∷ pos 1 ∷ pos 1 ∷ pos 2 ∷ pos 1 ∷ pos 0 ∷ pos 0 ∷ pos 0 ∷ pos 0 ∷ pos 0 ∷ pos 0 ∷ pos 0 ∷ pos 0 ∷ []) ∷ []))
 unfolding kinds kind unknown contents fieldsOf numbersOf most rowOnce mostRows rangeOf both pick consIf some between inside andThen testField code numbersIn filledIn headless missing unless judged toNat rowOf prepend onLine tableOf countsOf frontOf allCounts countAt shapeFrom sumTo layout cut rowsOf testFields rowFault testRow testRows shapeIn miscount testTable
 tables-right = tt

@@ -97,7 +97,8 @@ filledIn (v ∷ vs) = pick (between (pos 0) (pos 0) v) (filledIn vs) (suc (fille
 unfoldable pub headless : Kind → List ℤ → Bool
 headless x vs = ltb (filledIn (take (x .heads) vs)) (x .filled)
 
--- 10: a field names an exception past the m that the book has ("P names a missing exception").
+-- 10: a field names an exception past the m that the book has ("P names a missing exception"; document 02, (e): "10 covers
+-- Q lines").
 unfoldable pub missing : ℕ → Kind → List ℤ → Bool
 missing m x vs = some (λ v. not (leZ v (pos m))) (numbersIn Exception (fieldsOf x) vs)
 
@@ -105,8 +106,8 @@ missing m x vs = some (λ v. not (leZ v (pos m))) (numbersIn Exception (fieldsOf
 unfoldable pub miscounted : ℕ → Kind → List ℤ → Bool
 miscounted m x vs = some (λ v. not (between (pos m) (pos m) v)) (numbersIn Total (fieldsOf x) vs)
 
--- The refusal of a line of the kind at place k as a whole, after the lines before it: the kind's own one over its limit, 8, then its own
--- for heads that are missing, 9, then 10, 11; 0 if none.
+-- The refusal of a line of the kind at place k as a whole, after the lines before it: the kind's own one over its limit, 8 ("19 when a Q line
+-- is over 32, in the place of 8"), then its own for heads that are missing, 9, then 10, 11; 0 if none.
 unfoldable pub wholeOf : State → ℕ → List ℤ → ℕ
 wholeOf st k vs =
     pick (leb (kind k .limit) (getD (st .counts) k 0)) (kind k .over)

@@ -67,8 +67,9 @@ shapeIn t = shapeFrom (toNat (getD t 0 (pos 0))) (map (λ x. toNat (getD t (x .c
 unfoldable pub miscount : List ℤ → Kind → Bool
 miscount t x = both (x .row) (not (between (pos 0) (pos (x .limit)) (getD t (x .count) (pos 0))))
 
--- "16 under 4 numbers; 6 n; 8 a count negative or over; 16 length differs from the counts; then each row": n and counts have line 1, the
--- first row has line 2, for B is line 1.
+-- "16 under 4 numbers; 6 n; 8 a count negative or over; 16 length differs from the counts; then each row"; by document 02, (e), "the first 16
+-- means a count is missing" and "8 covers every count", so that 19 never comes from a table. n and counts have line 1, the first row has line 2,
+-- for B is line 1.
 unfoldable pub testTable : List ℤ → Outcome
 testTable t =
     pick (ltb (length t) front) (refused 16 0)

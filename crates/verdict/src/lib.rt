@@ -1,4 +1,4 @@
-// The tests of verdicts 1 and 3, of rules as words; masks::level is the test of verdict 2.
+// The tests of verdicts 1 and 3, of rules as words; judge::unranked is the test of verdict 2.
 ghost use Prim.Native.Nat.{_*_, _≤_};
 ghost use lib.ListN.{length};
 ghost use Rattle.logic.specs.Tests.{Decides};

@@ -26,8 +26,7 @@ use Rattle.meaning.specs.Order as order
 use Rattle.meaning.specs.Order.{Before, Point, LawfulPoint, AllLater}
 use Rattle.meaning.proofs.Parts.{Part, part-none, part-join, part-all, part-there}
 use Rattle.walk.specs.declared.Position.{Position}
-use Rattle.walk.specs.Plans.{RuledOut}
-use Rattle.walk.specs.Walks.{Passed, AtPlace, Spanned, Skipped}
+use Rattle.walk.specs.Walks.{Passed, AtPlace, Spanned, Skipped, RuledOut}
 use Rattle.marking.proofs.Steps.{within-all}
 
 -- A set comes earlier than one that contains it.

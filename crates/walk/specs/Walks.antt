@@ -10,34 +10,27 @@ use Rattle.sets.specs.Sets.{without}
 use Rattle.order.specs.Formula.{setAt}
 use Rattle.masks.specs.declared.Bounds.{Bounds}
 use Rattle.page.specs.declared.Task.{Task}
-use Rattle.page.specs.Orders.{Begins}
 use Rattle.page.specs.Pages.{Page}
 use Rattle.meaning.specs.Books.{Book}
 use Rattle.meaning.specs.Order.{Point, start, at, LawfulPoint, Later, AllLater}
 use Rattle.meaning.proofs.Parts.{Part}
 use Rattle.walk.specs.declared.Position.{Position}
 use Rattle.walk.specs.declared.Span.{Span}
-use Rattle.marking.specs.Marks.{marksIn, RightMarks}
-use Rattle.resolution.specs.Rooted.{Rooted}
-use Rattle.walk.specs.Plans.{Told, Full, MarksRight, Rests, RuledOut}
+use Rattle.marking.specs.Marks.{marksIn, IsMarked, RightMarks}
+use Rattle.standing.specs.Standing.{Right}
+use Rattle.sifting.specs.Sifted.{Serves}
+use Rattle.one_set.specs.Plans.{Told, Full}
 
 -- The pair's set of exceptions stands at one of the first j places of the order of the sets of x exceptions.
 abbrev pub Passed : ℕ → ℕ → Pair → Type 0
 Passed x zero p = ⊥
 Passed x (suc j) p = Passed x j p ⊎ (setAt x j ≡ p .taken)
 
--- The task is one of the book: its words, its views within root, its statements.
-pub record Serves (b : Book) (ws ranks : List ℕ) (root : Bounds) (q : Task) : Type 0 where
-  pub rooted : Rooted b ws (q .rules) ranks root
-  pub statements : q .statements ≡ b .statements
-
--- One set of exceptions: the page of the resolutions that have it and are later than the point.
-pub record SetListed (ws ranks : List ℕ) (root : Bounds) (q : Task) (t : ℕ) (after known : Bool) (k : ℕ) (m m′ o o′ : List ℕ) (r : ℕ) : Type 0 where
-  pub most : r ≤ q .room
-  pub marks : MarksRight ws (q .rules) ranks root m m′
-  pub told : Full ws (q .rules) ranks root m → Told ws (q .rules) ranks root m′ t
-  pub part : (b : Book) (from : Point) → Serves b ws ranks root q → RightMarks b m → Rests ws (q .rules) ranks root t known m → Begins b from t after (q .point)
-      → (ys : List Pair) × Page (q .room) k o o′ ys r × Part b from (λ p. p .taken ≡ t) ys
+-- A look is enough to see that no resolution has the set t: it is marked, or it is not between the sets of root.
+pub data RuledOut (root : Bounds) (marks : List ℕ) (t : ℕ) : Type 0 where
+  marked : IsMarked marks t → RuledOut root marks t
+  beyond : (without t (root .hi .taken) ≡ 0 → ⊥) → RuledOut root marks t
+  short : (without (root .lo .taken) t ≡ 0 → ⊥) → RuledOut root marks t
 
 -- The set stands at the place of the order of the sets of x exceptions, unless that is its end.
 pub record AtPlace (x : ℕ) (p : Position) : Type 0 where
@@ -70,8 +63,8 @@ pub record Ready (ws : List ℕ) (n : ℕ) (ranks : List ℕ) (root : Bounds) (x
 
 -- The walk from place j of the sets of x exceptions, in a book that has no more: with the page of all that stands at the places before it, it makes
 -- the page of all later resolutions.
-pub record Walked (ws ranks : List ℕ) (root : Bounds) (q : Task) (x j : ℕ) (known : Bool) (k : ℕ) (m o o′ : List ℕ) (r : ℕ) : Type 0 where
-  pub whole : (b : Book) (from : Point) → Serves b ws ranks root q → length (b .exceptions) ≤ x → RightMarks b m → (known ≡ true → Ready ws (q .rules) ranks root x j m) → LawfulPoint b from → Beyond x from j
+pub record Walked (ws ranks : List ℕ) (root : Bounds) (q : Task) (x j : ℕ) (known : Bool) (k : ℕ) (m w o o′ : List ℕ) (r : ℕ) : Type 0 where
+  pub whole : (b : Book) (from : Point) → Serves b ws ranks root q → length (b .exceptions) ≤ x → RightMarks b m → Right ws (q .rules) ranks root w → (known ≡ true → Ready ws (q .rules) ranks root x j m) → LawfulPoint b from → Beyond x from j
       → (blank : List ℕ) (xs : List Pair) → Part b from (Passed x j) xs → Page (q .room) 0 blank o xs k
       → (zs : List Pair) × AllLater b from zs × Page (q .room) 0 blank o′ zs r
 

@@ -77,7 +77,7 @@ fn rest(text: &[u8], words: &Words, ranks: &Ranks, s: Shape, from: Stand) -> Sta
 fn print(text: &[u8]) -> Stand
     ensures { λ r. ⌜ Printed (now (text .entry)) r ⌝ }
 {
-    let mut words = [0u64; Book::RULES * 8];
+    let mut words = [0u64; (Book::RULES + Book::CONDITIONALS) * 8];
     let mut ranks = [0u64; Book::EXCEPTIONS];
     let mut out = [0u8; listing::PART * listing::LONGEST + listing::CLOSING];
     let b = listing::begin(text, &mut words, &mut ranks, &mut out);

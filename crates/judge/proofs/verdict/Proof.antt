@@ -1,4 +1,4 @@
-use Rattle.judge.proofs.Tests.{judged-0, judged-1, judged-2, judged-3, judged-4, judged-5}
+use Rattle.judge.proofs.Tests.{judged-1, judged-2, judged-3, judged-view}
 use borrow.Author.Needs.{needs}
 use Rattle.judge.proofs.verdict.Statement.{statement}
 use Rattle.judge.proofs.verdict.Tie as tie
@@ -9,32 +9,32 @@ is-answer-requires c κs = search needs
 returns : tie.Need-returns
 returns c = judged-1 _ _ _ _ _ _ (c .before .is-answer .ensures) (search needs)
 
-level-requires : tie.Need-level-requires
-level-requires c κs = search needs
+unranked-requires : tie.Need-unranked-requires
+unranked-requires c κs = search needs
 
 returns-2 : tie.Need-returns-2
-returns-2 c = judged-2 _ _ _ _ _ _ (c .before .before .before .is-answer .ensures) (search needs) _ (c .before .level .ensures) (search needs)
+returns-2 c = judged-2 _ _ _ _ _ _ (c .before .before .before .is-answer .ensures) (search needs) _ (c .before .unranked .ensures) (search needs)
 
 bodies-requires : tie.Need-bodies-requires
 bodies-requires c κs = search needs
 
 returns-3 : tie.Need-returns-3
-returns-3 c = judged-3 _ _ _ _ _ _ (c .before .before .before .before .before .is-answer .ensures) (search needs) _ (c .before .before .before .level .ensures) (search needs) _ (c .before .bodies .ensures) (search needs)
+returns-3 c = judged-3 _ _ _ _ _ _ (c .before .before .before .before .before .is-answer .ensures) (search needs) _ (c .before .before .before .unranked .ensures) (search needs) _ (c .before .bodies .ensures) (search needs)
 
-undominated-requires : tie.Need-undominated-requires
-undominated-requires c κs = search needs
+lined-requires : tie.Need-lined-requires
+lined-requires c κs = search needs
+
+last-verdict-requires : tie.Need-last-verdict-requires
+last-verdict-requires c κs = (c .before .lined .ensures .yes (search needs) .room, search needs, search needs)
 
 returns-4 : tie.Need-returns-4
-returns-4 c = judged-4 _ _ _ _ _ _ (c .before .before .before .before .before .before .before .is-answer .ensures) (search needs) _ (c .before .before .before .before .before .level .ensures) (search needs) _ (c .before .before .before .bodies .ensures) (search needs) _ (c .before .undominated .ensures) (search needs)
+returns-4 c = judged-view _ _ _ _ _ _ (c .before .before .before .before .before .before .before .before .is-answer .ensures) (search needs) _ (c .before .before .before .before .before .before .unranked .ensures) (search needs) _ (c .before .before .before .before .bodies .ensures) (search needs) _ (c .last-verdict .ensures)
 
-minimal-requires : tie.Need-minimal-requires
-minimal-requires c κs = search needs
+last-verdict-requires-2 : tie.Need-last-verdict-requires-2
+last-verdict-requires-2 c κs = (search needs, search needs, c .before .lined .ensures .no (search needs), search needs)
 
 returns-5 : tie.Need-returns-5
-returns-5 c = judged-5 _ _ _ _ _ _ (c .before .before .before .before .before .before .before .before .before .is-answer .ensures) (search needs) _ (c .before .before .before .before .before .before .before .level .ensures) (search needs) _ (c .before .before .before .before .before .bodies .ensures) (search needs) _ (c .before .before .before .undominated .ensures) (search needs) _ (c .before .minimal .ensures) (search needs)
-
-returns-6 : tie.Need-returns-6
-returns-6 c = judged-0 _ _ _ _ _ _ (c .before .before .before .before .before .before .before .before .before .is-answer .ensures) (search needs) _ (c .before .before .before .before .before .before .before .level .ensures) (search needs) _ (c .before .before .before .before .before .bodies .ensures) (search needs) _ (c .before .before .before .undominated .ensures) (search needs) _ (c .before .minimal .ensures) (search needs)
+returns-5 c = judged-view _ _ _ _ _ _ (c .before .before .before .before .before .before .before .before .is-answer .ensures) (search needs) _ (c .before .before .before .before .before .before .unranked .ensures) (search needs) _ (c .before .before .before .before .bodies .ensures) (search needs) _ (c .last-verdict2 .ensures)
 
 pub verdict-spec : {M : Type 1} → statement M
 verdict-spec =
@@ -42,12 +42,12 @@ verdict-spec =
     (tie.spec
     is-answer-requires
     returns
-    level-requires
+    unranked-requires
     returns-2
     bodies-requires
     returns-3
-    undominated-requires
+    lined-requires
+    last-verdict-requires
     returns-4
-    minimal-requires
-    returns-5
-    returns-6)
+    last-verdict-requires-2
+    returns-5)

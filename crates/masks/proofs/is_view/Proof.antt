@@ -1,4 +1,5 @@
-use Rattle.masks.proofs.Tests.{view-clash, view-level, view-rules, view-reached, view-least}
+use Rattle.masks.proofs.Tests.{view-clash, view-level, view-crossed, view-rules, view-reached, view-least}
+use Rattle.masks.proofs.Booleans.{granted}
 use borrow.Author.Needs.{needs}
 use Rattle.masks.proofs.is_view.Statement.{statement}
 use Rattle.masks.proofs.is_view.Tie as tie
@@ -12,17 +13,23 @@ level-requires c κs = search needs
 returns-2 : tie.Need-returns-2
 returns-2 c = view-level _ _ _ _ _ (c .before .level .ensures) (search needs)
 
+uncrossed-requires : tie.Need-uncrossed-requires
+uncrossed-requires c κs = search needs
+
+returns-3 : tie.Need-returns-3
+returns-3 c = view-crossed _ _ _ _ _ (c .before .uncrossed .ensures) (search needs)
+
 sweep-requires : tie.Need-sweep-requires
 sweep-requires c κs = search needs
 
-returns-3 : tie.Need-returns-3
-returns-3 c = view-rules _ _ _ _ _ (c .before .before .sweep .ensures) (search needs)
+returns-4 : tie.Need-returns-4
+returns-4 c = view-rules _ _ _ _ _ (c .before .before .sweep .ensures) (search needs)
 
 same-requires : tie.Need-same-requires
 same-requires c κs = search needs
 
-returns-4 : tie.Need-returns-4
-returns-4 c = view-reached _ _ _ _ _ (c .before .before .before .before .sweep .ensures) _ (search needs) (c .before .before .before .before .before .before .level .ensures) (search needs) (search needs) _ (c .before .same .ensures) (search needs)
+returns-5 : tie.Need-returns-5
+returns-5 c = view-reached _ _ _ _ _ (c .before .before .before .before .sweep .ensures) _ (search needs) (c .before .before .before .before .before .before .before .before .level .ensures) (search needs) (granted (c .before .before .before .before .before .before .uncrossed .ensures) (search needs)) (search needs) _ (c .before .same .ensures) (search needs)
 
 closure-requires : tie.Need-closure-requires
 closure-requires c κs = search needs
@@ -30,8 +37,8 @@ closure-requires c κs = search needs
 same-requires-2 : tie.Need-same-requires-2
 same-requires-2 c κs = search needs
 
-returns-5 : tie.Need-returns-5
-returns-5 c = view-least _ _ _ _ _ (c .before .before .before .before .before .before .sweep .ensures) _ (search needs) (c .before .before .before .before .before .before .before .before .level .ensures) (search needs) (search needs) _ _ (c .before .closure .ensures) (c .same2 .ensures)
+returns-6 : tie.Need-returns-6
+returns-6 c = view-least _ _ _ _ _ (c .before .before .before .before .before .before .sweep .ensures) _ (search needs) (c .before .before .before .before .before .before .before .before .before .before .level .ensures) (search needs) (granted (c .before .before .before .before .before .before .before .before .uncrossed .ensures) (search needs)) (search needs) _ _ (c .before .closure .ensures) (c .same2 .ensures)
 
 pub is-view-spec : {M : Type 1} → statement M
 is-view-spec =
@@ -40,10 +47,12 @@ is-view-spec =
     returns
     level-requires
     returns-2
-    sweep-requires
+    uncrossed-requires
     returns-3
-    same-requires
+    sweep-requires
     returns-4
+    same-requires
+    returns-5
     closure-requires
     same-requires-2
-    returns-5)
+    returns-6)

@@ -8,14 +8,12 @@ use Rattle.logic.specs.Tests.{both, concatMap, every, keep, some}
 use Rattle.sets.specs.Sets.{member}
 use Rattle.sets.specs.declared.Pair.{Pair}
 use Rattle.meaning.specs.Literals.{pos, neg, Conclusions, isIn}
-use Rattle.meaning.specs.Rules.{Head, none, gives, Body, Rule}
+use Rattle.meaning.specs.Rules.{Head, none, gives, Body, Rule, satisfied}
+use Rattle.meaning.specs.Preferences.{inBoth}
 use Rattle.meaning.specs.AnswerSets.{reduct}
 use Rattle.meaning.specs.Books.{Book, conclusions, applied}
+use Rattle.meaning.specs.Views.{ranking}
 use Rattle.meaning.specs.Twins.Closure.{closure}
-
--- The body is satisfied by S.
-unfoldable pub satisfied : Conclusions → Body → Bool
-satisfied s b = elim (every (λ l. isIn l s) (b .needed)) [ true ↦ every (λ l. not (isIn l s)) (b .barred) | false ↦ false ]
 
 -- S breaks the constraint.
 unfoldable pub breaks : Conclusions → Body → Head → Bool
@@ -53,11 +51,11 @@ rankedIn ls t u =
 
 -- T has a member beside one that outranks it.
 unfoldable pub rankedWithin : Book → Pair → Bool
-rankedWithin b p = rankedIn (b .preferences) (p .taken) (p .taken)
+rankedWithin b p = rankedIn (ranking b p) (p .taken) (p .taken)
 
 -- p dominates q.
 unfoldable pub dominates : Book → Pair → Pair → Bool
-dominates b p q = rankedIn (b .preferences) (p .taken) (q .taken)
+dominates b p q = rankedIn (inBoth (ranking b p) (ranking b q)) (p .taken) (q .taken)
 
 unfoldable pub lawful : Book → Pair → Bool
 lawful b p =
@@ -106,12 +104,12 @@ containedTo (suc k) a c = elim (not (member (suc k) a)) [ true ↦ containedTo k
 unfoldable pub properSubset : ℕ → ℕ → Bool
 properSubset a c = elim (containedTo a a c) [ true ↦ not (eqb a c) | false ↦ false ]
 
--- Among the views given, one dominates the pair; one has a smaller T.
+-- Among the views given, one dominates the pair; one that none of them dominates has a smaller T.
 unfoldable pub dominatedBy : Book → List Pair → Pair → Bool
 dominatedBy b vs p = some (λ q. dominates b q p) vs
 
-unfoldable pub exceededBy : List Pair → Pair → Bool
-exceededBy vs p = some (λ q. properSubset (q .taken) (p .taken)) vs
+unfoldable pub exceededBy : Book → List Pair → Pair → Bool
+exceededBy b vs p = some (λ (q : Pair). elim (properSubset (q .taken) (p .taken)) [ true ↦ not (dominatedBy b vs q) | false ↦ false ]) vs
 
 -- The verdict on a lawful pair.
 unfoldable pub verdict : Book → Pair → ℕ
@@ -128,15 +126,15 @@ verdict b p =
                       elim (dominatedBy b (views b) p) [
                         | true ↦ 4
                         | false ↦
-                            elim (exceededBy (views b) p) [ true ↦ 5 | false ↦ 0 ]
+                            elim (exceededBy b (views b) p) [ true ↦ 5 | false ↦ 0 ]
                       ]
                 ]
           ]
     ]
 
--- The pair is neither dominated by one of the views nor has one of them a smaller T.
+-- The pair is neither dominated by one of the views nor has one that none of them dominates a smaller T.
 unfoldable pub unbeaten : Book → List Pair → Pair → Bool
-unbeaten b vs p = elim (not (dominatedBy b vs p)) [ true ↦ not (exceededBy vs p) | false ↦ false ]
+unbeaten b vs p = elim (not (dominatedBy b vs p)) [ true ↦ not (exceededBy b vs p) | false ↦ false ]
 
 -- All resolutions.
 unfoldable pub resolutionsAmong : Book → List Pair → List Pair

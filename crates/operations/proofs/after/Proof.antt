@@ -1,3 +1,4 @@
+use Rattle.prepare.proofs.Packing.{blank-words}
 use Rattle.book.proofs.Counts.{exceptions-in}
 use Rattle.answers.proofs.Means.{with-meaning, after-means}
 use Rattle.operations.proofs.Loading.{refused-was, accepted-was, small-was}
@@ -10,7 +11,7 @@ use Rattle.operations.proofs.after.Statement.{statement}
 use Rattle.operations.proofs.after.Tie as tie
 
 load-requires : tie.Need-load-requires
-load-requires c κs = search needs
+load-requires c κs = blank-words
 
 enum-known-got : tie.Need-enum-known-got
 enum-known-got c = search needs

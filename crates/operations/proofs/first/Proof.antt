@@ -1,3 +1,4 @@
+use Rattle.prepare.proofs.Packing.{blank-words}
 use Rattle.answers.proofs.Means.{with-meaning, first-means}
 use Rattle.operations.proofs.Loading.{refused-was, accepted-was, small-was}
 use Rattle.operations.proofs.Answers.{first-down, first-accepted}
@@ -8,7 +9,7 @@ use Rattle.operations.proofs.first.Statement.{statement}
 use Rattle.operations.proofs.first.Tie as tie
 
 load-requires : tie.Need-load-requires
-load-requires c κs = search needs
+load-requires c κs = blank-words
 
 enum-known-got : tie.Need-enum-known-got
 enum-known-got c = search needs

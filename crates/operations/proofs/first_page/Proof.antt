@@ -1,3 +1,4 @@
+use Rattle.prepare.proofs.Packing.{blank-words}
 use Rattle.operations.proofs.Loading.{refused-was, accepted-was, small-was}
 use Rattle.operations.proofs.Answers.{first-page-down, first-page-accepted}
 use borrow.Author.Needs.{needs}
@@ -5,7 +6,7 @@ use Rattle.operations.proofs.first_page.Statement.{statement}
 use Rattle.operations.proofs.first_page.Tie as tie
 
 load-requires : tie.Need-load-requires
-load-requires c κs = search needs
+load-requires c κs = blank-words
 
 enum-known-got : tie.Need-enum-known-got
 enum-known-got c = search needs

@@ -1,3 +1,4 @@
+use Rattle.prepare.proofs.Packing.{blank-words}
 use Rattle.book.proofs.Counts.{exceptions-in}
 use Rattle.answers.proofs.Means.{with-meaning, judge-means}
 use Rattle.operations.proofs.Loading.{refused-was, accepted-was, small-was}
@@ -8,7 +9,7 @@ use Rattle.operations.proofs.judge.Statement.{statement}
 use Rattle.operations.proofs.judge.Tie as tie
 
 load-requires : tie.Need-load-requires
-load-requires c κs = search needs
+load-requires c κs = blank-words
 
 enum-known-got : tie.Need-enum-known-got
 enum-known-got c = search needs

@@ -1,4 +1,6 @@
 use Rattle.operations.proofs.Loading.{loads-refused, loads-accepted}
+use Rattle.prepare.proofs.Packing.{blank-from}
+use native.Mathlib.Omega.{arith}
 use borrow.Author.Needs.{needs}
 use Rattle.operations.proofs.load.Statement.{statement}
 use Rattle.operations.proofs.load.Tie as tie
@@ -16,7 +18,7 @@ enum-known-got-2 : tie.Need-enum-known-got-2
 enum-known-got-2 c = search needs
 
 fill-from-requires : tie.Need-fill-from-requires
-fill-from-requires c κs = c .before .before .before .before .before .before .before .parse .ensures .facts _ (search needs)
+fill-from-requires c κs = (c .before .before .before .before .before .before .before .parse .ensures .facts _ (search needs), blank-from _ 0 _ (omega arith) (c .before .before .before .before .before .before .before .before .before .before .before .pre))
 
 returns : tie.Need-returns
 returns c = loads-refused _ _ _ (c .before .before .before .parse .ensures) _ (search needs) _ _

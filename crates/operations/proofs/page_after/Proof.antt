@@ -1,3 +1,4 @@
+use Rattle.prepare.proofs.Packing.{blank-words}
 use Rattle.book.proofs.Counts.{exceptions-in}
 use Rattle.operations.proofs.Loading.{refused-was, accepted-was, small-was}
 use Rattle.operations.proofs.Answers.{page-after-down, page-after-refused, page-after-accepted, few-taken}
@@ -7,7 +8,7 @@ use Rattle.operations.proofs.page_after.Statement.{statement}
 use Rattle.operations.proofs.page_after.Tie as tie
 
 load-requires : tie.Need-load-requires
-load-requires c κs = search needs
+load-requires c κs = blank-words
 
 enum-known-got : tie.Need-enum-known-got
 enum-known-got c = search needs

@@ -1,79 +1,20 @@
-use mathlib.Core.Path.{_≡_, refl, _∙_}
-use Prim.Native.Nat.{_-_, _≤_}
+use Rattle.prepare.proofs.Packing.{conditionals-few, packs-of}
 use native.Mathlib.Omega.{arith}
-use lib.ListN.{length}
 use borrow.Author.Needs.{needs}
-use Rattle.prepare.specs.Packing.{PackedTo}
-use Rattle.prepare.proofs.Stores.{put-length}
-use Rattle.prepare.proofs.Packing.{row-readable, starts-small, rules-few, packed-start, packed-turn, packed-over, packs-of}
 use Rattle.prepare.proofs.pack.Statement.{statement}
 use Rattle.prepare.proofs.pack.Tie as tie
 
-abbrev Inv-loop : tie.InvT-loop
-Inv-loop rows words₀ plain n first other k₀ words k = (k ≤ n) × (length words ≡ length words₀) × PackedTo rows plain first other words k
+pack-rules-requires : tie.Need-pack-rules-requires
+pack-rules-requires c κs = search needs
 
-abbrev μ-loop : tie.MeasureT-loop
-μ-loop rows words₀ plain n first other k₀ words k = n - k
+pack-lines-requires : tie.Need-pack-lines-requires
+pack-lines-requires c κs = let w = c .before .before .before .before .before .before .pre in let q = conditionals-few _ _ (w .0) in let e = c .before .before .before .pack-rules .ensures .same in let h = w .1 in (w .0, omega arith)
 
-add-n : tie.Need-add-n Inv-loop μ-loop
-add-n c = let w = rules-few _ _ (c .before .before .pre .0) in omega (arith, w .0, w .1)
+same-length : tie.Need-same-length
+same-length c = search needs
 
-start-of-requires : tie.Need-start-of-requires Inv-loop μ-loop
-start-of-requires c κs = (omega arith, c .before .before .pre .0 .limits)
-
-start-of-requires-2 : tie.Need-start-of-requires-2 Inv-loop μ-loop
-start-of-requires-2 c κs = (omega arith, c .before .before .before .pre .0 .limits)
-
-loop-holds : tie.Need-loop-holds Inv-loop μ-loop
-loop-holds c = (omega arith, refl, packed-start _ _ _ _ _)
-
-own-set-requires : tie.Need-own-set-requires Inv-loop μ-loop
-own-set-requires c κs = let w = rules-few _ _ (c .before .before .before .before .before .before .pre .0) in omega (arith, w .1)
-
-row-start-requires : tie.Need-row-start-requires Inv-loop μ-loop
-row-start-requires c κs = let w = rules-few _ _ (c .before .before .before .before .before .before .before .pre .0) in (starts-small _ _ (c .before .before .before .before .before .before .before .pre .0) _ _ (omega arith) (c .before .before .before .before .start-of .ensures), starts-small _ _ (c .before .before .before .before .before .before .before .pre .0) _ _ (omega arith) (c .before .before .before .start-of2 .ensures), omega (arith, w .0, w .1))
-
-rule-masks-requires : tie.Need-rule-masks-requires Inv-loop μ-loop
-rule-masks-requires c κs = row-readable _ _ (c .before .before .before .before .before .before .before .before .pre .0) _ (c .before .before .loop-test .taken) _ (rw (← c .before .before .before .before .before .start-of .ensures, ← c .before .before .before .before .start-of2 .ensures) (c .row-start .ensures))
-
-put-requires : tie.Need-put-requires Inv-loop μ-loop
-put-requires c κs = let a = c .before .before .before .before .before .before .before .before .before .before .pre .1 in let d = c .before .before .before .before .before .loop .inv .1 in omega arith
-
-add-k : tie.Need-add-k Inv-loop μ-loop
-add-k c = let w = rules-few _ _ (c .before .before .before .before .before .before .before .before .before .before .before .before .before .pre .0) in omega (arith, w .0, w .1)
-
-loop-less : tie.Need-loop-less Inv-loop μ-loop
-loop-less c = omega arith
-
-loop-again : tie.Need-loop-again Inv-loop μ-loop
-loop-again c = let t = c .before .before .before .before .before .before .before .loop-test .taken in let p = c .before .before .before .before .before .before .before .before .before .before .before .before .before .pre .1 in (
-  omega arith,
-  put-length _ _ _ _ (c .before .before .put .ensures) ∙ c .before .before .before .before .before .before .before .before .loop .inv .1,
-  packed-turn _ _ _ _ _ _ _ _ _ _ (c .before .before .before .before .before .before .before .before .loop .inv .2) (c .before .before .before .before .before .before .own-set .ensures) (c .before .before .before .before .before .row-start .ensures) (c .before .before .before .before .rule-masks .ensures) (c .before .before .put .ensures) (let d = c .before .before .before .before .before .before .before .before .loop .inv .1 in omega arith),
-)
-
-same-length : tie.Need-same-length Inv-loop μ-loop
-same-length c = c .before .loop .inv .1
-
-returns : tie.Need-returns Inv-loop μ-loop
-returns c = packs-of _ _ _ _ _ (c .before .before .before .start-of .ensures) (c .before .before .start-of2 .ensures) (packed-over _ _ _ _ _ _ _ (c .before .loop .inv .0) (search needs) (c .before .loop .inv .2))
+returns : tie.Need-returns
+returns c = let w = c .before .before .before .before .before .before .before .before .before .pre in packs-of _ _ _ _ _ (w .0 .limits) (w .1) (w .2) (c .before .before .before .before .before .before .pack-rules .ensures) (c .before .before .pack-lines .ensures)
 
 pub pack-spec : {M : Type 1} → statement M
-pack-spec =
-    tie.close
-    (tie.spec
-    Inv-loop
-    μ-loop
-    add-n
-    start-of-requires
-    start-of-requires-2
-    loop-holds
-    own-set-requires
-    row-start-requires
-    rule-masks-requires
-    put-requires
-    add-k
-    loop-less
-    loop-again
-    same-length
-    returns)
+pack-spec = tie.close (tie.spec pack-rules-requires pack-lines-requires same-length returns)

@@ -1,4 +1,4 @@
-use Rattle.walk.proofs.Plans.{out-marked, out-beyond, out-short}
+use Rattle.walk.proofs.Walks.{out-marked, out-beyond, out-short}
 use borrow.Author.Needs.{needs}
 use Rattle.walk.proofs.ruled_out.Statement.{statement}
 use Rattle.walk.proofs.ruled_out.Tie as tie

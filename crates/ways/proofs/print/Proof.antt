@@ -1,3 +1,4 @@
+use Rattle.prepare.proofs.Packing.{blank-words}
 use lib.Seq.{length-take-le}
 use mathlib.Core.Path.{sym}
 use native.Mathlib.Omega.{arith}
@@ -9,7 +10,7 @@ use Rattle.ways.proofs.print.Statement.{statement}
 use Rattle.ways.proofs.print.Tie as tie
 
 begin-requires : tie.Need-begin-requires
-begin-requires c κs = search needs
+begin-requires c κs = blank-words
 
 untouched-requires : tie.Need-untouched-requires
 untouched-requires c κs = search needs

@@ -1,0 +1,5 @@
+pub mod Rows
+pub mod Domination
+pub mod Barring
+pub mod Halving
+pub mod Below
