@@ -5,6 +5,7 @@ ghost use mathlib.Core.Bool.{false};
 ghost use Prim.Native.Nat.{_+_, _*_, _<_, _≤_};
 ghost use lib.ListN.{length};
 ghost use Rattle.queue.specs.Chains.{Chains};
+ghost use Rattle.masks.specs.Views.{MaskView};
 ghost use Rattle.page.specs.Pages.{pairAt, Fits, Listed};
 ghost use Rattle.few.specs.Few.{most, Gathered, Collected, Sooner, Follows, Leads, FirstOf, PutSorted, AllListed};
 use masks::Bounds;
@@ -259,7 +260,7 @@ pub fn list(
     at: usize,
 ) -> usize
     requires { ⌜ (Fits (now words) (now ranks) (now out) task at) × Chains (now words) (task .rules) (now index) × (cap * 3 ≤ length (now store)) ⌝ }
-    ensures { λ r. ⌜ Listed (now (words .entry)) (now (ranks .entry)) task taken (rest .bounds) after at (now (out .entry)) (now (out .exit)) r ⊎ ((after ≡ false) × (k < cap) × AllListed (now (words .entry)) (now (ranks .entry)) task (rest .bounds) (now (store .entry)) k at (now (out .entry)) (now (out .exit)) r) ⌝ }
+    ensures { λ r. ⌜ Listed (MaskView (now (words .entry)) (task .rules) (now (ranks .entry))) task taken (rest .bounds) after at (now (out .entry)) (now (out .exit)) r ⊎ ((after ≡ false) × (k < cap) × AllListed (now (words .entry)) (now (ranks .entry)) task (rest .bounds) (now (store .entry)) k at (now (out .entry)) (now (out .exit)) r) ⌝ }
 {
     if after {
         return page::list_views(words, ranks, index, task, taken, rest, after, out, at);

@@ -1,2 +1,3 @@
 pub mod Plans
+pub mod Looks
 pub mod Sets

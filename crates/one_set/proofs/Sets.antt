@@ -24,7 +24,7 @@ use Rattle.page.specs.declared.Task.{Task}
 use Rattle.page.specs.Orders.{bare, listFrom, PartOf, Begins}
 use Rattle.page.specs.Pages.{Page, Listed}
 use Rattle.page.proofs.Pages.{page-none}
-use Rattle.page.proofs.Listed.{begins-start, list-is-part, views-listed, part-of-listing}
+use Rattle.page.proofs.Listed.{begins-start, list-is-part, all-listed, part-of-listing}
 use Rattle.few.specs.Few.{Collected, AllListed}
 use Rattle.meaning.specs.Books.{Book, Lawful}
 use Rattle.meaning.specs.Views.{View}
@@ -41,10 +41,11 @@ use Rattle.marking.specs.Marks.{marksIn, IsMarked, Struck, shares, between, Mar
 use Rattle.marking.proofs.Marks.{right-more}
 use Rattle.marking.proofs.Steps.{all-within}
 use Rattle.ranges.specs.Ranges.{NoView}
-use Rattle.standing.specs.Standing.{Right, StandingView, StandingIn}
+use Rattle.standing.specs.Standing.{Right, StandingView}
 use Rattle.sifting.specs.Sifted.{Serves, Asked, AllSifted}
 use Rattle.one_set.specs.declared.Gathering.{Gathering}
-use Rattle.one_set.specs.Plans.{HasView, Told, Full, MarksRight, Rests, Gathered, Admits, NoneStands, NoneBelow, SetListed, OpenListed}
+use Rattle.one_set.specs.declared.Sighting.{Sighting}
+use Rattle.one_set.specs.Plans.{HasView, Told, Full, MarksRight, Rests, Gathered, Admits, NoneStands, Looked, NoneBelow, SetListed, OpenListed}
 use Rattle.one_set.proofs.Plans.{none-within, free-standing, surpassed-full, surpassed-told, surpassed-right, told-none, marks-same, marks-more, exceeded-above, exceeded-full, exceeded-marks, set-lawful, in-bounds, bounds-in}
 
 -- ---- a set that no resolution has
@@ -99,8 +100,8 @@ module _ (ws ranks : List ℕ) (root : Bounds) (q : Task) (u : Lined ws (q .rule
     inside : (p : Pair) → Lawful b p → p .taken ≡ t → MaskView ws (q .rules) ranks p → In within p
     inside p i d x = in-bounds ws (q .rules) ranks root t within (c .bounds ok) p x (s .rooted .holds p (same p i .0 x) .1) d
 
-    by-order : Listed ws ranks q t within after k o o′ r → (xs : List Pair) × Page (q .room) k o o′ xs r × PartOf b from t (MaskView ws (q .rules) ranks) xs
-    by-order x = views-listed b from t bound ws ranks q (s .statements) after y (view b) test within inside k r o o′ x
+    by-order : Listed (MaskView ws (q .rules) ranks) q t within after k o o′ r → (xs : List Pair) × Page (q .room) k o o′ xs r × PartOf b from t (MaskView ws (q .rules) ranks) xs
+    by-order x = all-listed b from t bound (MaskView ws (q .rules) ranks) q (s .statements) after y (view b) test within inside k r o o′ x
 
     by-store : after ≡ false → g .count < cap → AllListed ws ranks q within store (g .count) k o o′ r → (xs : List Pair) × Page (q .room) k o o′ xs r × PartOf b from t (MaskView ws (q .rules) ranks) xs
     by-store f l x =
@@ -124,7 +125,7 @@ module _ (ws ranks : List ℕ) (root : Bounds) (q : Task) (u : Lined ws (q .rule
         (same p i .0 x, undominated-stands b ws (q .rules) ranks root (s .rooted) u p .0 (rw d (a .undominated ez)), rw d (a .unexceeded ez (λ e n. f e (λ y. n (c .marks .kept t y)))))
 
   pub plain-listed : not z ≡ false → (o′ : List ℕ) (r : ℕ)
-      → Listed ws ranks q t (g .rest .bounds) after k o o′ r ⊎ ((after ≡ false) × (g .count < cap) × AllListed ws ranks q (g .rest .bounds) store (g .count) k o o′ r)
+      → Listed (MaskView ws (q .rules) ranks) q t (g .rest .bounds) after k o o′ r ⊎ ((after ≡ false) × (g .count < cap) × AllListed ws ranks q (g .rest .bounds) store (g .count) k o o′ r)
       → SetListed ws ranks root q t after known H k m m′ w w o o′ r
   plain-listed e o′ r l = record {
     most = ⊎-elim (λ x. x .most) (λ x. x .2 .fits) l;
@@ -238,6 +239,17 @@ module _ (ws ranks : List ℕ) (root : Bounds) (q : Task) (t : ℕ) (c : Bounds)
             → (u : Pair) × MaskView ws (q .rules) ranks u × In root u × Stands ws (q .rules) ranks root u × (u .taken ≡ t)
         found b s y = let g = listed b s y in first b s (g .0) (g .1 .count) (g .2)
 
+-- What is so of the page and the marks in any case.
+module _ (ws ranks : List ℕ) (root : Bounds) (q : Task) (t : ℕ) (c : Bounds) (after : Bool) (k : ℕ) (w w′ o o′ : List ℕ) (r : ℕ) (l : AllSifted ws ranks root q t c after k w w′ o o′ r) (m m′ : List ℕ) where
+  abbrev Opens : Type 0
+  Opens = HasView ws (q .rules) ranks root t → Propagated ws (q .rules) ranks (withSets root t t) c → SetListed ws ranks root q t after true (Unexceeded ws (q .rules) ranks root t) k m m′ w w′ o o′ r
+
+  pub opened-still : m′ ≡ m → Opens → OpenListed ws ranks root q t c after k m m′ w w′ o o′ r
+  opened-still e f = record { most = l .most; kept = λ u x. rw e x; same = rw e refl; full = λ x. rw e x; listed = f }
+
+  pub opened-marked : Surpassed ranks t m m′ → Opens → OpenListed ws ranks root q t c after k m m′ w w′ o o′ r
+  opened-marked x f = record { most = l .most; kept = x .marked .stays; same = x .marked .same; full = surpassed-full ws (q .rules) ranks root t m m′ x; listed = f }
+
 -- ---- a set of such a book
 module _ (ws ranks : List ℕ) (root : Bounds) (q : Task) (t : ℕ) (after known : Bool) (k : ℕ) (h : k ≤ q .room) (m o w : List ℕ) where
   abbrev Known : Type 0
@@ -254,59 +266,53 @@ module _ (ws ranks : List ℕ) (root : Bounds) (q : Task) (t : ℕ) (after known
       set-none ws ranks root q t after known Known k m m₁ o h w w′ a y (λ b s r e g. record { above = λ v x i z d. absurd (f r .none v x i d z) })
       (λ b s r g. record { none = λ p x d. let i = s .rooted .holds p (x .view) in f r .none p (i .0) (i .1) d (resolution-stands b ws (q .rules) ranks root (s .rooted) p .1 x .1) })
 
-  -- Remembered views dominate all that have it.
-  pub lined-shut : (Right ws (q .rules) ranks root w → NoneStands ws (q .rules) ranks root t) → SetListed ws ranks root q t after known Known k m m w w o o k
-  lined-shut f = lined-none w m (marks-same ws (q .rules) ranks root m) (λ r. r) f
+  module _ (m₁ w₀ : List ℕ) (g : Sighting) (c : Looked ws (q .rules) ranks root t m m₁ w w₀ g) where
+    -- No such view was seen.
+    pub lined-unseen : not (g .ok) ≡ true → SetListed ws ranks root q t after known Known k m m₁ w w₀ o o k
+    lined-unseen e = lined-none w₀ m₁ (c .marks) (c .memory) (λ r. c .none r (not-true (g .ok) e))
 
-  module _ (m₁ store : List ℕ) (cap : ℕ) (g : Gathering) (c : Gathered ws (q .rules) ranks root t cap m m₁ store g) where
-    -- It has no view.
-    pub lined-viewless : not (g .ok) ≡ true → SetListed ws ranks root q t after known Known k m m₁ w w o o k
-    lined-viewless e = set-viewless ws ranks root q t after known Known k m m₁ o h w (c .marks) (c .none (not-true (g .ok) e))
+    module _ (ok : g .ok ≡ true) (w₁ : List ℕ) (z : Bool) (x : NoneBelow ws (q .rules) ranks root t known w₀ w₁ z) where
+      -- A view that stands has a proper subset.
+      pub lined-exceeded : not z ≡ true → (m′ : List ℕ) → Marked m₁ (Struck (record { lo = t; hi = allOnes; but = 0; any = 0 })) m′ → SetListed ws ranks root q t after known Known k m m′ w w₁ o o k
+      lined-exceeded e m′ y = record {
+        most = h;
+        kept = λ u i. y .stays u (c .marks .kept u i);
+        same = y .same ∙ c .marks .same;
+        full = λ i. exceeded-full ws (q .rules) ranks root t m₁ m′ y (c .marks .full i);
+        memory = λ r. x .memory (c .memory r);
+        stay = λ b s r i. exceeded-marks ws (q .rules) ranks root t (fails r) m₁ m′ y .stay b (s .rooted) (c .marks .stay b (s .rooted) i);
+        told = λ b s r d. absurd (clash (sym unknown ∙ d));
+        part = λ b from s r i j d. ([], page-none (q .room) k o, part-none b from (λ p. p .taken ≡ t) (λ p u l v. exceeded-above ws (q .rules) ranks root t (fails r) b (s .rooted) t (λ i. le-refl _) .none p u v));
+      }
+        where
+          unknown : known ≡ false
+          unknown = ⊎-elim (λ d. absurd (clash (sym (not-true z e) ∙ x .sure d))) (λ d. d) (either-way known)
 
-    module _ (ok : g .ok ≡ true) where
-      module _ (w₀ : List ℕ) (y : Bool) (some : Right ws (q .rules) ranks root w → Right ws (q .rules) ranks root w₀ × StandingIn ws (q .rules) ranks root (g .rest .bounds) y) where
-        -- None of its views stands.
-        pub lined-fallen : not y ≡ true → SetListed ws ranks root q t after known Known k m m₁ w w₀ o o k
-        lined-fallen e =
-            lined-none w₀ m₁ (c .marks) (λ r. some r .0)
-            (λ r. record { none = λ v x i d s. some r .1 .none (not-true y e) v x (in-bounds ws (q .rules) ranks root t (g .rest .bounds) (c .bounds ok) v x i d) s })
+          fails : Right ws (q .rules) ranks root w → Unexceeded ws (q .rules) ranks root t → ⊥
+          fails r = x .test (c .memory r) unknown .no (not-true z e)
 
-        module _ (w₁ : List ℕ) (z : Bool) (x : NoneBelow ws (q .rules) ranks root t known w₀ w₁ z) where
-          -- A view that stands has a proper subset.
-          pub lined-exceeded : not z ≡ true → (m′ : List ℕ) → Marked m₁ (Struck (record { lo = t; hi = allOnes; but = 0; any = 0 })) m′ → SetListed ws ranks root q t after known Known k m m′ w w₁ o o k
-          lined-exceeded e m′ y = record {
-            most = h;
-            kept = λ u i. y .stays u (c .marks .kept u i);
-            same = y .same ∙ c .marks .same;
-            full = λ i. exceeded-full ws (q .rules) ranks root t m₁ m′ y (c .marks .full i);
-            memory = λ r. x .memory (some r .0);
-            stay = λ b s r i. exceeded-marks ws (q .rules) ranks root t (fails r) m₁ m′ y .stay b (s .rooted) (c .marks .stay b (s .rooted) i);
-            told = λ b s r d. absurd (clash (sym unknown ∙ d));
-            part = λ b from s r i j d. ([], page-none (q .room) k o, part-none b from (λ p. p .taken ≡ t) (λ p u l v. exceeded-above ws (q .rules) ranks root t (fails r) b (s .rooted) t (λ i. le-refl _) .none p u v));
-          }
-            where
-              unknown : known ≡ false
-              unknown = ⊎-elim (λ d. absurd (clash (sym (not-true z e) ∙ x .sure d))) (λ d. d) (either-way known)
+      -- The views that stand are put on the page.
+      pub lined-open : not z ≡ false → (IsMarked m t → ⊥) → (m′ w′ o′ : List ℕ) (r : ℕ) → OpenListed ws ranks root q t (g .rest .bounds) after k m₁ m′ w₁ w′ o o′ r
+          → SetListed ws ranks root q t after known Known k m m′ w w′ o o′ r
+      lined-open e n m′ w′ o′ r l = record {
+        most = l .most;
+        kept = λ u i. l .kept u (c .marks .kept u i);
+        same = l .same ∙ c .marks .same;
+        full = λ i. l .full (c .marks .full i);
+        memory = λ i. listed i .memory (still i);
+        stay = λ b s i j. listed i .stay b s (still i) (c .marks .stay b (s .rooted) j);
+        told = λ b s i d f j n. listed i .told b s (still i) refl f j (c .marks .full n);
+        part = λ b from s i j n d. listed i .part b from s (still i) (c .marks .stay b (s .rooted) j) (below i n) d;
+      }
+        where
+          still : Right ws (q .rules) ranks root w → Right ws (q .rules) ranks root w₁
+          still i = x .memory (c .memory i)
 
-              fails : Right ws (q .rules) ranks root w → Unexceeded ws (q .rules) ranks root t → ⊥
-              fails r = x .test (some r .0) unknown .no (not-true z e)
+          listed : Right ws (q .rules) ranks root w → SetListed ws ranks root q t after true (Unexceeded ws (q .rules) ranks root t) k m₁ m′ w₁ w′ o o′ r
+          listed i = l .listed (c .some i ok) (c .bounds ok)
 
-          -- The views that stand are put on the page.
-          pub lined-open : not z ≡ false → (IsMarked m t → ⊥) → (m′ w′ o′ : List ℕ) (r : ℕ) → OpenListed ws ranks root q t (g .rest .bounds) after k m₁ m′ w₁ w′ o o′ r
-              → SetListed ws ranks root q t after known Known k m m′ w w′ o o′ r
-          lined-open e n m′ w′ o′ r l = let v = l (c .some ok) (c .bounds ok) in record {
-            most = v .most;
-            kept = λ u i. v .kept u (c .marks .kept u i);
-            same = v .same ∙ c .marks .same;
-            full = λ i. v .full (c .marks .full i);
-            memory = λ i. v .memory (x .memory (some i .0));
-            stay = λ b s i j. v .stay b s (x .memory (some i .0)) (c .marks .stay b (s .rooted) j);
-            told = λ b s i d f j n. v .told b s (x .memory (some i .0)) refl f j (c .marks .full n);
-            part = λ b from s i j n d. v .part b from s (x .memory (some i .0)) (c .marks .stay b (s .rooted) j) (below i n) d;
-          }
-            where
-              below : Right ws (q .rules) ranks root w → Known → Unexceeded ws (q .rules) ranks root t
-              below i f = ⊎-elim (λ d. f d n) (λ d. x .test (some i .0) d .yes (not-false z e)) (either-way known)
+          below : Right ws (q .rules) ranks root w → Known → Unexceeded ws (q .rules) ranks root t
+          below i f = ⊎-elim (λ d. f d n) (λ d. x .test (c .memory i) d .yes (not-false z e)) (either-way known)
 
 -- ---- none below
 module _ (ws : List ℕ) (n : ℕ) (ranks : List ℕ) (root : Bounds) (t : ℕ) (known : Bool) (w : List ℕ) where
@@ -315,8 +321,3 @@ module _ (ws : List ℕ) (n : ℕ) (ranks : List ℕ) (root : Bounds) (t : ℕ) 
 
   pub below-tested : known ≡ false → (w′ : List ℕ) (z : Bool) → (Right ws n ranks root w → Right ws n ranks root w′ × Decides z (Unexceeded ws n ranks root t)) → NoneBelow ws n ranks root t known w w′ z
   below-tested e w′ z f = record { memory = λ r. f r .0; sure = λ d. absurd (clash (sym e ∙ d)); test = λ r d. f r .1 }
-
--- ---- remembered views dominate all with a set
-module _ (ws : List ℕ) (n : ℕ) (ranks : List ℕ) (root : Bounds) (t : ℕ) (o : Bounds) (p : Propagated ws n ranks (withSets root t t) o) where
-  pub fallen-is : (r : Bool) → (r ≡ true → (v : Pair) → MaskView ws n ranks v → In o v → Stands ws n ranks root v → ⊥) → r ≡ true → NoneStands ws n ranks root t
-  fallen-is r f e = record { none = λ v x i d s. f e v x (in-bounds ws n ranks root t o p v x i d) s }

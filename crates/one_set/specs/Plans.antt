@@ -24,6 +24,7 @@ use Rattle.ranges.specs.Ranges.{NoView}
 use Rattle.standing.specs.Standing.{Right}
 use Rattle.sifting.specs.Sifted.{Serves}
 use Rattle.one_set.specs.declared.Gathering.{Gathering}
+use Rattle.one_set.specs.declared.Sighting.{Sighting}
 
 -- A view within root has the set t.
 pub record HasView (ws : List ℕ) (n : ℕ) (ranks : List ℕ) (root : Bounds) (t : ℕ) : Type 0 where
@@ -70,6 +71,15 @@ pub record Admits (ws : List ℕ) (n : ℕ) (ranks : List ℕ) (root : Bounds) (
 pub record NoneStands (ws : List ℕ) (n : ℕ) (ranks : List ℕ) (root : Bounds) (t : ℕ) : Type 0 where
   pub none : (v : Pair) → MaskView ws n ranks v → In root v → v .taken ≡ t → Stands ws n ranks root v → ⊥
 
+-- In a book with Q lines: whether a view with the set t stands, if what is remembered is right; where one does, all views with the set are within the bounds
+-- at rest. Marks and memory stay right.
+pub record Looked (ws : List ℕ) (n : ℕ) (ranks : List ℕ) (root : Bounds) (t : ℕ) (m m′ w w′ : List ℕ) (r : Sighting) : Type 0 where
+  pub marks : MarksRight ws n ranks root m m′
+  pub memory : Right ws n ranks root w → Right ws n ranks root w′
+  pub none : Right ws n ranks root w → r .ok ≡ false → NoneStands ws n ranks root t
+  pub some : Right ws n ranks root w → r .ok ≡ true → HasView ws n ranks root t
+  pub bounds : r .ok ≡ true → Propagated ws n ranks (withSets root t t) (r .rest .bounds)
+
 -- In a book with Q lines: whether no view that stands has a proper subset of t, as far as that is not known.
 pub record NoneBelow (ws : List ℕ) (n : ℕ) (ranks : List ℕ) (root : Bounds) (t : ℕ) (known : Bool) (w w′ : List ℕ) (r : Bool) : Type 0 where
   pub memory : Right ws n ranks root w → Right ws n ranks root w′
@@ -90,7 +100,10 @@ pub record SetListed (ws ranks : List ℕ) (root : Bounds) (q : Task) (t : ℕ) 
   pub part : (b : Book) (from : Point) → Serves b ws ranks root q → Right ws (q .rules) ranks root w → RightMarks b m → H → Begins b from t after (q .point)
       → (ys : List Pair) × Page (q .room) k o o′ ys r × Part b from (λ p. p .taken ≡ t) ys
 
--- The same, if the bounds at rest have all views with the set, of which there is one.
-abbrev pub OpenListed : List ℕ → List ℕ → Bounds → Task → ℕ → Bounds → Bool → ℕ → List ℕ → List ℕ → List ℕ → List ℕ → List ℕ → List ℕ → ℕ → Type 0
-OpenListed ws ranks root q t c after k m m′ w w′ o o′ r =
-    HasView ws (q .rules) ranks root t → Propagated ws (q .rules) ranks (withSets root t t) c → SetListed ws ranks root q t after true (Unexceeded ws (q .rules) ranks root t) k m m′ w w′ o o′ r
+-- The same, if the bounds at rest have all views with the set, of which there is one; but of the page's length and of what is marked in any case.
+pub record OpenListed (ws ranks : List ℕ) (root : Bounds) (q : Task) (t : ℕ) (c : Bounds) (after : Bool) (k : ℕ) (m m′ w w′ o o′ : List ℕ) (r : ℕ) : Type 0 where
+  pub most : r ≤ q .room
+  pub kept : (u : ℕ) → IsMarked m u → IsMarked m′ u
+  pub same : length m′ ≡ length m
+  pub full : Full ws (q .rules) ranks root m → Full ws (q .rules) ranks root m′
+  pub listed : HasView ws (q .rules) ranks root t → Propagated ws (q .rules) ranks (withSets root t t) c → SetListed ws ranks root q t after true (Unexceeded ws (q .rules) ranks root t) k m m′ w w′ o o′ r

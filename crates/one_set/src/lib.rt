@@ -4,16 +4,17 @@ ghost use mathlib.Core.Bool.{true, false};
 ghost use Prim.Native.Nat.{_+_, _*_, _<_, _≤_};
 ghost use lib.ListN.{length};
 ghost use Rattle.masks.specs.Views.{Lined};
+ghost use Rattle.bounds.specs.Sound.{Propagated, withSets};
 ghost use Rattle.queue.specs.Chains.{Chains};
 ghost use Rattle.page.specs.Pages.{Fits};
 ghost use Rattle.few.specs.Few.{most};
 ghost use Rattle.marking.specs.Marks.{marksIn, Struck, Marked, allOnes};
 ghost use Rattle.ranges.specs.Ranges.{NoView};
-ghost use Rattle.standing.specs.Standing.{Right, StandingIn};
-ghost use Rattle.one_set.specs.Plans.{HasView, MarksRight, Rests, Gathered, Admits, NoneStands, NoneBelow, SetListed, OpenListed};
+ghost use Rattle.one_set.specs.Plans.{HasView, MarksRight, Rests, Gathered, Admits, Looked, NoneBelow, SetListed, OpenListed};
 use marking::Strike;
 use masks::Bounds;
 use page::Task;
+use probe::Outcome;
 use queue::Rest;
 use queue::index::Index;
 use queue::waiting;
@@ -95,17 +96,20 @@ const SCANT: u64 = 16;
 // No range was worth it: none is looked for any more.
 const NEVER: u64 = 0x8000_0000_0000_0000;
 
-// How many nodes the search for the views of a set may visit before its bounds are shaved: at first, and while ranges are being found.
+// How many nodes the search for the views of a set may visit before its bounds are shaved; how many the search for one that stands may.
 const FUEL: u64 = 4096;
 
+const GLANCE: u64 = 256;
+
+// How many either may visit while ranges are being found.
 const LITTLE: u64 = 64;
 
-// Which of the two it is: the little one only where the last look for a range was worth it.
-pub fn fuel_for(doubt: u64) -> u64 {
+// How many it is: the few only where the last look for a range was worth it.
+pub fn fuel_for(doubt: u64, fuel: u64) -> u64 {
     if doubt == DOUBT {
         return LITTLE;
     }
-    FUEL
+    fuel
 }
 
 // Marks a range of sets around t, which has no view as a search has found, once such searches have visited so many nodes. The result is how
@@ -168,7 +172,16 @@ pub fn gathered(
         let left = mark_around(words, n, ranks, index, root, t, credit, marks);
         return nothing(root, left, doubt);
     }
-    let s = few::collect(words, n, ranks, index, rest, store, cap, fuel_for(doubt));
+    let s = few::collect(
+        words,
+        n,
+        ranks,
+        index,
+        rest,
+        store,
+        cap,
+        fuel_for(doubt, FUEL),
+    );
     if s.count == 0 {
         let d = std::num::wrapping_add_u64(doubt, s.visited);
         let left = mark_shaven(words, n, ranks, index, root, t, d, marks);
@@ -291,11 +304,10 @@ pub fn list_open(
     after: bool,
     marks: &mut [u64],
     memory: &mut Memory,
-    store: &mut [u64],
     out: &mut [u64],
     at: usize,
 ) -> usize
-    requires { ⌜ Fits (now words) (now ranks) (now out) task at × (0 < length (now marks)) × Chains (now words) (task .rules) (now index) × (most * 3 ≤ length (now store)) × ((task .rules + 32) * 8 ≤ length (now words)) ⌝ }
+    requires { ⌜ Fits (now words) (now ranks) (now out) task at × (0 < length (now marks)) × Chains (now words) (task .rules) (now index) × ((task .rules + 32) * 8 ≤ length (now words)) ⌝ }
     ensures { λ r. ⌜ OpenListed (now (words .entry)) (now (ranks .entry)) root task t (rest .bounds) after at (now (marks .entry)) (now (marks .exit)) (now (memory .entry)) (now (memory .exit)) (now (out .entry)) (now (out .exit)) r ⌝ }
 {
     let r = sifting::list_standing(
@@ -308,7 +320,6 @@ pub fn list_open(
         rest,
         after,
         memory,
-        store,
         out,
         at,
     );
@@ -337,42 +348,128 @@ pub fn mark_above(t: u64, marks: &mut [u64])
     );
 }
 
-// Remembered views dominate every view with the set t, and propagation does not show that there is none.
-pub fn fallen(
+// Whether a view with the set t stands, what may still be spent on marking, how many nodes searches have visited for sets without a view, and where one
+// stands, bounds at rest for the views that have the set.
+pub struct Sighting {
+    pub ok: bool,
+    pub credit: u64,
+    pub doubt: u64,
+    pub rest: Rest,
+}
+
+// No view with the set stands: the bounds tell nothing.
+pub fn unseen(root: Bounds, credit: u64, doubt: u64) -> Sighting
+    ensures { λ r. ⌜ r .ok ≡ false ⌝ }
+{
+    Sighting {
+        ok: false,
+        credit,
+        doubt,
+        rest: Rest {
+            bounds: root,
+            live: waiting::everything(),
+        },
+    }
+}
+
+// Whether a view with the set t stands, from shaved bounds: `rest` has the bounds at rest for the views with that set, whose search has used up its fuel. Where
+// shaving alone shows that there is no view, a range around the set is marked.
+pub fn look_harder(
     words: &[u64],
     n: usize,
     ranks: &[u64],
     index: &Index,
     root: Bounds,
     t: u64,
-    memory: &Memory,
-) -> bool
-    requires { ⌜ ((n + 32) * 8 ≤ length (now words)) × (length (now ranks) ≤ 64) × Chains (now words) n (now index) ⌝ }
-    ensures { λ r. ⌜ (Right (now (words .entry)) n (now (ranks .entry)) root (now (memory .entry)) → r ≡ true → NoneStands (now (words .entry)) n (now (ranks .entry)) root t) ⌝ }
+    rest: Rest,
+    credit: u64,
+    doubt: u64,
+    marks: &mut [u64],
+    memory: &mut Memory,
+) -> Sighting
+    requires { ⌜ ((n + 32) * 8 ≤ length (now words)) × (length (now ranks) ≤ 64) × (0 < length (now marks)) × Chains (now words) n (now index) ⌝ }
+    ensures { λ r. ⌜ (Propagated (now (words .entry)) n (now (ranks .entry)) (withSets root t t) (rest .bounds) → Looked (now (words .entry)) n (now (ranks .entry)) root t (now (marks .entry)) (now (marks .exit)) (now (memory .entry)) (now (memory .exit)) r) ⌝ }
 {
-    let rest = ranges::narrowed(words, n, ranks, index, root, t, t);
-    let b = rest.bounds;
+    let s = probe::shaving::shaved(words, n, ranks, index, rest);
+    let b = s.bounds;
     if !sets::within(b.lo, b.hi) {
-        return false;
+        let d = std::num::wrapping_add_u64(doubt, GLANCE);
+        let left = mark_shaven(words, n, ranks, index, root, t, d, marks);
+        return unseen(root, credit, left);
     }
-    standing::bans::barred(words, n, ranks, index, rest, memory)
+    let w = waiting::none(s.live);
+    if standing::search(words, n, ranks, index, root, w, b, memory) {
+        return Sighting {
+            ok: true,
+            credit,
+            doubt,
+            rest,
+        };
+    }
+    unseen(root, credit, doubt)
 }
 
-// A view within bounds at rest stands.
-pub fn some_stands(
+// Whether a view with the set t stands. Around a set without a view a range is marked; remembered views may dominate all that have the set.
+pub fn look(
     words: &[u64],
     n: usize,
     ranks: &[u64],
     index: &Index,
     root: Bounds,
-    rest: Rest,
+    t: u64,
+    credit: u64,
+    doubt: u64,
+    marks: &mut [u64],
     memory: &mut Memory,
-) -> bool
-    requires { ⌜ ((n + 32) * 8 ≤ length (now words)) × (length (now ranks) ≤ 64) × Chains (now words) n (now index) ⌝ }
-    ensures { λ r. ⌜ (Right (now (words .entry)) n (now (ranks .entry)) root (now (memory .entry)) → Right (now (words .entry)) n (now (ranks .entry)) root (now (memory .exit)) × StandingIn (now (words .entry)) n (now (ranks .entry)) root (rest .bounds) r) ⌝ }
+) -> Sighting
+    requires { ⌜ ((n + 32) * 8 ≤ length (now words)) × (length (now ranks) ≤ 64) × (0 < length (now marks)) × Chains (now words) n (now index) ⌝ }
+    ensures { λ r. ⌜ Looked (now (words .entry)) n (now (ranks .entry)) root t (now (marks .entry)) (now (marks .exit)) (now (memory .entry)) (now (memory .exit)) r ⌝ }
 {
+    let rest = ranges::narrowed(words, n, ranks, index, root, t, t);
+    let b = rest.bounds;
+    if !sets::within(b.lo, b.hi) {
+        let left = mark_around(words, n, ranks, index, root, t, credit, marks);
+        return unseen(root, left, doubt);
+    }
+    if standing::bans::barred(words, n, ranks, index, rest, memory) {
+        return unseen(root, credit, doubt);
+    }
     let w = waiting::none(rest.live);
-    standing::standing(words, n, ranks, index, root, w, rest.bounds, memory)
+    let a = standing::attempt(
+        words,
+        n,
+        ranks,
+        index,
+        root,
+        w,
+        b,
+        memory,
+        fuel_for(doubt, GLANCE),
+    );
+    match a {
+        Outcome::Has(_) => Sighting {
+            ok: true,
+            credit,
+            doubt,
+            rest,
+        },
+        Outcome::Lacks(_) => unseen(root, credit, doubt),
+        Outcome::Stopped => {
+            look_harder(
+                words,
+                n,
+                ranks,
+                index,
+                root,
+                t,
+                rest,
+                credit,
+                doubt,
+                marks,
+                memory,
+            )
+        }
+    }
 }
 
 // No view that stands has a proper subset of t. Where `known` is true that is known from the marks, if t is not marked.
@@ -409,10 +506,9 @@ pub fn list_lined(
     filled: Filled,
     marks: &mut [u64],
     memory: &mut Memory,
-    store: &mut [u64],
     out: &mut [u64],
 ) -> Filled
-    requires { ⌜ Fits (now words) (now ranks) (now out) task (filled .at) × (t < marksIn (now marks)) × Chains (now words) (task .rules) (now index) × (most * 3 ≤ length (now store)) × ((task .rules + 32) * 8 ≤ length (now words)) ⌝ }
+    requires { ⌜ Fits (now words) (now ranks) (now out) task (filled .at) × (t < marksIn (now marks)) × Chains (now words) (task .rules) (now index) × ((task .rules + 32) * 8 ≤ length (now words)) ⌝ }
     ensures { λ r. ⌜ SetListed (now (words .entry)) (now (ranks .entry)) root task t after known (Rests (now (words .entry)) (task .rules) (now (ranks .entry)) root t known (now (marks .entry))) (filled .at) (now (marks .entry)) (now (marks .exit)) (now (memory .entry)) (now (memory .exit)) (now (out .entry)) (now (out .exit)) (r .at) ⌝ }
 {
     let at = filled.at;
@@ -420,10 +516,7 @@ pub fn list_lined(
     if marking::is_marked(marks, t) {
         return filled;
     }
-    if fallen(words, n, ranks, index, root, t, memory) {
-        return filled;
-    }
-    let g = gathered(
+    let g = look(
         words,
         n,
         ranks,
@@ -433,16 +526,11 @@ pub fn list_lined(
         filled.credit,
         filled.doubt,
         marks,
-        store,
-        1,
+        memory,
     );
     let credit = g.credit;
     let doubt = g.doubt;
-    let rest = g.rest;
     if !g.ok {
-        return Filled { at, credit, doubt };
-    }
-    if !some_stands(words, n, ranks, index, root, rest, memory) {
         return Filled { at, credit, doubt };
     }
     if !none_below(words, n, ranks, index, root, memory, t, known) {
@@ -456,11 +544,10 @@ pub fn list_lined(
         root,
         task,
         t,
-        rest,
+        g.rest,
         after,
         marks,
         memory,
-        store,
         out,
         at,
     );
@@ -504,7 +591,6 @@ pub fn list_set(
             filled,
             marks,
             memory,
-            store,
             out,
         );
     }

@@ -10,7 +10,7 @@ use lib.Dec.{eqb, ltb}
 use borrow.Author.Tests.{ltb-true, ltb-false, lt-ltb, le-ltb, eq-eqb, ne-eqb}
 use Rattle.logic.specs.Lists.{Among}
 use Rattle.logic.specs.Tests.{Decides, both, pick}
-use Rattle.logic.proofs.Decide.{clash, fails}
+use Rattle.logic.proofs.Decide.{clash, fails, is}
 use Rattle.logic.proofs.Members.{every-at}
 use Rattle.sets.specs.declared.Pair.{Pair}
 use Rattle.sets.specs.Pairs.{Sub}
@@ -27,7 +27,7 @@ use Rattle.page.specs.declared.Task.{Task}
 use Rattle.page.specs.declared.Node.{Node}
 use Rattle.page.specs.declared.Branch.the-variants.{Cut, Open}
 use Rattle.page.specs.Orders.{given, allFrom, passes, listFrom}
-use Rattle.page.specs.Pages.{ViewGiving, Barren, Covers, Covered, branchFrom, BranchReady, Branched}
+use Rattle.page.specs.Pages.{ViewGiving, Barren, Picks, Covers, Covered, branchFrom, BranchReady, Branched}
 use Rattle.page.proofs.Orders.{all-value, among-tried}
 use Rattle.page.proofs.General.{both-false, keep-none, keep-same}
 
@@ -93,24 +93,25 @@ module _ (ws ranks : List ℕ) (q : Task) (left w : ℕ) (d : Node) (rd : Branch
     pub branch-before : t ≡ true → Branched ws ranks q left w d Cut
     unfolding passes both
     branch-before e = record {
-      cut = λ z h g tg. keep-none (passes g (q .statements) (q .point) (suc left) (d .equal)) (branchFrom q left w d)
+      cut = λ z g tg h. keep-none (passes g (q .statements) (q .point) (suc left) (d .equal)) (branchFrom q left w d)
           (λ v m. rw (late-cut (q .statements) left (q .point) v (rd .unsettled) w own (has-value v m) eown (d .equal) (sym et ∙ e)));
       opened = λ c z. absurd (let y : _≡_ {A = ℕ} 0 1 = cc in omega arith);
     }
 
     module _ (f : t ≡ false) (b : Bounds) (kb : Keeps (ViewGiving ws (q .rules) ranks (q .statements - left) w) (d .bounds) b) where
-      branch-covers : Covered ws ranks q (suc left) d → Covers ws (q .rules) ranks (q .statements) left (given (d .pair) (q .statements - left) w) b
+      branch-covers : (g : Pair → Bool) → Picks ws (q .rules) ranks (branchFrom q left w d) g → Covered g q (suc left) d
+          → Covers g (q .statements) left (given (d .pair) (q .statements - left) w) b
       unfolding allFrom
-      branch-covers h = record {
-        kept = λ v k m. kb .kept v (record { view = k; gives = has-value v m })
+      branch-covers g pg h = record {
+        kept = λ v k m. kb .kept v (record { view = pg .view v m k; gives = has-value v m })
             (h .kept v k (among-tried (λ p. allFrom (q .statements) left p) (d .pair) (q .statements - left) w v (rd .value) m));
       }
 
       pub branch-barren : Barren ws (q .rules) ranks b → Branched ws ranks q left w d Cut
       unfolding passes
       branch-barren n = record {
-        cut = λ y h g tg. keep-none (passes g (q .statements) (q .point) (suc left) (d .equal)) (branchFrom q left w d)
-            (λ v m. rw (fails (tg .right v m) (λ k. n .none v k (branch-covers h .kept v k m))) (both-false _));
+        cut = λ y g pg h. keep-none (passes g (q .statements) (q .point) (suc left) (d .equal)) (branchFrom q left w d)
+            (λ v m. rw (fails (is (g v)) (λ e. n .none v (pg .view v m e) (branch-covers g pg h .kept v e m))) (both-false _));
         opened = λ c y. absurd (let x : _≡_ {A = ℕ} 0 1 = cc in omega arith);
       }
 
@@ -121,10 +122,10 @@ module _ (ws ranks : List ℕ) (q : Task) (left w : ℕ) (d : Node) (rd : Branch
           → Branched ws ranks q left w d (Open (record { equal = e; pair = p; bounds = b; live = live; hint = hint }))
       unfolding passes listFrom
       branch-open e p live hint ee ep = record {
-        cut = λ y h g tg. absurd (let x : _≡_ {A = ℕ} 0 1 = cc in omega arith);
+        cut = λ y g pg h. absurd (let x : _≡_ {A = ℕ} 0 1 = cc in omega arith);
         opened = λ c y. rw (← child c y) (record {
           pair = ep;
-          covers = λ h. rw ep (branch-covers h);
+          covers = λ g pg h. rw ep (branch-covers g pg h);
           same = λ g. rw (ep, ee) (keep-same (passes g (q .statements) (q .point) (suc left) (d .equal)) _ (branchFrom q left w d)
               (λ v m. ap (λ (x : Bool). both x (g v)) (late-on (q .statements) left (q .point) v (rd .unsettled) w own (has-value v m) eown (d .equal) (sym et ∙ f))));
         });

@@ -25,7 +25,6 @@ use Rattle.meaning.specs.Twins.Tables.{differsFrom, before}
 use Rattle.meaning.proofs.Next.{decides-before}
 use Rattle.meaning.proofs.Parts.{Part}
 use Rattle.masks.specs.declared.Bounds.{Bounds}
-use Rattle.masks.specs.Views.{MaskView}
 use Rattle.bounds.specs.Sound.{In}
 use Rattle.page.specs.declared.Task.{Task}
 use Rattle.page.specs.Orders.{bare, allFrom, passes, listFrom, PartOf, Begins}
@@ -126,18 +125,18 @@ part-of-listing b from taken P xs f g s =
       ascending = s .ascending;
     }
 
--- What `list_views` promises, in the words of the meaning: the page of the views with these exceptions that are later than the point.
--- The test g is any that decides it for lawful pairs with these exceptions; of those no view is beyond the bounds c.
-pub views-listed : (b : Book) (from : Point) (taken : ℕ) → taken < 2 ^ length (b .exceptions)
-    → (ws ranks : List ℕ) (q : Task) → q .statements ≡ b .statements → (t : Bool) → Begins b from taken t (q .point)
-    → (g : Pair → Bool) → ((p : Pair) → Lawful b p → p .taken ≡ taken → Decides (g p) (MaskView ws (q .rules) ranks p))
-    → (c : Bounds) → ((p : Pair) → Lawful b p → p .taken ≡ taken → MaskView ws (q .rules) ranks p → In c p)
-    → (k r : ℕ) (o o′ : List ℕ) → Listed ws ranks q taken c t k o o′ r
-    → (xs : List Pair) × Page (q .room) k o o′ xs r × PartOf b from taken (MaskView ws (q .rules) ranks) xs
-views-listed b from taken h ws ranks q e t s g right c within k r o o′ w = (
+-- What a search in order promises, in the words of the meaning: the page of the pairs with these exceptions that have the property P and are later than the
+-- point. The test g is any that decides it for lawful pairs with these exceptions; of those none is beyond the bounds c.
+pub all-listed : (b : Book) (from : Point) (taken : ℕ) → taken < 2 ^ length (b .exceptions)
+    → (P : Pair → Type 0) (q : Task) → q .statements ≡ b .statements → (t : Bool) → Begins b from taken t (q .point)
+    → (g : Pair → Bool) → ((p : Pair) → Lawful b p → p .taken ≡ taken → Decides (g p) (P p))
+    → (c : Bounds) → ((p : Pair) → Lawful b p → p .taken ≡ taken → P p → In c p)
+    → (k r : ℕ) (o o′ : List ℕ) → Listed P q taken c t k o o′ r
+    → (xs : List Pair) × Page (q .room) k o o′ xs r × PartOf b from taken P xs
+all-listed b from taken h P q e t s g right c within k r o o′ w = (
   listFrom g (b .statements) (q .point) (b .statements) t (bare taken),
-  rw e at (w .page
-      (rw e (record { kept = λ v x m. let l = looked-at b taken h v m in within v (l .0) (l .1) x })) g
-      (rw e (record { right = λ v m. let l = looked-at b taken h v m in right v (l .0) (l .1) }))),
-  list-is-part b from taken h t (q .point) s (MaskView ws (q .rules) ranks) g right,
+  rw e at (w .page g
+      (rw e (record { right = λ v m. let l = looked-at b taken h v m in right v (l .0) (l .1) }))
+      (rw e (record { kept = λ v x m. let l = looked-at b taken h v m in within v (l .0) (l .1) (right v (l .0) (l .1) .yes x) }))),
+  list-is-part b from taken h t (q .point) s P g right,
 )

@@ -1,6 +1,6 @@
 -- What the search promises: a page, the first so many pairs of a list in a lent slice; and what settling a statement and trying its values need.
 use Prim.Native.Nat.{ℕ, zero, suc, _+_, _-_, _*_, _<_, _≤_}
-use mathlib.Core.Bool.{Bool}
+use mathlib.Core.Bool.{Bool, true}
 use mathlib.Core.Path.{_≡_}
 use mathlib.Core.List.{List, [], _∷_}
 use lib.ListN.{length, take, getD}
@@ -34,9 +34,13 @@ unfoldable pub pairsIn : List ℕ → ℕ → ℕ → List Pair
 pairsIn l i zero = []
 pairsIn l i (suc k) = pairAt l i ∷ pairsIn l (suc i) k
 
--- The test g decides for every pair of the list whether it is a view.
-pub record Tests (ws : List ℕ) (n : ℕ) (ranks : List ℕ) (xs : List Pair) (g : Pair → Bool) : Type 0 where
-  pub right : (v : Pair) → Among v xs → Decides (g v) (MaskView ws n ranks v)
+-- The test g decides for every pair of the list whether it has the property P: that it is a view, or one of those that are wanted.
+pub record Tests (P : Pair → Type 0) (xs : List Pair) (g : Pair → Bool) : Type 0 where
+  pub right : (v : Pair) → Among v xs → Decides (g v) (P v)
+
+-- Of the list only views pass the test g.
+pub record Picks (ws : List ℕ) (n : ℕ) (ranks : List ℕ) (xs : List Pair) (g : Pair → Bool) : Type 0 where
+  pub view : (v : Pair) → Among v xs → g v ≡ true → MaskView ws n ranks v
 
 -- ---- a statement's value within bounds
 -- The pair is coherent and has the value w at statement i; the pair is a view and has it.
@@ -52,9 +56,9 @@ pub record ViewGiving (ws : List ℕ) (n : ℕ) (ranks : List ℕ) (i w : ℕ) (
 pub record Barren (ws : List ℕ) (n : ℕ) (ranks : List ℕ) (b : Bounds) : Type 0 where
   pub none : (v : Pair) → MaskView ws n ranks v → In b v → ⊥
 
--- Every view that differs from the settled pair at most at the last `left` of n statements is within the bounds.
-pub record Covers (ws : List ℕ) (rules : ℕ) (ranks : List ℕ) (n left : ℕ) (p : Pair) (b : Bounds) : Type 0 where
-  pub kept : (v : Pair) → MaskView ws rules ranks v → Among v (allFrom n left p) → In b v
+-- Every pair that passes the test g and differs from the settled pair at most at the last `left` of n statements is within the bounds.
+pub record Covers (g : Pair → Bool) (n left : ℕ) (p : Pair) (b : Bounds) : Type 0 where
+  pub kept : (v : Pair) → g v ≡ true → Among v (allFrom n left p) → In b v
 
 -- ---- the search
 -- The words and the ranks are those of the task's rules, and its statements are numbers of a word.
@@ -74,38 +78,38 @@ pub record Ready (ws ranks o : List ℕ) (q : Task) (left at : ℕ) : Type 0 whe
   pub fits : Fits ws ranks o q at
   pub unsettled : left ≤ q .statements
 
--- The bounds of the node d, where `left` statements are to be settled, lose no view. The code need not know it: pages are promised where it is so.
-abbrev pub Covered : List ℕ → List ℕ → Task → ℕ → Node → Type 0
-Covered ws ranks q left d = Covers ws (q .rules) ranks (q .statements) left (d .pair) (d .bounds)
+-- The bounds of the node d, where `left` statements are to be settled, lose no pair that passes. The code need not know it: pages are promised where it is so.
+abbrev pub Covered : (Pair → Bool) → Task → ℕ → Node → Type 0
+Covered g q left d = Covers g (q .statements) left (d .pair) (d .bounds)
 
 -- Of the pairs xs those that pass at the node d, where `left` statements are to be settled.
 abbrev pub passing : (Pair → Bool) → Task → ℕ → Node → List Pair → List Pair
 passing g q left d xs = keep (passes g (q .statements) (q .point) left (d .equal)) xs
 
--- Settling the last `left` statements from the node d: the page of all views that come from there.
-pub record Settled (ws ranks : List ℕ) (q : Task) (left : ℕ) (d : Node) (at : ℕ) (o o′ : List ℕ) (r : ℕ) : Type 0 where
+-- Settling the last `left` statements from the node d: the page of all pairs with the property P that come from there.
+pub record Settled (P : Pair → Type 0) (q : Task) (left : ℕ) (d : Node) (at : ℕ) (o o′ : List ℕ) (r : ℕ) : Type 0 where
   pub most : r ≤ q .room
-  pub page : Covered ws ranks q left d → (g : Pair → Bool) → Tests ws (q .rules) ranks (allFrom (q .statements) left (d .pair)) g
+  pub page : (g : Pair → Bool) → Tests P (allFrom (q .statements) left (d .pair)) g → Covered g q left d
       → Page (q .room) at o o′ (passing g q left d (allFrom (q .statements) left (d .pair))) r
 
 -- The pairs that come from the node d with the last v values tried at a statement that `left` others follow.
 abbrev pub triedFrom : Task → ℕ → ℕ → Node → List Pair
 triedFrom q left v d = tried (λ p. allFrom (q .statements) left p) (d .pair) (q .statements - left) v
 
--- Trying these values: the page of the views among those pairs.
-pub record Tried (ws ranks : List ℕ) (q : Task) (left v : ℕ) (d : Node) (at : ℕ) (o o′ : List ℕ) (r : ℕ) : Type 0 where
+-- Trying these values: the page of those with the property among them.
+pub record Tried (P : Pair → Type 0) (q : Task) (left v : ℕ) (d : Node) (at : ℕ) (o o′ : List ℕ) (r : ℕ) : Type 0 where
   pub most : r ≤ q .room
-  pub page : Covered ws ranks q (suc left) d → (g : Pair → Bool) → Tests ws (q .rules) ranks (triedFrom q left v d) g
+  pub page : (g : Pair → Bool) → Tests P (triedFrom q left v d) g → Covered g q (suc left) d
       → Page (q .room) at o o′ (passing g q (suc left) d (triedFrom q left v d)) r
 
 -- The pairs that come from the node d with the value w at the statement.
 abbrev pub branchFrom : Task → ℕ → ℕ → Node → List Pair
 branchFrom q left w d = allFrom (q .statements) left (given (d .pair) (q .statements - left) w)
 
--- Trying this value: the page of the views among those pairs.
-pub record TriedOne (ws ranks : List ℕ) (q : Task) (left w : ℕ) (d : Node) (at : ℕ) (o o′ : List ℕ) (r : ℕ) : Type 0 where
+-- Trying this value: the page of those with the property among them.
+pub record TriedOne (P : Pair → Type 0) (q : Task) (left w : ℕ) (d : Node) (at : ℕ) (o o′ : List ℕ) (r : ℕ) : Type 0 where
   pub most : r ≤ q .room
-  pub page : Covered ws ranks q (suc left) d → (g : Pair → Bool) → Tests ws (q .rules) ranks (branchFrom q left w d) g
+  pub page : (g : Pair → Bool) → Tests P (branchFrom q left w d) g → Covered g q (suc left) d
       → Page (q .room) at o o′ (passing g q (suc left) d (branchFrom q left w d)) r
 
 -- What a branch needs: the statement is one of the book's, the value one of three.
@@ -114,22 +118,22 @@ pub record BranchReady (ws ranks : List ℕ) (q : Task) (left w : ℕ) : Type 0 
   pub unsettled : left < q .statements
   pub value : w ≤ 2
 
--- The node c goes on from d with the value w: it has that value, its bounds lose no view where those of d lose none, and what is later than the
--- point stays so.
+-- The node c goes on from d with the value w: it has that value, its bounds lose no view that passes where those of d lose none, and what is later
+-- than the point stays so.
 pub record Child (ws ranks : List ℕ) (q : Task) (left w : ℕ) (d c : Node) : Type 0 where
   pub pair : c .pair ≡ given (d .pair) (q .statements - left) w
-  pub covers : Covered ws ranks q (suc left) d → Covered ws ranks q left c
+  pub covers : (g : Pair → Bool) → Picks ws (q .rules) ranks (branchFrom q left w d) g → Covered g q (suc left) d → Covered g q left c
   pub same : (g : Pair → Bool) → passing g q (suc left) d (branchFrom q left w d) ≡ passing g q left c (allFrom (q .statements) left (c .pair))
 
 -- The branch of the value w: where it is cut nothing is lost, where it is open it goes on.
 pub record Branched (ws ranks : List ℕ) (q : Task) (left w : ℕ) (d : Node) (r : Branch) : Type 0 where
-  pub cut : r ≡ Cut → Covered ws ranks q (suc left) d → (g : Pair → Bool) → Tests ws (q .rules) ranks (branchFrom q left w d) g
+  pub cut : r ≡ Cut → (g : Pair → Bool) → Picks ws (q .rules) ranks (branchFrom q left w d) g → Covered g q (suc left) d
       → passing g q (suc left) d (branchFrom q left w d) ≡ []
   pub opened : (c : Node) → r ≡ Open c → Child ws ranks q left w d c
 
--- The page of all views with these exceptions, where t is true of those later than the point, if none of them is beyond the bounds b.
-pub record Listed (ws ranks : List ℕ) (q : Task) (exceptions : ℕ) (b : Bounds) (t : Bool) (at : ℕ) (o o′ : List ℕ) (r : ℕ) : Type 0 where
+-- The page of all pairs with these exceptions that have the property P, where t is true of those later than the point, if none is beyond the bounds b.
+pub record Listed (P : Pair → Type 0) (q : Task) (exceptions : ℕ) (b : Bounds) (t : Bool) (at : ℕ) (o o′ : List ℕ) (r : ℕ) : Type 0 where
   pub most : r ≤ q .room
-  pub page : Covers ws (q .rules) ranks (q .statements) (q .statements) (bare exceptions) b
-      → (g : Pair → Bool) → Tests ws (q .rules) ranks (allFrom (q .statements) (q .statements) (bare exceptions)) g
+  pub page : (g : Pair → Bool) → Tests P (allFrom (q .statements) (q .statements) (bare exceptions)) g
+      → Covers g (q .statements) (q .statements) (bare exceptions) b
       → Page (q .room) at o o′ (listFrom g (q .statements) (q .point) (q .statements) t (bare exceptions)) r

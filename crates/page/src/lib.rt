@@ -6,6 +6,7 @@ ghost use lib.Dec.{eqb, ltb};
 ghost use lib.ListN.{length};
 ghost use lib.Seq.{sets};
 ghost use Rattle.logic.specs.Tests.{both};
+ghost use Rattle.masks.specs.Views.{MaskView};
 ghost use Rattle.bounds.specs.Sound.{Keeps};
 ghost use Rattle.queue.specs.Chains.{Chains};
 ghost use Rattle.probe.specs.declared.Answer.the-variants.{Nothing};
@@ -271,6 +272,18 @@ pub fn put(out: &mut [u64], at: usize, p: Pair)
     out[at * 3 + 2] = p.denied;
 }
 
+// Writes the pair at the place, and answers the next one.
+pub fn put_next(out: &mut [u64], place: Place, p: Pair) -> Place
+    requires { ⌜ place .at * 3 + 3 ≤ length (now out) ⌝ }
+    ensures { λ r. ⌜ (now (out .exit) ≡ sets (now (out .entry)) (place .at * 3) (flat (p ∷ []))) × (r .at ≡ place .at + 1) ⌝ }
+{
+    put(out, place.at, p);
+    Place {
+        at: place.at + 1,
+        dry: 0,
+    }
+}
+
 // The pair at a place of a page.
 pub fn pair_at(pairs: &[u64], k: usize) -> Pair
     requires { ⌜ k * 3 + 3 ≤ length (now pairs) ⌝ }
@@ -294,7 +307,7 @@ pub fn finish(
     place: Place,
 ) -> Place
     requires { ⌜ (Fits (now words) (now ranks) (now out) task (place .at)) × (place .at < task .room) ⌝ }
-    ensures { λ r. ⌜ Settled (now (words .entry)) (now (ranks .entry)) task 0 node (place .at) (now (out .entry)) (now (out .exit)) (r .at) ⌝ }
+    ensures { λ r. ⌜ Settled (MaskView (now (words .entry)) (task .rules) (now (ranks .entry))) task 0 node (place .at) (now (out .entry)) (now (out .exit)) (r .at) ⌝ }
 {
     if node.equal {
         return place;
@@ -302,11 +315,7 @@ pub fn finish(
     if !masks::is_view(words, task.rules, ranks, node.pair) {
         return place;
     }
-    put(out, place.at, node.pair);
-    Place {
-        at: place.at + 1,
-        dry: 0,
-    }
+    put_next(out, place, node.pair)
 }
 
 // Settles the last `left` statements: puts the views that come from the node on the page, in order, and answers the place after them.
@@ -321,7 +330,7 @@ pub fn settle(
     place: Place,
 ) -> Place
     requires { ⌜ (Ready (now words) (now ranks) (now out) task left (place .at)) × (place .at < task .room) × Chains (now words) (task .rules) (now index) ⌝ }
-    ensures { λ r. ⌜ Settled (now (words .entry)) (now (ranks .entry)) task left node (place .at) (now (out .entry)) (now (out .exit)) (r .at) ⌝ }
+    ensures { λ r. ⌜ Settled (MaskView (now (words .entry)) (task .rules) (now (ranks .entry))) task left node (place .at) (now (out .entry)) (now (out .exit)) (r .at) ⌝ }
 {
     if left == 0 {
         return finish(words, ranks, task, node, out, place);
@@ -342,7 +351,7 @@ pub fn values(
     place: Place,
 ) -> Place
     requires { ⌜ (Ready (now words) (now ranks) (now out) task left (place .at)) × (0 < left) × (0 < rest) × (rest ≤ 3) × Chains (now words) (task .rules) (now index) ⌝ }
-    ensures { λ r. ⌜ Tried (now (words .entry)) (now (ranks .entry)) task (left - 1) rest node (place .at) (now (out .entry)) (now (out .exit)) (r .at) ⌝ }
+    ensures { λ r. ⌜ Tried (MaskView (now (words .entry)) (task .rules) (now (ranks .entry))) task (left - 1) rest node (place .at) (now (out .entry)) (now (out .exit)) (r .at) ⌝ }
 {
     if rest == 1 {
         return try_value(words, ranks, index, task, left, DENIED, node, out, place);
@@ -374,7 +383,7 @@ pub fn try_value(
     place: Place,
 ) -> Place
     requires { ⌜ (Ready (now words) (now ranks) (now out) task left (place .at)) × (0 < left) × (value ≤ 2) × Chains (now words) (task .rules) (now index) ⌝ }
-    ensures { λ r. ⌜ TriedOne (now (words .entry)) (now (ranks .entry)) task (left - 1) value node (place .at) (now (out .entry)) (now (out .exit)) (r .at) ⌝ }
+    ensures { λ r. ⌜ TriedOne (MaskView (now (words .entry)) (task .rules) (now (ranks .entry))) task (left - 1) value node (place .at) (now (out .entry)) (now (out .exit)) (r .at) ⌝ }
 {
     if task.room <= place.at {
         return place;
@@ -407,7 +416,7 @@ pub fn list_views(
     at: usize,
 ) -> usize
     requires { ⌜ (Fits (now words) (now ranks) (now out) task at) × Chains (now words) (task .rules) (now index) ⌝ }
-    ensures { λ r. ⌜ Listed (now (words .entry)) (now (ranks .entry)) task taken (rest .bounds) after at (now (out .entry)) (now (out .exit)) r ⌝ }
+    ensures { λ r. ⌜ Listed (MaskView (now (words .entry)) (task .rules) (now (ranks .entry))) task taken (rest .bounds) after at (now (out .entry)) (now (out .exit)) r ⌝ }
 {
     if task.room <= at {
         return at;

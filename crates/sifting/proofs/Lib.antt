@@ -1,3 +1,1 @@
-pub mod Portions
-pub mod Skips
-pub mod Rounds
+pub mod Sifting

@@ -1,2 +1,1 @@
 pub mod Sifted
-pub mod Skips

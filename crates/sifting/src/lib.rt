@@ -1,193 +1,227 @@
-// The views with one set of exceptions that stand, in the order of pairs. They are listed in portions, and of each portion those are put on the page
-// that no view dominates.
-ghost use mathlib.Core.Path.{_≡_};
-ghost use mathlib.Core.Bool.{true, false};
-ghost use Prim.Native.Nat.{_+_, _*_, _<_, _≤_};
+// The views with one set of exceptions that stand, in the order of pairs. The search in order of `page`, whose bounds are narrowed by what is remembered, so that
+// views which a remembered one dominates are passed over many at a time; a view that is left is asked whether it stands.
+ghost use Prim.Native.Nat.{_+_, _-_, _*_, _<_, _≤_};
 ghost use lib.ListN.{length};
+ghost use Rattle.bounds.specs.Sound.{Keeps};
 ghost use Rattle.queue.specs.Chains.{Chains};
-ghost use Rattle.page.specs.Pages.{Fits};
-ghost use Rattle.few.specs.Few.{most};
-ghost use Rattle.sifting.specs.Sifted.{PutIf, LastOf, Advances, Sifted, Rounded, AllSifted};
+ghost use Rattle.page.specs.Pages.{Fits, Ready, Settled, Tried, TriedOne};
+ghost use Rattle.standing.specs.Standing.{Right, StandingView};
+ghost use Rattle.sifting.specs.Sifted.{Sifts, AllSifted};
 use masks::Bounds;
+use page::Branch;
+use page::Node;
+use page::Place;
 use page::Task;
 use queue::Rest;
 use queue::index::Index;
 use sets::Pair;
 use standing::memory::Memory;
 
-pub mod skipping;
+// The set of all numbers that a word has room for.
+const EVERY: u64 = 0xffff_ffff_ffff_ffff;
 
-// Puts the pair at a place of the page, if it is to be put there. Answers the next place.
-pub fn put_if(ok: bool, v: Pair, out: &mut [u64], place: usize) -> usize
-    requires { ⌜ place * 3 + 3 ≤ length (now out) ⌝ }
-    ensures { λ r. ⌜ PutIf ok v place (now (out .entry)) (now (out .exit)) r ⌝ }
-{
-    if ok {
-        page::put(out, place, v);
-        return place + 1;
-    }
-    place
-}
-
-// Puts those of the first k pairs of the store that stand on the page, from place `at` on, until it is full. Answers the place after them.
-pub fn sift(
-    words: &[u64],
-    n: usize,
-    ranks: &[u64],
-    index: &Index,
-    root: Bounds,
-    memory: &mut Memory,
-    store: &[u64],
-    k: usize,
-    out: &mut [u64],
-    room: usize,
-    at: usize,
-) -> usize
-    requires { ⌜ ((n + 32) * 8 ≤ length (now words)) × (length (now ranks) ≤ 64) × Chains (now words) n (now index) × (k * 3 ≤ length (now store)) × (room * 3 ≤ length (now out)) × (at ≤ room) ⌝ }
-    ensures { λ r. ⌜ Sifted (now (words .entry)) n (now (ranks .entry)) root (now (store .entry)) k room at (now (memory .entry)) (now (memory .exit)) (now (out .entry)) (now (out .exit)) r ⌝ }
-{
-    let mut place = at;
-    let mut j: usize = 0;
-    while j < k {
-        if room <= place {
-            return place;
-        }
-        let v = page::pair_at(store, j);
-        let ok = standing::stands(words, n, ranks, index, root, memory, v);
-        place = put_if(ok, v, out, place);
-        j += 1;
-    }
-    place
-}
-
-// How far the page is filled; whether there may be more views with the set, and where these begin.
-pub struct Round {
-    pub place: usize,
-    pub point: Pair,
-    pub more: bool,
-}
-
-// Where few pairs are asked for, portions are small.
-const SHORT: usize = 8;
-
-// How many views to list at a time for a page with room for so many pairs.
-pub fn portion(room: usize) -> usize
-    ensures { λ r. ⌜ (0 < r) × (r ≤ most) ⌝ }
-{
-    if room < SHORT {
-        return SHORT;
-    }
-    few::MOST
-}
-
-// The last pair of a portion, as a point to go on from: it takes the exceptions t.
-pub fn last_of(store: &[u64], k: usize, t: u64) -> Pair
-    requires { ⌜ (0 < k) × (k * 3 ≤ length (now store)) ⌝ }
-    ensures { λ p. ⌜ LastOf (now (store .entry)) k t p ⌝ }
-{
-    let p = page::pair_at(store, k - 1);
-    Pair {
-        taken: t,
-        held: p.held,
-        denied: p.denied,
-    }
-}
-
-// Whether `next` is later than the point, if the listing began there.
-pub fn advances(later: bool, point: Pair, next: Pair) -> bool
-    ensures { λ r. ⌜ Advances later point next r ⌝ }
-{
-    if !later {
-        return true;
-    }
-    let taken = next.taken;
-    let p = Pair {
-        taken,
-        held: point.held,
-        denied: point.denied,
-    };
-    few::sooner(p, next)
-}
-
-// There is no more.
-fn ended(place: usize, point: Pair) -> Round
-    ensures { λ r. ⌜ r ≡ record { place = place; point = point; more = false } ⌝ }
-{
-    Round {
-        place,
-        point,
-        more: false,
-    }
-}
-
-// One portion of the views with the set t, those later than the point where `later` is true: those that stand are put on the page from place `at` on. Where
-// none is put, pairs that do not stand are skipped. None of the views with that set may be beyond the bounds at rest.
-pub fn one_round(
+// Every statement is settled: the pair is put on the page if it is a view that stands and not the point itself.
+pub fn finish(
     words: &[u64],
     ranks: &[u64],
     index: &Index,
     root: Bounds,
     task: Task,
-    t: u64,
-    rest: Rest,
-    later: bool,
-    point: Pair,
+    node: Node,
     memory: &mut Memory,
-    store: &mut [u64],
     out: &mut [u64],
-    at: usize,
-) -> Round
-    requires { ⌜ Fits (now words) (now ranks) (now out) task at × Chains (now words) (task .rules) (now index) × (most * 3 ≤ length (now store)) × ((task .rules + 32) * 8 ≤ length (now words)) ⌝ }
-    ensures { λ r. ⌜ Rounded (now (words .entry)) (now (ranks .entry)) root task t (rest .bounds) later point at (now (memory .entry)) (now (memory .exit)) (now (out .entry)) (now (out .exit)) r ⌝ }
+    place: Place,
+) -> Place
+    requires { ⌜ Fits (now words) (now ranks) (now out) task (place .at) × (place .at < task .room) × Chains (now words) (task .rules) (now index) × ((task .rules + 32) * 8 ≤ length (now words)) ⌝ }
+    ensures { λ r. ⌜ Sifts (now (words .entry)) (now (ranks .entry)) root task (now (memory .entry)) (now (memory .exit)) (r .at) (Settled (StandingView (now (words .entry)) (task .rules) (now (ranks .entry)) root) task 0 node (place .at) (now (out .entry)) (now (out .exit)) (r .at)) ⌝ }
 {
-    let cap = portion(task.room - at);
-    let part = Task {
-        rules: task.rules,
-        statements: task.statements,
-        room: cap,
-        point,
-    };
-    let k = page::list_views(words, ranks, index, part, t, rest, later, store, 0);
+    if node.equal {
+        return place;
+    }
     let n = task.rules;
-    let place = sift(
+    let p = node.pair;
+    if !masks::is_view(words, n, ranks, p) {
+        return place;
+    }
+    if !standing::stands(words, n, ranks, index, root, memory, p) {
+        return place;
+    }
+    page::put_next(out, place, p)
+}
+
+// The bounds of a node without views that a remembered view dominates, unless they are those it came from.
+pub fn lessened(
+    words: &[u64],
+    n: usize,
+    ranks: &[u64],
+    index: &Index,
+    from: Bounds,
+    node: Node,
+    memory: &Memory,
+) -> Rest
+    requires { ⌜ ((n + 32) * 8 ≤ length (now words)) × (length (now ranks) ≤ 64) × Chains (now words) n (now index) ⌝ }
+    ensures { λ r. ⌜ ((root : _) → Right (now (words .entry)) n (now (ranks .entry)) root (now (memory .entry)) → Keeps (StandingView (now (words .entry)) n (now (ranks .entry)) root) (node .bounds) (r .bounds)) ⌝ }
+{
+    let b = node.bounds;
+    let live = node.live;
+    let rest = Rest { bounds: b, live };
+    if bounds::unchanged(from, b) {
+        return rest;
+    }
+    standing::bans::unbanned(words, n, ranks, index, rest, memory)
+}
+
+// Settles the last `left` statements: puts the views that come from the node and stand on the page, in order, and answers the place after them.
+pub fn settle(
+    words: &[u64],
+    ranks: &[u64],
+    index: &Index,
+    root: Bounds,
+    task: Task,
+    left: u64,
+    node: Node,
+    memory: &mut Memory,
+    out: &mut [u64],
+    place: Place,
+) -> Place
+    requires { ⌜ Ready (now words) (now ranks) (now out) task left (place .at) × (place .at < task .room) × Chains (now words) (task .rules) (now index) × ((task .rules + 32) * 8 ≤ length (now words)) ⌝ }
+    ensures { λ r. ⌜ Sifts (now (words .entry)) (now (ranks .entry)) root task (now (memory .entry)) (now (memory .exit)) (r .at) (Settled (StandingView (now (words .entry)) (task .rules) (now (ranks .entry)) root) task left node (place .at) (now (out .entry)) (now (out .exit)) (r .at)) ⌝ }
+{
+    if left == 0 {
+        return finish(words, ranks, index, root, task, node, memory, out, place);
+    }
+    values(
         words,
-        n,
         ranks,
         index,
         root,
+        task,
+        left,
+        page::VALUES,
+        node,
         memory,
-        store,
-        k,
         out,
-        task.room,
-        at,
-    );
-    if k < cap {
-        return ended(place, point);
+        place,
+    )
+}
+
+// Tries the last `rest` values of the first statement left: absent, held, denied.
+pub fn values(
+    words: &[u64],
+    ranks: &[u64],
+    index: &Index,
+    root: Bounds,
+    task: Task,
+    left: u64,
+    rest: u64,
+    node: Node,
+    memory: &mut Memory,
+    out: &mut [u64],
+    place: Place,
+) -> Place
+    requires { ⌜ Ready (now words) (now ranks) (now out) task left (place .at) × (0 < left) × (0 < rest) × (rest ≤ 3) × Chains (now words) (task .rules) (now index) × ((task .rules + 32) * 8 ≤ length (now words)) ⌝ }
+    ensures { λ r. ⌜ Sifts (now (words .entry)) (now (ranks .entry)) root task (now (memory .entry)) (now (memory .exit)) (r .at) (Tried (StandingView (now (words .entry)) (task .rules) (now (ranks .entry)) root) task (left - 1) rest node (place .at) (now (out .entry)) (now (out .exit)) (r .at)) ⌝ }
+{
+    if rest == 1 {
+        return try_value(
+            words,
+            ranks,
+            index,
+            root,
+            task,
+            left,
+            page::DENIED,
+            node,
+            memory,
+            out,
+            place,
+        );
     }
-    if task.room <= place {
-        return ended(place, point);
-    }
-    let next = last_of(store, cap, t);
-    if !advances(later, point, next) {
-        return ended(place, point);
-    }
-    let point = skipping::onward(
+    let r = try_value(
         words,
-        n,
         ranks,
         index,
         root,
-        task.statements,
-        rest,
+        task,
+        left,
+        page::VALUES - rest,
+        node,
         memory,
-        next,
-        at < place,
-    );
-    Round {
+        out,
         place,
-        point,
-        more: true,
+    );
+    values(
+        words,
+        ranks,
+        index,
+        root,
+        task,
+        left,
+        rest - 1,
+        node,
+        memory,
+        out,
+        r,
+    )
+}
+
+// Tries one of them. What a branch takes on the stack is here, once for each statement.
+pub fn try_value(
+    words: &[u64],
+    ranks: &[u64],
+    index: &Index,
+    root: Bounds,
+    task: Task,
+    left: u64,
+    value: u64,
+    node: Node,
+    memory: &mut Memory,
+    out: &mut [u64],
+    place: Place,
+) -> Place
+    requires { ⌜ Ready (now words) (now ranks) (now out) task left (place .at) × (0 < left) × (value ≤ 2) × Chains (now words) (task .rules) (now index) × ((task .rules + 32) * 8 ≤ length (now words)) ⌝ }
+    ensures { λ r. ⌜ Sifts (now (words .entry)) (now (ranks .entry)) root task (now (memory .entry)) (now (memory .exit)) (r .at) (TriedOne (StandingView (now (words .entry)) (task .rules) (now (ranks .entry)) root) task (left - 1) value node (place .at) (now (out .entry)) (now (out .exit)) (r .at)) ⌝ }
+{
+    if task.room <= place.at {
+        return place;
+    }
+    let n = task.rules;
+    let b = page::branch_of(words, ranks, index, task, left - 1, value, node, place.dry);
+    match b {
+        Branch::Cut => place,
+        Branch::Open(c) => {
+            let r = lessened(words, n, ranks, index, node.bounds, c, memory);
+            let bounds = r.bounds;
+            let live = r.live;
+            if !sets::within(bounds.lo, bounds.hi) {
+                return place;
+            }
+            let pair = c.pair;
+            let hint = c.hint;
+            let d = Node {
+                equal: c.equal,
+                pair,
+                bounds,
+                live,
+                hint,
+            };
+            let next = Place {
+                at: place.at,
+                dry: std::num::wrapping_add_u64(place.dry, 1),
+            };
+            settle(
+                words,
+                ranks,
+                index,
+                root,
+                task,
+                left - 1,
+                d,
+                memory,
+                out,
+                next,
+            )
+        }
     }
 }
 
@@ -203,37 +237,44 @@ pub fn list_standing(
     rest: Rest,
     after: bool,
     memory: &mut Memory,
-    store: &mut [u64],
     out: &mut [u64],
     at: usize,
 ) -> usize
-    requires { ⌜ Fits (now words) (now ranks) (now out) task at × Chains (now words) (task .rules) (now index) × (most * 3 ≤ length (now store)) × ((task .rules + 32) * 8 ≤ length (now words)) ⌝ }
+    requires { ⌜ Fits (now words) (now ranks) (now out) task at × Chains (now words) (task .rules) (now index) × ((task .rules + 32) * 8 ≤ length (now words)) ⌝ }
     ensures { λ r. ⌜ AllSifted (now (words .entry)) (now (ranks .entry)) root task t (rest .bounds) after at (now (memory .entry)) (now (memory .exit)) (now (out .entry)) (now (out .exit)) r ⌝ }
 {
-    let point = task.point;
-    let mut later = after;
-    let mut r = Round {
-        place: at,
-        point,
-        more: true,
-    };
-    while r.more {
-        r = one_round(
-            words,
-            ranks,
-            index,
-            root,
-            task,
-            t,
-            rest,
-            later,
-            r.point,
-            memory,
-            store,
-            out,
-            r.place,
-        );
-        later = true;
+    if task.room <= at {
+        return at;
     }
-    r.place
+    let bounds = rest.bounds;
+    let live = rest.live;
+    let node = Node {
+        equal: after,
+        pair: Pair {
+            taken: t,
+            held: 0,
+            denied: 0,
+        },
+        bounds,
+        live,
+        hint: Pair {
+            taken: EVERY,
+            held: EVERY,
+            denied: EVERY,
+        },
+    };
+    let place = Place { at, dry: 0 };
+    settle(
+        words,
+        ranks,
+        index,
+        root,
+        task,
+        task.statements,
+        node,
+        memory,
+        out,
+        place,
+    )
+    .at
 }

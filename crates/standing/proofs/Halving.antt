@@ -47,17 +47,17 @@ module _ (ws : List ℕ) (n : ℕ) (ranks : List ℕ) (root b : Bounds) (mem : L
     h = o .halves c m live e
 
     -- What is left has every view within b that stands.
-    in-left : Right ws n ranks root mem → (v : Pair) → MaskView ws n ranks v → In b v → Stands ws n ranks root v → In d v
+    pub in-left : Right ws n ranks root mem → (v : Pair) → MaskView ws n ranks v → In b v → Stands ws n ranks root v → In d v
     in-left q v y i s = u .keeps root q .kept v (record { view = y; stands = s }) (h .narrow .keeps .kept v y i)
 
     from-left : {v : Pair} → In d v → In b v
     from-left i = record { lo = sub-trans (h .narrow .lo) (sub-trans (u .lo) (i .lo)); hi = sub-trans (i .hi) (sub-trans (u .hi) (h .narrow .hi)) }
 
-    from-out : {v : Pair} → In (outOf d m) v → In b v
+    pub from-out : {v : Pair} → In (outOf d m) v → In b v
     unfolding outOf
     from-out i = from-left (record { lo = i .lo; hi = sub-trans (i .hi) (minus-sub _ _) })
 
-    from-into : {v : Pair} → In (intoOf d m) v → In b v
+    pub from-into : {v : Pair} → In (intoOf d m) v → In b v
     unfolding intoOf
     from-into i = from-left (record { lo = sub-trans (join-l _ _) (i .lo); hi = i .hi })
 

@@ -13,6 +13,8 @@ use Rattle.masks.specs.Views.{Fires, Counts, Leads, Alike, MaskView, fromAt, to
 use Rattle.masks.specs.Steps.{LedTo}
 use Rattle.sets.specs.Pairs.{Sub, Off, minusOf, Atom}
 use Rattle.bounds.specs.Sound.{In, Keeps}
+use Rattle.probe.specs.declared.Outcome.{Outcome}
+use Rattle.probe.specs.declared.Outcome.the-variants.{Has, Lacks}
 use Rattle.admissible.specs.Admissible.{Stands}
 use Rattle.superior.specs.Superiors.{Used}
 
@@ -145,6 +147,11 @@ pub data Split (b : Bounds) (m r : Pair) : Type 0 where
 pub record StandingIn (ws : List ℕ) (n : ℕ) (ranks : List ℕ) (root b : Bounds) (r : Bool) : Type 0 where
   pub found : r ≡ true → (v : Pair) × MaskView ws n ranks v × In b v × Stands ws n ranks root v
   pub none : r ≡ false → (v : Pair) → MaskView ws n ranks v → In b v → Stands ws n ranks root v → ⊥
+
+-- The same of a search that may stop: where it stopped, it says nothing.
+pub record AttemptedIn (ws : List ℕ) (n : ℕ) (ranks : List ℕ) (root b : Bounds) (r : Outcome) : Type 0 where
+  pub found : (v : Pair) → r ≡ Has v → MaskView ws n ranks v × In b v × Stands ws n ranks root v
+  pub none : (left : ℕ) → r ≡ Lacks left → (v : Pair) → MaskView ws n ranks v → In b v → Stands ws n ranks root v → ⊥
 
 -- No view within b that stands has a subset of taken that lacks the exception at place e.
 pub record UnexceededAt (ws : List ℕ) (n : ℕ) (ranks : List ℕ) (root b : Bounds) (taken e : ℕ) : Type 0 where

@@ -4,11 +4,12 @@ ghost use lib.ListN.{length};
 ghost use Rattle.logic.specs.Tests.{Decides};
 ghost use Rattle.queue.specs.Chains.{Chains};
 ghost use Rattle.admissible.specs.Admissible.{Stands, Unexceeded};
-ghost use Rattle.standing.specs.Standing.{Ranked, Right, Searched, StandingIn, UnexceededAt, UnexceededIn};
+ghost use Rattle.standing.specs.Standing.{Ranked, Right, Searched, StandingIn, AttemptedIn, UnexceededAt, UnexceededIn};
 use crate::memory::Memory;
 use masks::Bounds;
 use probe::Answer;
 use probe::Node;
+use probe::Outcome;
 use queue::Rest;
 use queue::index;
 use queue::index::Index;
@@ -86,7 +87,7 @@ pub fn stands(
 
 // A view within the bounds b stands; w is what is to be done before the bounds are at rest. As probe::probe, but bans narrow the bounds of each node, what
 // lines ask is decided first, and a view that is found is asked whether it stands.
-pub fn standing(
+pub fn search(
     words: &[u64],
     n: usize,
     ranks: &[u64],
@@ -112,13 +113,116 @@ pub fn standing(
             let m = splitting::asked(words, n, d, m);
             let o = bounds::out(d, m);
             let t = index::among(index, r.live, d, o);
-            if standing(words, n, ranks, index, root, t, o, mem) {
+            if search(words, n, ranks, index, root, t, o, mem) {
                 return true;
             }
             let p = bounds::into(d, m);
             let t = index::among(index, r.live, d, p);
-            standing(words, n, ranks, index, root, t, p, mem)
+            search(words, n, ranks, index, root, t, p, mem)
         }
+    }
+}
+
+// How many nodes a search for one view that stands may visit before the bounds it began with are shaved.
+const FUEL: u64 = 256;
+
+// The same search, which visits at most `fuel` nodes.
+pub fn attempt(
+    words: &[u64],
+    n: usize,
+    ranks: &[u64],
+    index: &Index,
+    root: Bounds,
+    w: Work,
+    b: Bounds,
+    mem: &mut Memory,
+    fuel: u64,
+) -> Outcome
+    requires { ⌜ ((n + 32) * 8 ≤ length (now words)) × (length (now ranks) ≤ 64) × Chains (now words) n (now index) ⌝ }
+    ensures { λ r. ⌜ (Right (now (words .entry)) n (now (ranks .entry)) root (now (mem .entry)) → Right (now (words .entry)) n (now (ranks .entry)) root (now (mem .exit)) × AttemptedIn (now (words .entry)) n (now (ranks .entry)) root b r) ⌝ }
+{
+    if fuel == 0 {
+        return Outcome::Stopped;
+    }
+    let x = probe::visit(words, n, ranks, index, w, b);
+    match x {
+        Node::View(v) => {
+            if stands(words, n, ranks, index, root, mem, v) {
+                return Outcome::Has(v);
+            }
+            Outcome::Lacks(fuel - 1)
+        }
+        Node::Empty => Outcome::Lacks(fuel - 1),
+        Node::Open(c, m, live) => {
+            let r = bans::unbanned(words, n, ranks, index, Rest { bounds: c, live }, mem);
+            let d = r.bounds;
+            if !sets::within(d.lo, d.hi) {
+                return Outcome::Lacks(fuel - 1);
+            }
+            let m = splitting::asked(words, n, d, m);
+            let o = bounds::out(d, m);
+            let t = index::among(index, r.live, d, o);
+            let a = attempt(words, n, ranks, index, root, t, o, mem, fuel - 1);
+            match a {
+                Outcome::Has(v) => Outcome::Has(v),
+                Outcome::Stopped => Outcome::Stopped,
+                Outcome::Lacks(left) => {
+                    let p = bounds::into(d, m);
+                    let t = index::among(index, r.live, d, p);
+                    attempt(words, n, ranks, index, root, t, p, mem, left)
+                }
+            }
+        }
+    }
+}
+
+// The same as search, from shaved bounds.
+pub fn search_shaved(
+    words: &[u64],
+    n: usize,
+    ranks: &[u64],
+    index: &Index,
+    root: Bounds,
+    w: Work,
+    b: Bounds,
+    mem: &mut Memory,
+) -> bool
+    requires { ⌜ ((n + 32) * 8 ≤ length (now words)) × (length (now ranks) ≤ 64) × Chains (now words) n (now index) ⌝ }
+    ensures { λ r. ⌜ (Right (now (words .entry)) n (now (ranks .entry)) root (now (mem .entry)) → Right (now (words .entry)) n (now (ranks .entry)) root (now (mem .exit)) × StandingIn (now (words .entry)) n (now (ranks .entry)) root b r) ⌝ }
+{
+    let rest = queue::propagate(words, n, ranks, index, w, b);
+    let r = probe::shaving::shaved(words, n, ranks, index, rest);
+    search(
+        words,
+        n,
+        ranks,
+        index,
+        root,
+        waiting::none(r.live),
+        r.bounds,
+        mem,
+    )
+}
+
+// The same as search: from shaved bounds where the plain search has used up its fuel.
+pub fn standing(
+    words: &[u64],
+    n: usize,
+    ranks: &[u64],
+    index: &Index,
+    root: Bounds,
+    w: Work,
+    b: Bounds,
+    mem: &mut Memory,
+) -> bool
+    requires { ⌜ ((n + 32) * 8 ≤ length (now words)) × (length (now ranks) ≤ 64) × Chains (now words) n (now index) ⌝ }
+    ensures { λ r. ⌜ (Right (now (words .entry)) n (now (ranks .entry)) root (now (mem .entry)) → Right (now (words .entry)) n (now (ranks .entry)) root (now (mem .exit)) × StandingIn (now (words .entry)) n (now (ranks .entry)) root b r) ⌝ }
+{
+    let a = attempt(words, n, ranks, index, root, w, b, mem, FUEL);
+    match a {
+        Outcome::Has(_) => true,
+        Outcome::Lacks(_) => false,
+        Outcome::Stopped => search_shaved(words, n, ranks, index, root, w, b, mem),
     }
 }
 

@@ -1,4 +1,3 @@
-use mathlib.Core.Path.{_≡_}
 use borrow.Author.Needs.{needs}
 use Rattle.one_set.proofs.list_set.Statement.{statement}
 use Rattle.one_set.proofs.list_set.Tie as tie
@@ -7,7 +6,7 @@ lined-requires : tie.Need-lined-requires
 lined-requires c κs = search needs
 
 list-lined-requires : tie.Need-list-lined-requires
-list-lined-requires c κs = (c .before .before .before .before .before .before .before .before .before .before .before .pre .0, c .before .before .before .before .before .before .before .before .before .before .before .pre .1, c .before .before .before .before .before .before .before .before .before .before .before .pre .2, c .before .before .before .before .before .before .before .before .before .before .before .pre .3, c .before .before .before .before .before .lined .ensures .yes (search needs) .room)
+list-lined-requires c κs = let pre = c .before .before .before .before .before .before .before .before .before .before .pre in (pre .0, pre .1, pre .2, c .before .before .before .before .lined .ensures .yes (search needs) .room)
 
 same-length : tie.Need-same-length
 same-length c = search needs
@@ -15,23 +14,20 @@ same-length c = search needs
 same-length-2 : tie.Need-same-length-2
 same-length-2 c = search needs
 
-same-length-3 : tie.Need-same-length-3
-same-length-3 c = search needs
-
 returns : tie.Need-returns
 returns c = search needs
 
 list-plain-requires : tie.Need-list-plain-requires
 list-plain-requires c κs = search needs
 
+same-length-3 : tie.Need-same-length-3
+same-length-3 c = search needs
+
 same-length-4 : tie.Need-same-length-4
 same-length-4 c = search needs
 
 same-length-5 : tie.Need-same-length-5
 same-length-5 c = search needs
-
-same-length-6 : tie.Need-same-length-6
-same-length-6 c = search needs
 
 returns-2 : tie.Need-returns-2
 returns-2 c = c .before .before .before .before .before .before .list-plain .ensures (c .before .before .before .before .before .before .before .before .before .before .before .lined .ensures .no (search needs)) _
@@ -44,10 +40,9 @@ list-set-spec =
     list-lined-requires
     same-length
     same-length-2
-    same-length-3
     returns
     list-plain-requires
+    same-length-3
     same-length-4
     same-length-5
-    same-length-6
     returns-2)

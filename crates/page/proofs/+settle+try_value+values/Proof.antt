@@ -70,7 +70,7 @@ settle-same-length : (t : ℕ) → settle-lts.Need-same-length (settle-callees t
 settle-same-length t c = search needs
 
 settle-returns : (t : ℕ) → settle-lts.Need-returns (settle-callees t) (settle-at t) settle.Post
-settle-returns t c = settle-last _ _ _ _ _ _ _ _ _ (search needs) (c .before .before .finish .ensures)
+settle-returns t c = settle-last _ _ _ _ _ _ _ _ (search needs) (c .before .before .finish .ensures)
 
 settle-values-requires : (t : ℕ) → settle-lts.Need-values-requires (settle-callees t) (settle-at t) settle.Post
 settle-values-requires t c κs =
@@ -81,10 +81,10 @@ settle-same-length-2 : (t : ℕ) → settle-lts.Need-same-length-2 (settle-calle
 settle-same-length-2 t c = search needs
 
 settle-returns-2 : (t : ℕ) → settle-lts.Need-returns-2 (settle-callees t) (settle-at t) settle.Post
-settle-returns-2 t c = settle-open _ _ _ _ _ _ _ _ _ (search needs) (c .before .before .values .ensures)
+settle-returns-2 t c = settle-open _ _ _ _ _ _ _ _ (search needs) (c .before .before .values .ensures)
 
 try-value-returns : (t : ℕ) → try-value-lts.Need-returns (try-value-callees t) (try-value-at t) try-value.Post
-try-value-returns t c = one-full _ _ _ _ _ _ _ _ (c .before .before .before .before .before .before .pre .1 .0) (search needs)
+try-value-returns t c = one-full _ _ _ _ _ _ _ (c .before .before .before .before .before .before .pre .1 .0 .fits .place) (search needs)
 
 try-value-sub-branch-of : (t : ℕ) → try-value-lts.Need-sub-branch-of (try-value-callees t) (try-value-at t) try-value.Post
 try-value-sub-branch-of t c = omega (arith, c .before .before .before .before .before .before .pre .1 .1)
@@ -113,14 +113,14 @@ try-value-settle-requires t c κs =
 
 try-value-returns-2 : (t : ℕ) → try-value-lts.Need-returns-2 (try-value-callees t) (try-value-at t) try-value.Post
 try-value-returns-2 t c =
-    one-cut _ _ _ _ _ _ _ _ (c .before .before .before .before .before .before .before .before .before .pre .1 .0) _ (c .before .before .branch-of .ensures) (search needs)
+    one-cut _ _ _ _ _ _ _ (c .before .before .before .before .before .before .before .before .before .pre .1 .0 .fits .place) _ _ (λ v x. x) _ (c .before .before .branch-of .ensures) (search needs)
 
 try-value-same-length : (t : ℕ) → try-value-lts.Need-same-length (try-value-callees t) (try-value-at t) try-value.Post
 try-value-same-length t c = search needs
 
 try-value-returns-3 : (t : ℕ) → try-value-lts.Need-returns-3 (try-value-callees t) (try-value-at t) try-value.Post
 try-value-returns-3 t c =
-    one-open _ _ _ _ _ _ _ _ (c .before .before .before .before .before .before .before .before .before .before .before .before .before .before .before .pre .1 .0) _ (c .before .before .before .before .before .before .before .before .branch-of .ensures) _ (search needs) _ _ (c .before .before .settle .ensures)
+    one-open _ _ _ _ _ _ _ (c .before .before .before .before .before .before .before .before .before .before .before .before .before .before .before .pre .1 .0 .fits .place) _ _ (λ v x. x) _ (c .before .before .before .before .before .before .before .before .branch-of .ensures) _ (search needs) _ _ (c .before .before .settle .ensures)
 
 values-try-value-requires : (t : ℕ) → values-lts.Need-try-value-requires (values-callees t) (values-at t) values.Post
 values-try-value-requires t c κs =
@@ -131,7 +131,7 @@ values-same-length : (t : ℕ) → values-lts.Need-same-length (values-callees t
 values-same-length t c = search needs
 
 values-returns : (t : ℕ) → values-lts.Need-returns (values-callees t) (values-at t) values.Post
-values-returns t c = try-last _ _ _ _ _ _ _ _ (search needs) _ _ (c .before .before .try-value .ensures)
+values-returns t c = try-last _ _ _ _ _ _ _ (search needs) _ _ (c .before .before .try-value .ensures)
 
 values-sub-try-value : (t : ℕ) → values-lts.Need-sub-try-value (values-callees t) (values-at t) values.Post
 values-sub-try-value t c = omega (arith, c .before .before .before .before .pre .1 .3)
@@ -157,7 +157,7 @@ values-same-length-2 t c = search needs
 values-returns-2 : (t : ℕ) → values-lts.Need-returns-2 (values-callees t) (values-at t) values.Post
 values-returns-2 t c =
     let more = c .before .before .before .before .before .before .before .before .before .before .before .before .pre .1 .2 in
-    try-one _ _ _ _ _ _ _ _ (λ e. omega (arith, e, more)) _ _ _ _ (c .before .before .before .before .before .before .try-value2 .ensures) (c .before .before .values .ensures)
+    try-one _ _ _ _ _ _ _ (λ e. omega (arith, e, more)) _ _ _ _ (c .before .before .before .before .before .before .try-value2 .ensures) (c .before .before .values .ensures)
 
 pub +settle+try-value+values-spec : {M : Type 1} → statement M
 +settle+try-value+values-spec = close μ-settle μ-try-value μ-values (λ t. settle-lts.spec (settle-callees t)
