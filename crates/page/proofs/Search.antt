@@ -141,8 +141,8 @@ module _ (P : Pair → Type 0) (q : Task) (left w : ℕ) (d : Node) (at : ℕ) (
               let t : Tests P (allFrom (q .statements) (left - 1) (c .pair)) g = rw (child .pair) tg in
               let f = narrowed g t (child .covers g (picks g tg) h) in
               let none : passing g q (left - 1) c (allFrom (q .statements) (left - 1) (c .pair)) ≡ [] =
-                  keep-none (passes g (q .statements) (q .point) (left - 1) (c .equal)) (allFrom (q .statements) (left - 1) (c .pair))
-                  (λ v m. rw (fails (is (g v)) (λ x. let i = f .kept v x m in n (sub-trans (i .lo) (i .hi)))) (both-false _)) in
+              keep-none (passes g (q .statements) (q .point) (left - 1) (c .equal)) (allFrom (q .statements) (left - 1) (c .pair))
+              (λ v m. rw (fails (is (g v)) (λ x. let i = f .kept v x m in n (sub-trans (i .lo) (i .hi)))) (both-false _)) in
               rw (child .same g, none) (page-none (q .room) at o);
         }
 

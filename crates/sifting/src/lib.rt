@@ -275,6 +275,5 @@ pub fn list_standing(
         memory,
         out,
         place,
-    )
-    .at
+    ).at
 }
