@@ -50,329 +50,115 @@ values-at t = and 5 values-kinds.ps (is 5 values-kinds.ps μ-values t) values.Pr
 abbrev values-below : ℕ → In 5 values-kinds.ps
 values-below t = and 5 values-kinds.ps (falls 5 values-kinds.ps _<_ μ-values t) values.Pre
 
-settle-finish-requires : (t : ℕ) → settle-lts.Need-finish-requires (
-  finish-reads.Asked,
-  finish-reads.Learnt,
-  values-below t,
-  values.Post,
-) (settle-at t) settle.Post
+abbrev settle-callees : ℕ → settle-lts.Claims
+settle-callees t = (finish-reads.Asked, finish-reads.Learnt, values-below t, values.Post)
+
+abbrev try-value-callees : ℕ → try-value-lts.Claims
+try-value-callees t = (
+  branch-of-reads.Asked,
+  branch-of-reads.Learnt,
+  lessened-reads.Asked,
+  lessened-reads.Learnt,
+  within-reads.Asked,
+  within-reads.Learnt,
+  wrapping-add-u64-reads.Asked,
+  wrapping-add-u64-reads.Learnt,
+  settle-below t,
+  settle.Post,
+)
+
+abbrev values-callees : ℕ → values-lts.Claims
+values-callees t = (try-value-below t, try-value.Post, values-below t, values.Post)
+
+settle-finish-requires : (t : ℕ) → settle-lts.Need-finish-requires (settle-callees t) (settle-at t) settle.Post
 settle-finish-requires t c κs = let pre = c .before .before .before .before .before .before .pre in (pre .1 .0 .fits, pre .1 .1, pre .1 .2, pre .1 .3)
 
-settle-same-length : (t : ℕ) → settle-lts.Need-same-length (
-  finish-reads.Asked,
-  finish-reads.Learnt,
-  values-below t,
-  values.Post,
-) (settle-at t) settle.Post
+settle-same-length : (t : ℕ) → settle-lts.Need-same-length (settle-callees t) (settle-at t) settle.Post
 settle-same-length t c = search needs
 
-settle-returns : (t : ℕ) → settle-lts.Need-returns (
-  finish-reads.Asked,
-  finish-reads.Learnt,
-  values-below t,
-  values.Post,
-) (settle-at t) settle.Post
+settle-returns : (t : ℕ) → settle-lts.Need-returns (settle-callees t) (settle-at t) settle.Post
 settle-returns t c = sift-last _ _ _ _ _ _ _ _ _ _ _ _ (search needs) (c .before .before .finish .ensures)
 
-settle-values-requires : (t : ℕ) → settle-lts.Need-values-requires (
-  finish-reads.Asked,
-  finish-reads.Learnt,
-  values-below t,
-  values.Post,
-) (settle-at t) settle.Post
+settle-values-requires : (t : ℕ) → settle-lts.Need-values-requires (settle-callees t) (settle-at t) settle.Post
 settle-values-requires t c κs = let pre = c .before .before .before .before .before .before .pre in (omega (arith, pre .0), (pre .1 .0, omega arith, omega arith, omega arith, pre .1 .2, pre .1 .3))
 
-settle-same-length-2 : (t : ℕ) → settle-lts.Need-same-length-2 (
-  finish-reads.Asked,
-  finish-reads.Learnt,
-  values-below t,
-  values.Post,
-) (settle-at t) settle.Post
+settle-same-length-2 : (t : ℕ) → settle-lts.Need-same-length-2 (settle-callees t) (settle-at t) settle.Post
 settle-same-length-2 t c = search needs
 
-settle-returns-2 : (t : ℕ) → settle-lts.Need-returns-2 (
-  finish-reads.Asked,
-  finish-reads.Learnt,
-  values-below t,
-  values.Post,
-) (settle-at t) settle.Post
+settle-returns-2 : (t : ℕ) → settle-lts.Need-returns-2 (settle-callees t) (settle-at t) settle.Post
 settle-returns-2 t c = sift-open _ _ _ _ _ _ _ _ _ _ _ _ (search needs) (c .before .before .values .ensures)
 
-try-value-returns : (t : ℕ) → try-value-lts.Need-returns (
-  branch-of-reads.Asked,
-  branch-of-reads.Learnt,
-  lessened-reads.Asked,
-  lessened-reads.Learnt,
-  within-reads.Asked,
-  within-reads.Learnt,
-  wrapping-add-u64-reads.Asked,
-  wrapping-add-u64-reads.Learnt,
-  settle-below t,
-  settle.Post,
-) (try-value-at t) try-value.Post
+try-value-returns : (t : ℕ) → try-value-lts.Need-returns (try-value-callees t) (try-value-at t) try-value.Post
 try-value-returns t c = sift-full _ _ _ _ _ _ _ _ _ _ (c .before .before .before .before .before .before .pre .1 .0 .fits .place) (search needs)
 
-try-value-sub-branch-of : (t : ℕ) → try-value-lts.Need-sub-branch-of (
-  branch-of-reads.Asked,
-  branch-of-reads.Learnt,
-  lessened-reads.Asked,
-  lessened-reads.Learnt,
-  within-reads.Asked,
-  within-reads.Learnt,
-  wrapping-add-u64-reads.Asked,
-  wrapping-add-u64-reads.Learnt,
-  settle-below t,
-  settle.Post,
-) (try-value-at t) try-value.Post
+try-value-sub-branch-of : (t : ℕ) → try-value-lts.Need-sub-branch-of (try-value-callees t) (try-value-at t) try-value.Post
 try-value-sub-branch-of t c = omega (arith, c .before .before .before .before .before .before .pre .1 .1)
 
-try-value-branch-of-requires : (t : ℕ) → try-value-lts.Need-branch-of-requires (
-  branch-of-reads.Asked,
-  branch-of-reads.Learnt,
-  lessened-reads.Asked,
-  lessened-reads.Learnt,
-  within-reads.Asked,
-  within-reads.Learnt,
-  wrapping-add-u64-reads.Asked,
-  wrapping-add-u64-reads.Learnt,
-  settle-below t,
-  settle.Post,
-) (try-value-at t) try-value.Post
+try-value-branch-of-requires : (t : ℕ) → try-value-lts.Need-branch-of-requires (try-value-callees t) (try-value-at t) try-value.Post
 try-value-branch-of-requires t c κs = let pre = c .before .before .before .before .before .before .pre in (branch-ready _ _ _ _ _ _ (pre .1 .0) (pre .1 .1) _ (pre .1 .2), pre .1 .3)
 
-try-value-enum-told : (t : ℕ) → try-value-lts.Need-enum-told (
-  branch-of-reads.Asked,
-  branch-of-reads.Learnt,
-  lessened-reads.Asked,
-  lessened-reads.Learnt,
-  within-reads.Asked,
-  within-reads.Learnt,
-  wrapping-add-u64-reads.Asked,
-  wrapping-add-u64-reads.Learnt,
-  settle-below t,
-  settle.Post,
-) (try-value-at t) try-value.Post
+try-value-enum-told : (t : ℕ) → try-value-lts.Need-enum-told (try-value-callees t) (try-value-at t) try-value.Post
 try-value-enum-told t c = search needs
 
-try-value-enum-known-b : (t : ℕ) → try-value-lts.Need-enum-known-b (
-  branch-of-reads.Asked,
-  branch-of-reads.Learnt,
-  lessened-reads.Asked,
-  lessened-reads.Learnt,
-  within-reads.Asked,
-  within-reads.Learnt,
-  wrapping-add-u64-reads.Asked,
-  wrapping-add-u64-reads.Learnt,
-  settle-below t,
-  settle.Post,
-) (try-value-at t) try-value.Post
+try-value-enum-known-b : (t : ℕ) → try-value-lts.Need-enum-known-b (try-value-callees t) (try-value-at t) try-value.Post
 try-value-enum-known-b t c = search needs
 
-try-value-lessened-requires : (t : ℕ) → try-value-lts.Need-lessened-requires (
-  branch-of-reads.Asked,
-  branch-of-reads.Learnt,
-  lessened-reads.Asked,
-  lessened-reads.Learnt,
-  within-reads.Asked,
-  within-reads.Learnt,
-  wrapping-add-u64-reads.Asked,
-  wrapping-add-u64-reads.Learnt,
-  settle-below t,
-  settle.Post,
-) (try-value-at t) try-value.Post
+try-value-lessened-requires : (t : ℕ) → try-value-lts.Need-lessened-requires (try-value-callees t) (try-value-at t) try-value.Post
 try-value-lessened-requires t c κs = let pre = c .before .before .before .before .before .before .before .before .before .before .before .pre in (pre .1 .4, pre .1 .0 .fits .suits .ranked, pre .1 .3)
 
-try-value-within-requires : (t : ℕ) → try-value-lts.Need-within-requires (
-  branch-of-reads.Asked,
-  branch-of-reads.Learnt,
-  lessened-reads.Asked,
-  lessened-reads.Learnt,
-  within-reads.Asked,
-  within-reads.Learnt,
-  wrapping-add-u64-reads.Asked,
-  wrapping-add-u64-reads.Learnt,
-  settle-below t,
-  settle.Post,
-) (try-value-at t) try-value.Post
+try-value-within-requires : (t : ℕ) → try-value-lts.Need-within-requires (try-value-callees t) (try-value-at t) try-value.Post
 try-value-within-requires t c κs = search needs
 
-try-value-returns-2 : (t : ℕ) → try-value-lts.Need-returns-2 (
-  branch-of-reads.Asked,
-  branch-of-reads.Learnt,
-  lessened-reads.Asked,
-  lessened-reads.Learnt,
-  within-reads.Asked,
-  within-reads.Learnt,
-  wrapping-add-u64-reads.Asked,
-  wrapping-add-u64-reads.Learnt,
-  settle-below t,
-  settle.Post,
-) (try-value-at t) try-value.Post
+try-value-returns-2 : (t : ℕ) → try-value-lts.Need-returns-2 (try-value-callees t) (try-value-at t) try-value.Post
 try-value-returns-2 t c = sift-void _ _ _ _ _ _ _ _ _ _ (c .before .before .before .before .before .before .before .before .before .before .before .before .before .before .before .before .pre .1 .0 .fits .place) _ (c .before .before .before .before .before .before .before .before .before .branch-of .ensures) _ (c .before .before .before .before .before .before .before .b .given .1) _ (c .before .before .before .before .lessened .ensures) _ (c .before .within .ensures) (search needs)
 
-try-value-wrapping-add-u64-requires : (t : ℕ) → try-value-lts.Need-wrapping-add-u64-requires (
-  branch-of-reads.Asked,
-  branch-of-reads.Learnt,
-  lessened-reads.Asked,
-  lessened-reads.Learnt,
-  within-reads.Asked,
-  within-reads.Learnt,
-  wrapping-add-u64-reads.Asked,
-  wrapping-add-u64-reads.Learnt,
-  settle-below t,
-  settle.Post,
-) (try-value-at t) try-value.Post
+try-value-wrapping-add-u64-requires : (t : ℕ) → try-value-lts.Need-wrapping-add-u64-requires (try-value-callees t) (try-value-at t) try-value.Post
 try-value-wrapping-add-u64-requires t c κs = search needs
 
-try-value-sub-settle : (t : ℕ) → try-value-lts.Need-sub-settle (
-  branch-of-reads.Asked,
-  branch-of-reads.Learnt,
-  lessened-reads.Asked,
-  lessened-reads.Learnt,
-  within-reads.Asked,
-  within-reads.Learnt,
-  wrapping-add-u64-reads.Asked,
-  wrapping-add-u64-reads.Learnt,
-  settle-below t,
-  settle.Post,
-) (try-value-at t) try-value.Post
+try-value-sub-settle : (t : ℕ) → try-value-lts.Need-sub-settle (try-value-callees t) (try-value-at t) try-value.Post
 try-value-sub-settle t c = omega (arith, c .before .before .before .before .before .before .before .before .before .before .before .before .before .before .before .before .before .before .before .pre .1 .1)
 
-try-value-settle-requires : (t : ℕ) → try-value-lts.Need-settle-requires (
-  branch-of-reads.Asked,
-  branch-of-reads.Learnt,
-  lessened-reads.Asked,
-  lessened-reads.Learnt,
-  within-reads.Asked,
-  within-reads.Learnt,
-  wrapping-add-u64-reads.Asked,
-  wrapping-add-u64-reads.Learnt,
-  settle-below t,
-  settle.Post,
-) (try-value-at t) try-value.Post
+try-value-settle-requires : (t : ℕ) → try-value-lts.Need-settle-requires (try-value-callees t) (try-value-at t) try-value.Post
 try-value-settle-requires t c κs = let pre = c .before .before .before .before .before .before .before .before .before .before .before .before .before .before .before .before .before .before .before .before .before .pre in (omega (arith, pre .0, pre .1 .1), (child-ready _ _ _ _ _ _ (pre .1 .0), omega (arith, c .before .before .before .before .before .before .before .before .before .before .before .before .before .before .before .if1 .left), pre .1 .3, pre .1 .4))
 
-try-value-returns-3 : (t : ℕ) → try-value-lts.Need-returns-3 (
-  branch-of-reads.Asked,
-  branch-of-reads.Learnt,
-  lessened-reads.Asked,
-  lessened-reads.Learnt,
-  within-reads.Asked,
-  within-reads.Learnt,
-  wrapping-add-u64-reads.Asked,
-  wrapping-add-u64-reads.Learnt,
-  settle-below t,
-  settle.Post,
-) (try-value-at t) try-value.Post
+try-value-returns-3 : (t : ℕ) → try-value-lts.Need-returns-3 (try-value-callees t) (try-value-at t) try-value.Post
 try-value-returns-3 t c = sift-cut _ _ _ _ _ _ _ _ _ _ (c .before .before .before .before .before .before .before .before .before .pre .1 .0 .fits .place) _ (c .before .before .branch-of .ensures) (search needs)
 
-try-value-same-length : (t : ℕ) → try-value-lts.Need-same-length (
-  branch-of-reads.Asked,
-  branch-of-reads.Learnt,
-  lessened-reads.Asked,
-  lessened-reads.Learnt,
-  within-reads.Asked,
-  within-reads.Learnt,
-  wrapping-add-u64-reads.Asked,
-  wrapping-add-u64-reads.Learnt,
-  settle-below t,
-  settle.Post,
-) (try-value-at t) try-value.Post
+try-value-same-length : (t : ℕ) → try-value-lts.Need-same-length (try-value-callees t) (try-value-at t) try-value.Post
 try-value-same-length t c = search needs
 
-try-value-returns-4 : (t : ℕ) → try-value-lts.Need-returns-4 (
-  branch-of-reads.Asked,
-  branch-of-reads.Learnt,
-  lessened-reads.Asked,
-  lessened-reads.Learnt,
-  within-reads.Asked,
-  within-reads.Learnt,
-  wrapping-add-u64-reads.Asked,
-  wrapping-add-u64-reads.Learnt,
-  settle-below t,
-  settle.Post,
-) (try-value-at t) try-value.Post
+try-value-returns-4 : (t : ℕ) → try-value-lts.Need-returns-4 (try-value-callees t) (try-value-at t) try-value.Post
 try-value-returns-4 t c = sift-narrower _ _ _ _ _ _ _ _ _ _ (c .before .before .before .before .before .before .before .before .before .before .before .before .before .before .before .before .before .before .before .before .before .before .before .before .pre .1 .0 .fits .place) _ (c .before .before .before .before .before .before .before .before .before .before .before .before .before .before .before .before .before .branch-of .ensures) _ (c .before .before .before .before .before .before .before .before .before .before .before .before .before .before .before .b .given .1) _ (c .before .before .before .before .before .before .before .before .before .before .before .before .lessened .ensures) _ _ _ _ _ (c .before .before .settle .ensures)
 
-values-try-value-requires : (t : ℕ) → values-lts.Need-try-value-requires (
-  try-value-below t,
-  try-value.Post,
-  values-below t,
-  values.Post,
-) (values-at t) values.Post
+values-try-value-requires : (t : ℕ) → values-lts.Need-try-value-requires (values-callees t) (values-at t) values.Post
 values-try-value-requires t c κs = let pre = c .before .before .before .before .before .before .pre in (omega (arith, pre .0, pre .1 .1, pre .1 .2), (pre .1 .0, pre .1 .1, omega arith, pre .1 .4, pre .1 .5))
 
-values-same-length : (t : ℕ) → values-lts.Need-same-length (
-  try-value-below t,
-  try-value.Post,
-  values-below t,
-  values.Post,
-) (values-at t) values.Post
+values-same-length : (t : ℕ) → values-lts.Need-same-length (values-callees t) (values-at t) values.Post
 values-same-length t c = search needs
 
-values-returns : (t : ℕ) → values-lts.Need-returns (
-  try-value-below t,
-  try-value.Post,
-  values-below t,
-  values.Post,
-) (values-at t) values.Post
+values-returns : (t : ℕ) → values-lts.Need-returns (values-callees t) (values-at t) values.Post
 values-returns t c = sift-alone _ _ _ _ _ _ _ _ _ _ (search needs) _ _ _ (c .before .before .try-value .ensures)
 
-values-sub-try-value : (t : ℕ) → values-lts.Need-sub-try-value (
-  try-value-below t,
-  try-value.Post,
-  values-below t,
-  values.Post,
-) (values-at t) values.Post
+values-sub-try-value : (t : ℕ) → values-lts.Need-sub-try-value (values-callees t) (values-at t) values.Post
 values-sub-try-value t c = omega (arith, c .before .before .before .before .pre .1 .3)
 
-values-try-value-requires-2 : (t : ℕ) → values-lts.Need-try-value-requires-2 (
-  try-value-below t,
-  try-value.Post,
-  values-below t,
-  values.Post,
-) (values-at t) values.Post
+values-try-value-requires-2 : (t : ℕ) → values-lts.Need-try-value-requires-2 (values-callees t) (values-at t) values.Post
 values-try-value-requires-2 t c κs = let pre = c .before .before .before .before .before .before .pre in (omega (arith, pre .0, pre .1 .1, pre .1 .2), (pre .1 .0, pre .1 .1, omega (arith, pre .1 .2, pre .1 .3), pre .1 .4, pre .1 .5))
 
-values-sub-values : (t : ℕ) → values-lts.Need-sub-values (
-  try-value-below t,
-  try-value.Post,
-  values-below t,
-  values.Post,
-) (values-at t) values.Post
+values-sub-values : (t : ℕ) → values-lts.Need-sub-values (values-callees t) (values-at t) values.Post
 values-sub-values t c = omega (arith, c .before .before .before .before .before .before .before .before .before .pre .1 .2)
 
-values-values-requires : (t : ℕ) → values-lts.Need-values-requires (
-  try-value-below t,
-  try-value.Post,
-  values-below t,
-  values.Post,
-) (values-at t) values.Post
+values-values-requires : (t : ℕ) → values-lts.Need-values-requires (values-callees t) (values-at t) values.Post
 values-values-requires t c κs = let pre = c .before .before .before .before .before .before .before .before .before .before .before .pre in let more = c .before .before .before .before .before .before .before .if1 .left in let one = c .before .before .before .before .try-value2 in (omega (arith, pre .0, pre .1 .2), (ready-again _ _ _ _ _ _ _ _ (pre .1 .0) (one .kept .1 .1 .1 .1 .1 .1 .1 .1 .1 .0) (one .ensures .most), pre .1 .1, omega (arith, pre .1 .2, more), omega (arith, pre .1 .3), pre .1 .4, pre .1 .5))
 
-values-same-length-2 : (t : ℕ) → values-lts.Need-same-length-2 (
-  try-value-below t,
-  try-value.Post,
-  values-below t,
-  values.Post,
-) (values-at t) values.Post
+values-same-length-2 : (t : ℕ) → values-lts.Need-same-length-2 (values-callees t) (values-at t) values.Post
 values-same-length-2 t c = search needs
 
-values-returns-2 : (t : ℕ) → values-lts.Need-returns-2 (
-  try-value-below t,
-  try-value.Post,
-  values-below t,
-  values.Post,
-) (values-at t) values.Post
+values-returns-2 : (t : ℕ) → values-lts.Need-returns-2 (values-callees t) (values-at t) values.Post
 values-returns-2 t c = let more = c .before .before .before .before .before .before .before .before .before .before .before .before .before .before .pre .1 .2 in sift-one _ _ _ _ _ _ _ _ _ _ (λ e. omega (arith, e, more)) _ _ _ _ _ _ (c .before .before .before .before .before .before .before .try-value2 .ensures) (c .before .before .values .ensures)
 
 pub +settle+try-value+values-spec : {M : Type 1} → statement M
-+settle+try-value+values-spec = close μ-settle μ-try-value μ-values (λ t. settle-lts.spec (
-  finish-reads.Asked,
-  finish-reads.Learnt,
-  values-below t,
-  values.Post,
-)
++settle+try-value+values-spec = close μ-settle μ-try-value μ-values (λ t. settle-lts.spec (settle-callees t)
     (settle-at t)
     settle.Post
     (settle-finish-requires t)
@@ -381,18 +167,7 @@ pub +settle+try-value+values-spec : {M : Type 1} → statement M
     (settle-values-requires t)
     (settle-same-length-2 t)
     (settle-returns-2 t))
-    (λ t. try-value-lts.spec (
-      branch-of-reads.Asked,
-      branch-of-reads.Learnt,
-      lessened-reads.Asked,
-      lessened-reads.Learnt,
-      within-reads.Asked,
-      within-reads.Learnt,
-      wrapping-add-u64-reads.Asked,
-      wrapping-add-u64-reads.Learnt,
-      settle-below t,
-      settle.Post,
-    )
+    (λ t. try-value-lts.spec (try-value-callees t)
     (try-value-at t)
     try-value.Post
     (try-value-returns t)
@@ -410,7 +185,7 @@ pub +settle+try-value+values-spec : {M : Type 1} → statement M
     (try-value-same-length t)
     (try-value-returns-4 t))
     λ t. values-lts.spec
-    (try-value-below t, try-value.Post, values-below t, values.Post)
+    (values-callees t)
     (values-at t)
     values.Post
     (values-try-value-requires t)
