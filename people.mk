@@ -9,7 +9,7 @@
 
 PREFIX ?= /usr/local
 DESTDIR ?=
-VERSION ?= 2.4
+VERSION ?= 2.5
 WAYS ?= target/bin/ways
 LIBRARY ?= target/staticlib/libbantameasel.a
 COLLECTION ?= build/collection

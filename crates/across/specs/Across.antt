@@ -26,15 +26,15 @@ use Rattle.across.specs.declared.VerdictAnswer.{VerdictAnswer}
 use Rattle.across.specs.declared.PairAnswer.{PairAnswer}
 use Rattle.across.specs.declared.Done.{Done}
 
--- The version as one number, 100 for each whole version and 1 for each part of one: 2.4.
+-- The version as one number, 100 for each whole version and 1 for each part of one: 2.5.
 abbrev pub versionNumber : ℕ
-versionNumber = 204
+versionNumber = 205
 
 -- The pair beside an answer that has none.
 unfoldable pub noPair : Pair
 noPair = record { taken = 0; held = 0; denied = 0 }
 
--- Of Read: the edition, n and the four counts. What is reserved is 0.
+-- Of Read: the edition, n and the five counts. What is reserved is 0.
 unfoldable pub bookIn : Reading → BookAnswer
 bookIn (Accepted s) = record {
   refusal = 0;
@@ -45,7 +45,8 @@ bookIn (Accepted s) = record {
   exceptions = s .exceptions;
   preferences = s .preferences;
   conditionals = s .conditionals;
-  reserved = replicate 3 0;
+  alternatives = s .alternatives;
+  reserved = replicate 2 0;
 }
 bookIn (Refused q) = record {
   refusal = q .number;
@@ -56,7 +57,8 @@ bookIn (Refused q) = record {
   exceptions = 0;
   preferences = 0;
   conditionals = 0;
-  reserved = replicate 3 0;
+  alternatives = 0;
+  reserved = replicate 2 0;
 }
 
 -- Of Write, Line and pages: how many.

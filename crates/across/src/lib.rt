@@ -12,8 +12,8 @@ use sets::Pair;
 use text::Reading;
 use text::Writing;
 
-// What Read answers: the edition, n and the numbers of R, X, P and Q lines. The reserved numbers are 0: room for counts to come. The number
-// of Q lines has the place of the first of four, so that the struct keeps its size and every field its place.
+// What Read answers: the edition, n and the numbers of R, X, P, Q and O lines. The reserved numbers are 0: room for counts to come. The numbers
+// of Q and O lines have the places of the first two of four, so that the struct keeps its size and every field its place.
 #[repr(C)]
 pub struct BookAnswer {
     pub refusal: u32,
@@ -24,7 +24,8 @@ pub struct BookAnswer {
     pub exceptions: u64,
     pub preferences: u64,
     pub conditionals: u64,
-    pub reserved: [u64; 3],
+    pub alternatives: u64,
+    pub reserved: [u64; 2],
 }
 
 // What Write, Line and a page answer: how many bytes, how many pairs.
@@ -60,7 +61,7 @@ pub struct Done {
 }
 
 // What stands in the place of counts to come.
-const RESERVED: [u64; 3] = [0; 3];
+const RESERVED: [u64; 2] = [0; 2];
 
 pub fn book_in(r: Reading) -> BookAnswer
     ensures { λ a. ⌜ a ≡ bookIn r ⌝ }
@@ -75,6 +76,7 @@ pub fn book_in(r: Reading) -> BookAnswer
             exceptions: s.exceptions as u64,
             preferences: s.preferences as u64,
             conditionals: s.conditionals as u64,
+            alternatives: s.alternatives as u64,
             reserved: RESERVED,
         },
         Reading::Refused(q) => BookAnswer {
@@ -86,6 +88,7 @@ pub fn book_in(r: Reading) -> BookAnswer
             exceptions: 0,
             preferences: 0,
             conditionals: 0,
+            alternatives: 0,
             reserved: RESERVED,
         },
     }

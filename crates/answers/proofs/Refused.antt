@@ -1,5 +1,5 @@
 -- The refusals of a text: the number is never 0 and has two digits at most, and the line is one of the text's lines, or the line after the
--- last. So an answer that carries number 0 is not a refusal, and both numbers fit their fields.
+-- last. So an answer that carries number 0 is not a refusal; and both numbers fit their fields, though a text may have more bytes than 9,999.
 use Prim.Native.Nat.{ℕ, zero, suc, _+_, _<_, _≤_}
 use mathlib.Core.Path.{_≡_, refl}
 use mathlib.Core.Bool.{Bool, true, false}
@@ -14,7 +14,7 @@ use Rattle.logic.proofs.Tests.{all-at}
 use Rattle.book.proofs.Counts.{many}
 use Rattle.book.specs.declared.Content.{Content}
 use Rattle.book.specs.declared.Content.the-variants.{Edition, Statements, Literal, Exception, Total}
-use Rattle.book.specs.Kinds.{kinds, kind, unknown, fieldsOf, bytes, none, exception, Range, rangeOf, longest}
+use Rattle.book.specs.Kinds.{kinds, kind, unknown, fieldsOf, bytes, none, exception, Range, rangeOf, most, longest}
 use Rattle.text.specs.declared.State.{State}
 use Rattle.text.specs.declared.Field.{Field}
 use Rattle.text.specs.declared.Field.the-variants.{Value, Misspelt}
@@ -170,21 +170,44 @@ text-known bs =
     (either-way (Known m) (eqb (lastByte bs) 10) (readLines (lines bs) start 1) (refused 2 0) (lines-known m (lines bs) start 1 (omega arith))
     (record { low = omega arith; high = omega arith }, omega arith))
 
--- So the line is never more than the longest text has bytes, and one.
-known-more : (m n : ℕ) (o : Outcome) → m ≤ n → Known m o → Known n o
-known-more m n (accepted s ws) h k = tt
-known-more m n (refused q l) h k = (k .0, omega (arith, k .1))
+-- A line before the one that is refused has a byte at least and its line feed, so the refusal's line fits a field of 4 columns.
+unfoldable weight : List (List ℕ) → ℕ
+weight [] = 0
+weight (l ∷ ls) = suc (length l) + weight ls
 
-too-long : (bs : List ℕ) → ltb longest (length bs) ≡ true → readText bs ≡ refused 1 0
+weight-first : (b n : ℕ) (ls : List (List ℕ)) → weight ls ≤ n → 1 ≤ n → weight (toFirst b ls) ≤ suc n
+unfolding toFirst weight
+weight-first b n [] h l = omega arith
+weight-first b n (x ∷ xs) h l = omega arith
+
+lines-weight : (bs : List ℕ) → weight (lines bs) ≤ suc (length bs)
+unfolding lines weight
+lines-weight [] = omega arith
+lines-weight (b ∷ bs) =
+    let h = lines-weight bs in let g = weight-first b (suc (length bs)) (lines bs) h (omega arith) in
+    either-way (λ (ls : List (List ℕ)). weight ls ≤ suc (suc (length bs))) (eqb b 10) ([] ∷ lines bs) (toFirst b (lines bs)) (omega arith) g
+
+short-lines : (m : ℕ) (ls : List (List ℕ)) (st : State) (i : ℕ) → i + i + weight ls ≤ m + m → Known m (readLines ls st i)
+unfolding readLines readEnd readLine onLine weight
+short-lines m [] st i h = either-way (Known m) (eqb (st .next) none) (accepted (shapeOf st) []) (refused 3 i) tt (record { low = omega arith; high = omega arith }, omega arith)
+short-lines m ([] ∷ ls) st i h = (record { low = omega arith; high = omega arith }, omega arith)
+short-lines m ((b ∷ bs) ∷ ls) st i h =
+    on-known m (readLine st (b ∷ bs)) i (λ k vs. readLines ls (step st k vs) (suc i)) (line-wronged st (b ∷ bs)) (omega arith) (λ k vs. short-lines m ls (step st k vs) (suc i) (omega arith))
+
+longest-few : longest < 19000
+unfolding longest most bytes kinds
+longest-few = omega arith
+
+pub text-short : (bs : List ℕ) → Known 9999 (readText bs)
 unfolding readText pick
-too-long bs e = rw e refl
-
-pub text-short : (bs : List ℕ) → Known (suc longest) (readText bs)
 text-short bs = go (ltb longest (length bs)) refl
   where
-    go : (b : Bool) → ltb longest (length bs) ≡ b → Known (suc longest) (readText bs)
-    go true e = rw (too-long bs e) (record { low = omega arith; high = omega arith }, omega arith)
-    go false e = known-more (suc (length (lines bs))) (suc longest) (readText bs) (let h = lines-length bs in let g = ltb-false longest (length bs) e in omega arith) (text-known bs)
+    go : (b : Bool) → ltb longest (length bs) ≡ b → Known 9999 (pick b (refused 1 0) (pick (eqb (lastByte bs) 10) (readLines (lines bs) start 1) (refused 2 0)))
+    go true e = (record { low = omega arith; high = omega arith }, omega arith)
+    go false e =
+        either-way (Known 9999) (eqb (lastByte bs) 10) (readLines (lines bs) start 1) (refused 2 0)
+        (short-lines 9999 (lines bs) start 1 (omega (arith, lines-weight bs, ltb-false longest (length bs) e, longest-few)))
+        (record { low = omega arith; high = omega arith }, omega arith)
 
 -- ---- an answer by its meaning
 -- What holds of every refusal whose number is not 0, and of all that is right, holds of what an operation answers.

@@ -22,7 +22,7 @@ use entry::Name;
 use sets::Pair;
 
 // The version as one number, 100 for each whole version and 1 for each part of one: 2.4. include/bantameasel.h and people.mk have it too.
-const VERSION: u32 = 204;
+const VERSION: u32 = 205;
 
 // The version of this library.
 #[no_mangle]

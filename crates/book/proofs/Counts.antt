@@ -17,7 +17,7 @@ use Rattle.book.specs.declared.Measure.{Measure}
 use Rattle.book.specs.declared.Measure.the-variants.{Rows, Numbers, Bytes}
 use Rattle.book.specs.declared.Shape.{Shape}
 use Rattle.book.specs.Limits as limit
-use Rattle.book.specs.Kinds.{kinds, kind, unknown, bytes, rowOnce, first, last, plain, exception, preference, conditional, none, widest, most}
+use Rattle.book.specs.Kinds.{kinds, kind, unknown, bytes, rowOnce, first, last, plain, alternative, exception, preference, conditional, none, widest, most}
 use Rattle.book.specs.Counts.{countsOf, frontOf, allCounts, countAt, sumTo, measured, InLimits}
 
 pub many : length kinds ≡ none
@@ -42,6 +42,10 @@ module _ (s : Shape) (l : InLimits s) where
   unfolding countAt allCounts countsOf kind kinds
   conditionals-in = l .counts conditional
 
+  pub alternatives-in : s .alternatives ≤ limit.alternatives
+  unfolding countAt allCounts countsOf kind kinds
+  alternatives-in = l .counts alternative
+
 -- The numbers before the rows of a table are small.
 pub front-small : (s : Shape) → InLimits s → (i : ℕ) → getD (frontOf s) i 0 < 1000
 unfolding frontOf
@@ -50,7 +54,8 @@ front-small s l (suc zero) = omega (arith, plain-in s l)
 front-small s l (suc (suc zero)) = omega (arith, exceptions-in s l)
 front-small s l (suc (suc (suc zero))) = omega (arith, preferences-in s l)
 front-small s l (suc (suc (suc (suc zero)))) = omega (arith, conditionals-in s l)
-front-small s l (suc (suc (suc (suc (suc i))))) = omega arith
+front-small s l (suc (suc (suc (suc (suc zero))))) = omega (arith, alternatives-in s l)
+front-small s l (suc (suc (suc (suc (suc (suc i)))))) = omega arith
 
 -- A shape is in the limits if its n and its counts of rows are: B and Z stand once.
 lines-long : (s : Shape) → length (allCounts s) ≡ none

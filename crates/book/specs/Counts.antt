@@ -8,15 +8,15 @@ use Rattle.book.specs.declared.Measure.{Measure}
 use Rattle.book.specs.declared.Measure.the-variants.{Rows, Numbers, Bytes}
 use Rattle.book.specs.declared.Shape.{Shape}
 use Rattle.book.specs.Limits as limit
-use Rattle.book.specs.Kinds.{kind, bytes, rowOnce, plain, exception, preference, conditional, none}
+use Rattle.book.specs.Kinds.{kind, bytes, rowOnce, plain, alternative, exception, preference, conditional, none}
 
 -- How many rows there are of each kind that is a row of the table, in line order.
 unfoldable pub countsOf : Shape → List ℕ
-countsOf s = s .plain ∷ s .exceptions ∷ s .preferences ∷ s .conditionals ∷ []
+countsOf s = s .plain ∷ s .alternatives ∷ s .exceptions ∷ s .preferences ∷ s .conditionals ∷ []
 
--- The numbers before the table's rows: n, and these counts in their own order.
+-- The numbers before the table's rows: n, and these counts in their own order, that of R, X, P, Q and O.
 unfoldable pub frontOf : Shape → List ℕ
-frontOf s = s .statements ∷ s .plain ∷ s .exceptions ∷ s .preferences ∷ s .conditionals ∷ []
+frontOf s = s .statements ∷ s .plain ∷ s .exceptions ∷ s .preferences ∷ s .conditionals ∷ s .alternatives ∷ []
 
 -- How many lines there are of each kind, in the order of a text: one B, the rows, one Z.
 unfoldable pub allCounts : Shape → List ℕ
@@ -28,7 +28,14 @@ countAt s k = getD (allCounts s) k 0
 
 -- The shape of n statements and so many lines of each kind, in the order of a text.
 unfoldable pub shapeFrom : ℕ → List ℕ → Shape
-shapeFrom n cs = record { statements = n; plain = getD cs plain 0; exceptions = getD cs exception 0; preferences = getD cs preference 0; conditionals = getD cs conditional 0 }
+shapeFrom n cs = record {
+  statements = n;
+  plain = getD cs plain 0;
+  exceptions = getD cs exception 0;
+  preferences = getD cs preference 0;
+  conditionals = getD cs conditional 0;
+  alternatives = getD cs alternative 0;
+}
 
 -- The sum over the kinds before place k of a number that each has, as often as the book has such lines.
 unfoldable pub sumTo : (Kind → ℕ) → Shape → ℕ → ℕ

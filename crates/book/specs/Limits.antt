@@ -1,4 +1,4 @@
--- The limits of a book (document 01, 'A book and its lines'; document 02, (c), (e)). Nothing else in the definitions repeats these numbers, except that
+-- The limits of a book (document 01, 'A book and its lines'; document 02, (c), (e), (g)). Nothing else in the definitions repeats these numbers, except that
 -- promises/specs/Noted has those of document 01, which stand still.
 use Prim.Native.Nat.{ℕ}
 
@@ -9,6 +9,10 @@ statements = 48
 -- The most plain rules, R lines.
 abbrev pub plain : ℕ
 plain = 200
+
+-- The most plain rules with alternatives, O lines.
+abbrev pub alternatives : ℕ
+alternatives = 40
 
 -- The most exceptions, X lines.
 abbrev pub exceptions : ℕ

@@ -15,6 +15,7 @@ limits = record {
   exceptions = limit.exceptions;
   preferences = limit.preferences;
   conditionals = limit.conditionals;
+  alternatives = limit.alternatives;
   text = longest;
   rules = rules;
   rows = mostRows;
@@ -24,7 +25,7 @@ limits = record {
 
 -- The shape of the empty book: one statement, no line but B and Z.
 unfoldable pub emptyShape : Shape
-emptyShape = record { statements = 1; plain = 0; exceptions = 0; preferences = 0; conditionals = 0 }
+emptyShape = record { statements = 1; plain = 0; exceptions = 0; preferences = 0; conditionals = 0; alternatives = 0 }
 
 -- The empty book: that shape, and every number of its rows 0.
 unfoldable pub emptyBook : Book

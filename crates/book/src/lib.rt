@@ -15,6 +15,7 @@ pub struct Shape {
     pub exceptions: usize,
     pub preferences: usize,
     pub conditionals: usize,
+    pub alternatives: usize,
 }
 
 // A book: its shape, and room for the rows of any book; the rows' numbers come first.
@@ -30,6 +31,7 @@ pub struct Limits {
     pub exceptions: usize,
     pub preferences: usize,
     pub conditionals: usize,
+    pub alternatives: usize,
     pub text: usize,
     pub rules: usize,
     pub rows: usize,
@@ -38,10 +40,12 @@ pub struct Limits {
 }
 
 impl Book {
-    // The most statements, R lines, X lines, P lines and Q lines.
+    // The most statements, R lines, O lines, X lines, P lines and Q lines.
     pub const STATEMENTS: usize = 48;
 
     pub const PLAIN: usize = 200;
+
+    pub const ALTERNATIVES: usize = 40;
 
     pub const EXCEPTIONS: usize = 16;
 
@@ -52,42 +56,50 @@ impl Book {
     // The most exceptions of a book that keeps the short form of Line, which has as many fields for them.
     pub const SHORT_LINE: usize = 12;
 
-    // The most rules, plain ones and exceptions; the most lines that Z counts.
-    pub const RULES: usize = Book::PLAIN + Book::EXCEPTIONS;
+    // The most rules: plain ones, those with alternatives, exceptions; the most lines that Z counts.
+    pub const RULES: usize = Book::PLAIN + Book::ALTERNATIVES + Book::EXCEPTIONS;
 
     pub const ROWS: usize = Book::RULES + Book::PREFERENCES + Book::CONDITIONALS;
 
-    // How many kinds of line there are, and their places in the order of a text: B, R, X, P, Q, Z.
-    pub const KINDS: usize = 6;
+    // How many kinds of line there are, and their places in the order of a text: B, R, O, X, P, Q, Z.
+    pub const KINDS: usize = 7;
 
     pub const AT_FIRST: usize = 0;
 
     pub const AT_PLAIN: usize = 1;
 
-    pub const AT_EXCEPTION: usize = 2;
+    pub const AT_ALTERNATIVE: usize = 2;
 
-    pub const AT_PREFERENCE: usize = 3;
+    pub const AT_EXCEPTION: usize = 3;
 
-    pub const AT_CONDITIONAL: usize = 4;
+    pub const AT_PREFERENCE: usize = 4;
 
-    pub const AT_LAST: usize = 5;
+    pub const AT_CONDITIONAL: usize = 5;
 
-    // The columns of a field, the entries that a body needs and as many that it bars, the fields of rules, of preferences and of those under a
-    // condition, the most that a line has, the bytes of a line beside its fields.
+    pub const AT_LAST: usize = 6;
+
+    // The columns of a field, the entries that a body needs and as many that it bars, the heads of a rule with alternatives, the fields of rules, of
+    // those with alternatives, of preferences and of those under a condition, the most that a line has, the bytes of a line beside its fields.
     pub const COLUMNS: usize = 4;
 
     pub const ENTRIES: usize = 4;
 
+    pub const HEADS: usize = 3;
+
     pub const RULE_FIELDS: usize = 1 + Book::ENTRIES + Book::ENTRIES;
+
+    pub const ALTERNATIVE_FIELDS: usize = Book::HEADS + Book::ENTRIES + Book::ENTRIES;
 
     pub const PREFERENCE_FIELDS: usize = 2;
 
     pub const CONDITIONAL_FIELDS: usize = Book::PREFERENCE_FIELDS + Book::ENTRIES + Book::ENTRIES;
 
-    pub const WIDEST: usize = Book::CONDITIONAL_FIELDS;
+    pub const WIDEST: usize = Book::ALTERNATIVE_FIELDS;
 
-    // How many numbers of the number table a rule, a preference and one under a condition have.
+    // How many numbers of the number table a rule, one with alternatives, a preference and one under a condition have.
     pub const RULE_NUMBERS: usize = Book::RULE_FIELDS;
+
+    pub const ALTERNATIVE_NUMBERS: usize = Book::ALTERNATIVE_FIELDS;
 
     pub const PREFERENCE_NUMBERS: usize = Book::PREFERENCE_FIELDS;
 
@@ -95,10 +107,12 @@ impl Book {
 
     pub const ENDS: usize = 2;
 
-    // The longest text: B, the rules, the preferences, those under a condition, Z.
+    // The longest text: B, the plain rules, those with alternatives, the exceptions, the preferences, those under a condition, Z.
     pub const TEXT: usize = Book::ENDS
         + 2 * Book::COLUMNS
-        + Book::RULES * (Book::ENDS + Book::RULE_FIELDS * Book::COLUMNS)
+        + Book::PLAIN * (Book::ENDS + Book::RULE_FIELDS * Book::COLUMNS)
+        + Book::ALTERNATIVES * (Book::ENDS + Book::ALTERNATIVE_FIELDS * Book::COLUMNS)
+        + Book::EXCEPTIONS * (Book::ENDS + Book::RULE_FIELDS * Book::COLUMNS)
         + Book::PREFERENCES * (Book::ENDS + Book::PREFERENCE_FIELDS * Book::COLUMNS)
         + Book::CONDITIONALS * (Book::ENDS + Book::CONDITIONAL_FIELDS * Book::COLUMNS)
         + Book::ENDS
@@ -108,7 +122,9 @@ impl Book {
     pub const FRONT: usize = Book::KINDS - 1;
 
     pub const NUMBERS: usize = Book::FRONT
-        + Book::RULES * Book::RULE_NUMBERS
+        + Book::PLAIN * Book::RULE_NUMBERS
+        + Book::ALTERNATIVES * Book::ALTERNATIVE_NUMBERS
+        + Book::EXCEPTIONS * Book::RULE_NUMBERS
         + Book::PREFERENCES * Book::PREFERENCE_NUMBERS
         + Book::CONDITIONALS * Book::CONDITIONAL_NUMBERS;
 
@@ -127,6 +143,7 @@ impl Book {
             exceptions: Book::EXCEPTIONS,
             preferences: Book::PREFERENCES,
             conditionals: Book::CONDITIONALS,
+            alternatives: Book::ALTERNATIVES,
             text: Book::TEXT,
             rules: Book::RULES,
             rows: Book::ROWS,
@@ -146,6 +163,7 @@ impl Book {
                 exceptions: 0,
                 preferences: 0,
                 conditionals: 0,
+                alternatives: 0,
             },
             rows: [0i32; Book::ROOM],
         }
@@ -179,9 +197,11 @@ pub struct Kind {
     pub count: usize,
 }
 
-const CONTENTS: [Content; 22] = [
+const CONTENTS: [Content; 24] = [
     Content::Edition,
     Content::Statements,
+    Content::Literal,
+    Content::Literal,
     Content::Literal,
     Content::Literal,
     Content::Literal,
@@ -232,6 +252,19 @@ const KINDS: [Kind; Book::KINDS] = [
         count: 1,
     },
     Kind {
+        letter: b'O',
+        fields: Book::ALTERNATIVE_FIELDS,
+        from: 2,
+        numbers: Book::ALTERNATIVE_NUMBERS,
+        limit: Book::ALTERNATIVES,
+        over: 22,
+        row: true,
+        heads: Book::HEADS,
+        filled: 2,
+        unfilled: 23,
+        count: 5,
+    },
+    Kind {
         letter: b'X',
         fields: Book::RULE_FIELDS,
         from: 2,
@@ -247,7 +280,7 @@ const KINDS: [Kind; Book::KINDS] = [
     Kind {
         letter: b'P',
         fields: Book::PREFERENCE_FIELDS,
-        from: 11,
+        from: 13,
         numbers: Book::PREFERENCE_NUMBERS,
         limit: Book::PREFERENCES,
         over: 8,
@@ -260,7 +293,7 @@ const KINDS: [Kind; Book::KINDS] = [
     Kind {
         letter: b'Q',
         fields: Book::CONDITIONAL_FIELDS,
-        from: 11,
+        from: 13,
         numbers: Book::CONDITIONAL_NUMBERS,
         limit: Book::CONDITIONALS,
         over: 19,
@@ -273,7 +306,7 @@ const KINDS: [Kind; Book::KINDS] = [
     Kind {
         letter: b'Z',
         fields: 1,
-        from: 21,
+        from: 23,
         numbers: 0,
         limit: 1,
         over: 8,
@@ -353,10 +386,18 @@ pub fn content_at(place: usize) -> Content
 pub fn counts_of(s: Shape) -> [usize; Book::KINDS]
     ensures { λ r. ⌜ r ≡ allCounts s ⌝ }
 {
-    [1, s.plain, s.exceptions, s.preferences, s.conditionals, 1]
+    [
+        1,
+        s.plain,
+        s.alternatives,
+        s.exceptions,
+        s.preferences,
+        s.conditionals,
+        1,
+    ]
 }
 
-// The numbers before the rows of a number table: n, and the counts of the kinds of rows in their own order.
+// The numbers before the rows of a number table: n, and the counts of the kinds of rows in their own order, that of R, X, P, Q and O.
 pub fn front_of(s: Shape) -> [usize; Book::FRONT]
     ensures { λ r. ⌜ r ≡ frontOf s ⌝ }
 {
@@ -366,6 +407,7 @@ pub fn front_of(s: Shape) -> [usize; Book::FRONT]
         s.exceptions,
         s.preferences,
         s.conditionals,
+        s.alternatives,
     ]
 }
 
@@ -379,6 +421,7 @@ pub fn shape_from(n: usize, counts: [usize; Book::KINDS]) -> Shape
         exceptions: counts[Book::AT_EXCEPTION],
         preferences: counts[Book::AT_PREFERENCE],
         conditionals: counts[Book::AT_CONDITIONAL],
+        alternatives: counts[Book::AT_ALTERNATIVE],
     }
 }
 

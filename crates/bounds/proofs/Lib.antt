@@ -1,3 +1,4 @@
 pub mod Singles
 pub mod Ranges
 pub mod Steps
+pub mod Halves

@@ -7,20 +7,20 @@ use mathlib.Core.Logic.{⊎-elim}
 use Prim.Native.Nat.{ℕ, _^_, _<_}
 use native.Mathlib.Nat.{le-refl, le-trans}
 use native.Mathlib.Omega.{arith}
-use lib.Bits.{bitAnd}
+use lib.Bits.{bitAnd, bitOr}
 use lib.ListN.{length, getD}
 use Rattle.logic.specs.Tests.{Decides}
 use Rattle.logic.proofs.Decide.{decides-eq, holds-or-not}
 use Rattle.sets.specs.declared.Pair.{Pair}
 use Rattle.sets.specs.Sets.{bitOf, Apart}
-use Rattle.sets.specs.Pairs.{Sub, Off, joinOf, meetOf, minusOf}
+use Rattle.sets.specs.Pairs.{Sub, Off, joinOf, meetOf, minusOf, Atom}
 use Rattle.sets.proofs.Digits.{bit-lt}
 use Rattle.sets.proofs.Words as N
-use Rattle.sets.proofs.Words.{none-off, off-is, none-and, single-has, single}
+use Rattle.sets.proofs.Words.{none-off, off-is, or-zero, none-and, single-has, single}
 use Rattle.sets.proofs.Pairs.{sub-refl, sub-trans, join-sub, join-l, meet-sub, meet-l, sub-minus, sub-of-minus, off-sub, off-sym, off-of-meet}
 use Rattle.masks.specs.declared.Masks.{Masks}
 use Rattle.masks.specs.declared.Bounds.{Bounds}
-use Rattle.masks.specs.Views.{masksAt, Fires, Constraint, Meets, Lined, MaskView}
+use Rattle.masks.specs.Views.{masksAt, Fires, Meets, Lined, MaskView}
 use Rattle.masks.specs.Closures.{Closure}
 use Rattle.masks.specs.Steps.{Counting, Reached}
 use Rattle.masks.proofs.Steps.{has, leads-more, leads-unranked}
@@ -54,7 +54,7 @@ module _ {ws : List ℕ} {n : ℕ} {ranks : List ℕ} {b o : Bounds} where
   by-lines = keeps-less (λ v w. record { lined = w .lined })
 
   pub by-rules : Keeps (Ruled ws n) b o → Keeps (MaskView ws n ranks) b o
-  by-rules = keeps-less (λ v w. record { coherent = w .coherent; rules = w .rules; least = w .least; level = λ a h. absurd (omega arith); lined = λ l a c x p. w .lined l a c x (leads-unranked ws n ranks _ p) })
+  by-rules = keeps-less (λ v w. record { coherent = w .coherent; rules = w .rules; minimal = w .minimal; level = λ a h. absurd (omega arith); lined = λ l a c x p. w .lined l a c x (leads-unranked ws n ranks _ p) })
 
 pub propagated : (ws : List ℕ) (n : ℕ) (ranks : List ℕ) (b o p : Bounds) → Keeps (MaskView ws n ranks) b o → p ≡ narrowOf b o → Propagated ws n ranks b p
 unfolding narrowOf
@@ -102,14 +102,28 @@ sure : {r : Masks} {b : Bounds} {v : Pair} → In b v → Fires r (b .hi) (b .lo
 sure x f = record { needed = sub-trans (f .needed) (x .lo); unbarred = off-sub (sub-refl _) (x .hi) (f .unbarred) }
 
 module _ (r : Masks) (b : Bounds) where
-  pub forced-void : (w : Bool) (o : Bounds) → Decides w (Constraint r) → w ≡ true → Keeps (Firing r) b o
-  forced-void w o d e = record { kept = λ v k x. absurd (k .meets .quiet (d .yes e) (k .fires)) }
+  -- No head is possible.
+  -- No head is possible.
+  pub forced-none : (m : Pair) (o : Bounds) → m ≡ meetOf (r .head) (b .hi) → bitOr (bitOr (m .held) (m .denied)) (m .taken) ≡ 0 → Keeps (Firing r) b o
+  forced-none m o em z = record { kept = λ v k x. absurd (k .meets .closed (k .fires) (off-of-meet (r .head) (b .hi) (x .hi) (rw em at (empty v)))) }
+    where
+      empty : (v : Pair) → Off m v
+      empty v =
+          let p = or-zero (bitOr (m .held) (m .denied)) (m .taken) z in
+          let q = or-zero (m .held) (m .denied) (p .0) in
+          record { held = rw (q .0) (none-off (v .held)); denied = rw (q .1) (none-off (v .denied)); taken = rw (p .1) (none-off (v .taken)) }
 
-  pub forced-body : (o p q : Bounds) → o ≡ outOf b (r .bar) → p ≡ intoOf o (r .need) → q ≡ intoOf p (r .head) → Keeps (Firing r) b q
-  forced-body o p q eo ep eq =
-      rw (eq, ep, eo) (record {
-        kept = λ v k x. let f = k .fires in in-into (k .meets .closed f) (in-into (f .needed) (in-out (off-sym (f .unbarred)) x));
-      })
+  pub forced-body : (o p : Bounds) → o ≡ outOf b (r .bar) → p ≡ intoOf o (r .need) → Keeps (Firing r) b p
+  forced-body o p eo ep = rw (ep, eo) (record { kept = λ v k x. let f = k .fires in in-into (f .needed) (in-out (off-sym (f .unbarred)) x) })
+
+  -- One head alone is possible.
+  pub forced-head : (o p q : Bounds) (w : Bool) (m : Pair) → m ≡ meetOf (r .head) (b .hi) → (w ≡ true → Atom m) → w ≡ true
+      → o ≡ outOf b (r .bar) → p ≡ intoOf o (r .need) → q ≡ intoOf p m → Keeps (Firing r) b q
+  forced-head o p q w m em a ew eo ep eq =
+      rw eq (record { kept = λ v k x. in-into (had v k x) (forced-body o p eo ep .kept v k x) })
+    where
+      had : (v : Pair) → Firing r v → In b v → Sub m v
+      had v k x = ⊎-elim (λ (s : Sub m v). s) (λ (s : Off m v). absurd (k .meets .closed (k .fires) (off-of-meet (r .head) (b .hi) (x .hi) (rw em at s)))) (a ew v)
 
   pub idle-untaken : (o : Bounds) → o ≡ outOf b (record { taken = r .need .taken; held = 0; denied = 0 }) → Keeps (Idle r) b o
   idle-untaken o e = rw e (record { kept = λ v k x. out-taken b v (r .need .taken) (not-taken v k) x })
@@ -149,11 +163,8 @@ module _ (r : Masks) (b : Bounds) where
     pub step-sure : (w : Bool) → Decides w (Fires r (b .hi) (b .lo)) → w ≡ true → Keeps (Firing r) b o → Keeps (Meets r) b o
     step-sure w d e g = record { kept = λ v k x. g .kept v (record { meets = k; fires = sure x (d .yes e) }) x }
 
-    pub step-constraint : (w : Bool) → Decides w (Constraint r) → w ≡ true → Keeps (Idle r) b o → Keeps (Meets r) b o
-    step-constraint w d e g = record { kept = λ v k x. g .kept v (record { meets = k; fails = k .quiet (d .yes e) }) x }
-
-    pub step-head : (w : Bool) → Decides w (Sub (r .head) (b .hi)) → not w ≡ true → Keeps (Idle r) b o → Keeps (Meets r) b o
-    step-head w d e g = record { kept = λ v k x. g .kept v (record { meets = k; fails = λ f. refused d e (sub-trans (k .closed f) (x .hi)) }) x }
+    pub step-head : (w : Bool) → Decides w (Off (r .head) (b .hi)) → w ≡ true → Keeps (Idle r) b o → Keeps (Meets r) b o
+    step-head w d e g = record { kept = λ v k x. g .kept v (record { meets = k; fails = λ f. k .closed f (off-sub (sub-refl _) (x .hi) (d .yes e)) }) x }
 
 -- ---- (e) and (f)
 pub cohere : (b o : Bounds) → o ≡ outOf b (record { taken = 0; held = b .lo .denied; denied = b .lo .held }) → Keeps Coherent b o

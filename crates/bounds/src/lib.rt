@@ -110,6 +110,19 @@ pub fn void() -> Bounds {
     }
 }
 
+// Bounds with nothing in them that differ little from b: few rules mention what differs.
+pub fn crossed(b: Bounds) -> Bounds {
+    let hi = b.hi;
+    Bounds {
+        lo: Pair {
+            taken: b.lo.taken,
+            held: b.lo.held | (1 << 63),
+            denied: b.lo.denied,
+        },
+        hi,
+    }
+}
+
 // The bounds b without what o leaves out.
 pub fn narrowed(b: Bounds, o: Bounds) -> Bounds
     ensures { λ p. ⌜ p ≡ narrowOf b o ⌝ }
@@ -143,14 +156,19 @@ pub fn unchanged(a: Bounds, b: Bounds) -> bool {
     sets::same(a.lo, b.lo) && sets::same(a.hi, b.hi)
 }
 
-// The body is satisfied: needed entries in, barred ones out, the head in. A constraint leaves nothing. (a), (b)
+// The body is satisfied: needed entries in, barred ones out, and the head in if one alone is possible. If none is, as for a constraint, nothing is
+// left. (a), (b)
 pub fn forced(r: Masks, b: Bounds) -> Bounds
     ensures { λ o. ⌜ Keeps (Firing r) b o ⌝ }
 {
-    if masks::constraint(r) {
-        return void();
+    let x = sets::meet(r.head, b.hi);
+    if !masks::lone(x) {
+        return into(out(b, r.bar), r.need);
     }
-    into(into(out(b, r.bar), r.need), r.head)
+    if x.held | x.denied | x.taken == 0 {
+        return crossed(b);
+    }
+    into(into(out(b, r.bar), r.need), x)
 }
 
 // The body is not satisfied: the rule is no exception that is taken. (c)
@@ -199,10 +217,7 @@ pub fn step(r: Masks, b: Bounds) -> Bounds
     if masks::fires(r, b.hi, b.lo) {
         return forced(r, b);
     }
-    if masks::constraint(r) {
-        return falsified(r, b);
-    }
-    if !sets::within(r.head, b.hi) {
+    if sets::apart(r.head, b.hi) {
         return falsified(r, b);
     }
     b

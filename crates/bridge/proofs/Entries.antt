@@ -3,21 +3,20 @@
 use mathlib.Core.Bool.{true}
 use mathlib.Core.Path.{_≡_, refl}
 use mathlib.Core.List.{List, [], _∷_}
-use mathlib.Core.Logic.{_↔_, ⊎-elim}
+use mathlib.Core.Logic.{_↔_, inl, inr, ⊎-elim}
 use Prim.Native.Nat.{ℕ, _-_, _^_}
 use borrow.Author.Tests.{eqb-true, eq-eqb}
-use Rattle.logic.specs.Lists.{Every}
+use Rattle.logic.specs.Lists.{Every, Some}
 use Rattle.sets.specs.declared.Pair.{Pair}
 use Rattle.sets.specs.Sets.{member, bitOf, Within, Apart}
 use Rattle.sets.specs.Pairs.{Sub, Off, joinOf, Atom}
 use Rattle.sets.proofs.Words.{none-sub, none-off, single-has}
 use Rattle.sets.proofs.Pairs.{atom-held, atom-denied}
 use Rattle.meaning.specs.Literals.{Literal, pos, neg, isIn, _∈_}
-use Rattle.meaning.specs.Rules.{Head, none, gives, Rule}
-use Rattle.meaning.specs.AnswerSets.{Given}
+use Rattle.meaning.specs.Rules.{Rule}
 use Rattle.meaning.specs.Books.{conclusions}
 use Rattle.masks.specs.Views.{Fires}
-use Rattle.bridge.specs.Packed.{nothing, maskOf, maskAll, maskHead, Tagged, masksOf}
+use Rattle.bridge.specs.Packed.{nothing, maskOf, maskAll, Tagged, masksOf}
 use Rattle.bridge.proofs.Singles.{single-of, single-off, join-within, join-apart}
 
 -- ---- one conclusion
@@ -102,11 +101,17 @@ fires-are x v c = let s = sub-all c (x .rule .body .needed) in let o = off-all v
   λ h. let n = s .1 (h .2) in record { needed = record { held = n .held; denied = n .denied; taken = h .0 }; unbarred = o .1 (h .1) },
 )
 
-given : (h : Head) (c : Pair) → Sub (maskHead h) c ↔ Given h (conclusions c)
-unfolding maskHead
-given none c = (λ f. tt, λ e. nothing-sub c)
-given (gives l) c = in-one l c
+-- Some head is in c exactly where the mask of the heads is not apart from c.
+some-or-none : (c : Pair) (ls : List Literal) → (Every (λ l. l ∈ conclusions c → ⊥) ls → ⊥) ↔ Some (λ l. l ∈ conclusions c) ls
+some-or-none c [] = (λ f. f tt, λ s e. s)
+some-or-none c (l ∷ ls) = let ih = some-or-none c ls in (
+  λ f. ⊎-elim (λ m. inl (in-one l c .0 m)) (λ m. inr (ih .0 (λ e. f (off-one l c .0 m, e)))) (atom l c),
+  λ s e. ⊎-elim (λ m. e .0 m) (λ m. ih .1 m (e .1)) s,
+)
 
-pub head-is : (x : Tagged) (c : Pair) → Sub (masksOf x .head) c ↔ Given (x .rule .head) (conclusions c)
+pub heads-are : (x : Tagged) (c : Pair) → (Off (masksOf x .head) c → ⊥) ↔ Some (λ l. l ∈ conclusions c) (x .rule .heads)
 unfolding masksOf
-head-is x c = given (x .rule .head) c
+heads-are x c = let o = off-all c (x .rule .heads) in let s = some-or-none c (x .rule .heads) in (
+  λ f. s .0 (λ e. f (o .1 e)),
+  λ h e. s .1 h (o .0 e),
+)

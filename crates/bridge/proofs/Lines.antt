@@ -15,7 +15,7 @@ use Rattle.sets.specs.declared.Pair.{Pair}
 use Rattle.sets.specs.Sets.{member, bitOf}
 use Rattle.sets.proofs.Digits.{bit-single, bit-zero, lt-or-le}
 use Rattle.sets.proofs.Words.{none-sub, member-suc}
-use Rattle.meaning.specs.Rules.{none, Satisfied}
+use Rattle.meaning.specs.Rules.{Satisfied}
 use Rattle.meaning.specs.Preferences.{Conditional, counting, inBoth, Outranks, step, chain}
 use Rattle.meaning.specs.Books.{Book, conclusions}
 use Rattle.meaning.specs.Views.{ranking, Ranked, RankedWithin, Dominates}
@@ -44,7 +44,7 @@ same-power k x e = only-one k x (rw e (own-one x))
 -- A line's row counts where the line's body is satisfied.
 line-fires : (q : Conditional) (v : Pair) → Fires (lineOf q) v v ↔ Satisfied (conclusions v) (q .body)
 unfolding lineOf masksOf
-line-fires q v = let k = fires-are (record { own = 0; rule = record { head = none; body = q .body } }) v v in (
+line-fires q v = let k = fires-are (record { own = 0; rule = record { heads = []; body = q .body } }) v v in (
   λ f. let h = k .0 (record { needed = f .needed; unbarred = f .unbarred }) in record { needs = h .2; bars = h .1 },
   λ h. let f = k .1 (none-sub (v .taken), h .bars, h .needs) in record { needed = f .needed; unbarred = f .unbarred },
 )

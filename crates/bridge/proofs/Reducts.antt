@@ -1,15 +1,16 @@
--- Closure under the reduct, as one condition on each rule: if no barred entry is in S and every needed entry is in t, the head is in t.
+-- Closure under the reduct, as one condition on each rule: if no barred entry is in S and every needed entry is in t, a head is in t.
 -- By induction on the rules; the reduct drops or keeps the first by the same test.
 use mathlib.Core.Path.{_≡_, refl, sym, _∙_}
 use mathlib.Core.Bool.{Bool, true, false, not}
 use mathlib.Core.List.{List, [], _∷_}
 use mathlib.Core.Logic.{_↔_}
-use Rattle.logic.specs.Lists.{Every}
+use Rattle.logic.specs.Lists.{Every, Some}
 use Rattle.logic.specs.Tests.{consIf}
 use Rattle.logic.proofs.Decide.{clash}
-use Rattle.meaning.specs.Literals.{Literal, Conclusions, isIn, _∈_}
+use Rattle.logic.proofs.Members.{every-map}
+use Rattle.meaning.specs.Literals.{Literal, Conclusions, isIn, _∈_, _⊆_}
 use Rattle.meaning.specs.Rules.{Rule}
-use Rattle.meaning.specs.AnswerSets.{someIn, struck, reduct, Given, Closed}
+use Rattle.meaning.specs.AnswerSets.{someIn, struck, reduct, Given, Closed, Breaks}
 
 module _ (s : Conclusions) where
   none-in : (ls : List Literal) → (someIn s ls ≡ false) ↔ Every (λ l. l ∈ s → ⊥) ls
@@ -24,7 +25,7 @@ module _ (s : Conclusions) where
 
   -- What closure of t under the reduct by s asks of a rule.
   abbrev pub Asks : Conclusions → Rule → Type 0
-  Asks t r = Every (λ l. l ∈ s → ⊥) (r .body .barred) → Every (λ l. l ∈ t) (r .body .needed) → Given (r .head) t
+  Asks t r = Every (λ l. l ∈ s → ⊥) (r .body .barred) → Every (λ l. l ∈ t) (r .body .needed) → Given (r .heads) t
 
   reduct-step : (t : Conclusions) (r : Rule) (rs : List Rule) (b : Bool) → someIn s (r .body .barred) ≡ b → Closed (reduct s rs) t ↔ Every (Asks t) rs
       → Closed (consIf (not b) (struck r) (reduct s rs)) t ↔ (Asks t r × Every (Asks t) rs)
@@ -36,3 +37,29 @@ module _ (s : Conclusions) where
   unfolding reduct
   closed-reduct t [] = (λ h. tt, λ h. tt)
   closed-reduct t (r ∷ rs) = reduct-step t r rs (someIn s (r .body .barred)) refl (closed-reduct t rs)
+
+  -- What it asks of a rule and that no constraint's body is satisfied, as one condition: a constraint has no head.
+  abbrev pub Strictly : Conclusions → Rule → Type 0
+  Strictly t r = Every (λ l. l ∈ s → ⊥) (r .body .barred) → Every (λ l. l ∈ t) (r .body .needed) → Some (λ l. l ∈ t) (r .heads)
+
+  pub strictly-asks : (t : Conclusions) (r : Rule) → Strictly t r → Asks t r
+  strictly-asks t r f o n = go (r .heads) (f o n)
+    where
+      go : (hs : List Literal) → Some (λ l. l ∈ t) hs → Given hs t
+      go [] m = tt
+      go (l ∷ ls) m = m
+
+  pub strictly-unbroken : (r : Rule) → Strictly s r → Breaks s (r .body) (r .heads) → ⊥
+  strictly-unbroken r f = go (r .heads) f
+    where
+      go : (hs : List Literal) → (Every (λ l. l ∈ s → ⊥) (r .body .barred) → Every (λ l. l ∈ s) (r .body .needed) → Some (λ l. l ∈ s) hs) → Breaks s (r .body) hs → ⊥
+      go [] f y = f (y .bars) (y .needs)
+      go (l ∷ ls) f y = y
+
+  -- Within s, which breaks no constraint, nothing more is asked than closure.
+  pub asks-strictly : (t : Conclusions) → t ⊆ s → (r : Rule) → Asks t r → (Breaks s (r .body) (r .heads) → ⊥) → Strictly t r
+  asks-strictly t g r f u o n = go (r .heads) (f o n) u
+    where
+      go : (hs : List Literal) → Given hs t → (Breaks s (r .body) hs → ⊥) → Some (λ l. l ∈ t) hs
+      go [] m u = u (record { needs = every-map (λ l. g l) (r .body .needed) n; bars = o })
+      go (l ∷ ls) m u = m

@@ -1,27 +1,23 @@
 -- The preferences of accepted rows name exceptions of the book, and so do those under a condition.
 -- By induction on the P rows and on the Q rows; the book has as many exceptions as its shape says.
-use mathlib.Core.Path.{_≡_, refl}
-use mathlib.Core.Bool.{Bool, true, false}
+use mathlib.Core.Path.{_≡_}
 use mathlib.Core.List.{List}
-use Prim.Native.Nat.{ℕ, zero, suc, _+_, _-_, _*_, _<_, _≤_}
+use Prim.Native.Nat.{ℕ, zero, suc, _+_, _*_, _<_, _≤_}
 use native.Mathlib.Omega.{arith}
-use lib.Dec.{ltb}
 use lib.IntN.{ℤ}
 use lib.ListN.{length}
-use borrow.Author.Tests.{lt-ltb, le-ltb, ltb-true, ltb-false}
 use Rattle.logic.specs.Lists.{Every}
-use Rattle.logic.specs.Tests.{pick}
 use Rattle.book.specs.declared.Measure.the-variants.{Numbers}
 use Rattle.book.specs.declared.Shape.{Shape}
 use Rattle.book.specs.Limits as limit
-use Rattle.book.specs.Kinds.{kinds, kind, plain, exception, preference, conditional, ruleNumbers, preferenceNumbers, conditionalNumbers}
+use Rattle.book.specs.Kinds.{kinds, kind, none, preference, conditional, preferenceNumbers, conditionalNumbers}
 use Rattle.book.specs.Counts.{countsOf, allCounts, countAt, sumTo, startOf, rowNumbers, measured}
 use Rattle.book.proofs.Counts.{exceptions-in, sum-up}
 use Rattle.meaning.specs.Preferences.{Conditional}
 use Rattle.meaning.specs.Meant.{at, number, preferencesAt, conditionAt, conditionalAt, bookOf}
 use Rattle.meaning.proofs.Meant.{exceptions-count}
 use Rattle.bridge.specs.Ranks.{Names, Named, LinesNamed}
-use Rattle.bridge.specs.Rows.{startAt, ruleStart, ruleCount, RowsLawful}
+use Rattle.bridge.specs.Rows.{RowsLawful}
 
 -- What holds of both numbers of each P row holds of both numbers of each preference.
 every-preference : (P : ℕ → Type 0) (t : List ℤ) (k m : ℕ) → ((j : ℕ) → j < m → (i : ℕ) → i < preferenceNumbers → P (number (at t (k + j * preferenceNumbers + i))))
@@ -66,35 +62,15 @@ module _ (s : Shape) (t : List ℤ) (w : RowsLawful s t) where
   names-within i n = record { from-one = n .from-one; most = let m = n .most in let b = exceptions-in s (w .limits) in omega arith }
 
 -- ---- where the rows stand
-module _ (r a b k : ℕ) where
-  pub start-plain : k < r → startAt r a b k ≡ a + k * ruleNumbers
-  unfolding startAt pick
-  start-plain h = rw (lt-ltb k r h)
-
-  pub start-late : r ≤ k → startAt r a b k ≡ b + (k - r) * ruleNumbers
-  unfolding startAt pick
-  start-late h = rw (le-ltb k r h)
-
-plain-end : (s : Shape) → startOf s plain + s .plain * ruleNumbers ≤ rowNumbers s
-unfolding sumTo countAt allCounts countsOf kind kinds
-plain-end s = omega (arith, sum-up (measured Numbers) s (suc plain) (omega arith))
-
-exception-end : (s : Shape) → startOf s exception + s .exceptions * ruleNumbers ≤ rowNumbers s
-unfolding sumTo countAt allCounts countsOf kind kinds
-exception-end s = omega (arith, sum-up (measured Numbers) s (suc exception) (omega arith))
+-- The rows of a kind end among the numbers of the rows.
+pub kind-end : (s : Shape) (q : ℕ) → q < none → startOf s q + countAt s q * kind q .numbers ≤ rowNumbers s
+unfolding sumTo
+kind-end s q h = sum-up (measured Numbers) s (suc q) (omega arith)
 
 pub preference-end : (s : Shape) → startOf s preference + s .preferences * preferenceNumbers ≤ rowNumbers s
-unfolding sumTo countAt allCounts countsOf kind kinds
-preference-end s = omega (arith, sum-up (measured Numbers) s (suc preference) (omega arith))
+unfolding countAt allCounts countsOf kind kinds
+preference-end s = kind-end s preference (omega arith)
 
 pub conditional-end : (s : Shape) → startOf s conditional + s .conditionals * conditionalNumbers ≤ rowNumbers s
-unfolding sumTo countAt allCounts countsOf kind kinds
-conditional-end s = omega (arith, sum-up (measured Numbers) s (suc conditional) (omega arith))
-
--- The row of a rule lies among the numbers of the rows.
-pub rule-in : (s : Shape) (k : ℕ) → k < ruleCount s → ruleStart s k + ruleNumbers ≤ rowNumbers s
-rule-in s k h = go (ltb k (s .plain)) refl
-  where
-    go : (b : Bool) → ltb k (s .plain) ≡ b → ruleStart s k + ruleNumbers ≤ rowNumbers s
-    go true p = let l = ltb-true k (s .plain) p in omega (arith, plain-end s, start-plain (s .plain) (startOf s plain) (startOf s exception) k l)
-    go false p = let l = ltb-false k (s .plain) p in omega (arith, exception-end s, start-late (s .plain) (startOf s plain) (startOf s exception) k l)
+unfolding countAt allCounts countsOf kind kinds
+conditional-end s = kind-end s conditional (omega arith)

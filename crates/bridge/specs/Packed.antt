@@ -6,7 +6,7 @@ use lib.ListN.{length, getD}
 use Rattle.sets.specs.declared.Pair.{Pair}
 use Rattle.sets.specs.Pairs.{joinOf}
 use Rattle.meaning.specs.Literals.{Literal, pos, neg}
-use Rattle.meaning.specs.Rules.{Head, none, gives, Rule}
+use Rattle.meaning.specs.Rules.{Rule}
 use Rattle.meaning.specs.Preferences.{Conditional}
 use Rattle.meaning.specs.Books.{Book}
 use Rattle.masks.specs.declared.Masks.{Masks}
@@ -26,20 +26,15 @@ unfoldable pub maskAll : List Literal → Pair
 maskAll [] = nothing
 maskAll (l ∷ ls) = joinOf (maskOf l) (maskAll ls)
 
--- The pair that has the head's conclusion; a constraint's has nothing.
-unfoldable pub maskHead : Head → Pair
-maskHead none = nothing
-maskHead (gives l) = maskOf l
-
 -- A rule of a book, with the set that holds its own exception and nothing else; the set is empty for a plain rule.
 pub record Tagged : Type 0 where
   pub own : ℕ
   pub rule : Rule
 
--- The masks of a rule: its head, its needed entries with its own exception, its barred entries.
+-- The masks of a rule: its heads, its needed entries with its own exception, its barred entries.
 unfoldable pub masksOf : Tagged → Masks
 masksOf x = record {
-  head = maskHead (x .rule .head);
+  head = maskAll (x .rule .heads);
   need = record { taken = x .own; held = maskAll (x .rule .body .needed) .held; denied = maskAll (x .rule .body .needed) .denied };
   bar = maskAll (x .rule .body .barred);
 }
@@ -59,7 +54,7 @@ rulesOf b = plainly (b .plain) ++ numbered 0 (b .exceptions)
 
 -- What stands past the end of a list of rules.
 abbrev pub blank : Tagged
-blank = record { own = 0; rule = record { head = none; body = record { needed = []; barred = [] } } }
+blank = record { own = 0; rule = record { heads = []; body = record { needed = []; barred = [] } } }
 
 -- What stands past the end of a list of Q lines.
 abbrev pub blankLine : Conditional

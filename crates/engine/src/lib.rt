@@ -31,10 +31,10 @@ fn own<'a>(ranks: &'a [u64], x: usize) -> &'a [u64]
 
 // The bounds of the book's views, where every search begins.
 pub fn root_of(words: &Words, ranks: &[u64], index: &Index, s: Shape) -> Bounds
-    requires { ⌜ InLimits s × (length (now ranks) ≤ 64) × Chains (now words) (s .plain + s .exceptions) (now index) ⌝ }
+    requires { ⌜ InLimits s × (length (now ranks) ≤ 64) × Chains (now words) (s .plain + s .alternatives + s .exceptions) (now index) ⌝ }
     ensures { λ r. ⌜ RootIs s (now (words .entry)) (now (ranks .entry)) r ⌝ }
 {
-    let n = s.plain + s.exceptions;
+    let n = s.plain + s.alternatives + s.exceptions;
     let b = prepare::root(s);
     let rest = queue::propagate(words, n, ranks, index, waiting::all(), b);
     rest.bounds
@@ -45,7 +45,7 @@ pub fn verdict_in(words: &Words, ranks: &Ranks, s: Shape, p: Pair) -> u32
     requires { ⌜ InLimits s ⌝ }
     ensures { λ r. ⌜ VerdictIs s (now (words .entry)) (now (ranks .entry)) p r ⌝ }
 {
-    let n = s.plain + s.exceptions;
+    let n = s.plain + s.alternatives + s.exceptions;
     let mut index = [0u64; index::LENGTH];
     index::fill(words, n, &mut index);
     let own = own(ranks, s.exceptions);
@@ -58,7 +58,7 @@ pub fn first_in(words: &Words, ranks: &Ranks, s: Shape, out: &mut [u64]) -> usiz
     requires { ⌜ InLimits s ⌝ }
     ensures { λ r. ⌜ PageIs s (now (words .entry)) (now (ranks .entry)) start (now (out .entry)) (now (out .exit)) r ⌝ }
 {
-    let rules = s.plain + s.exceptions;
+    let rules = s.plain + s.alternatives + s.exceptions;
     let mut index = [0u64; index::LENGTH];
     index::fill(words, rules, &mut index);
     let own = own(ranks, s.exceptions);
@@ -81,7 +81,7 @@ pub fn after_in(words: &Words, ranks: &Ranks, s: Shape, p: Pair, out: &mut [u64]
     requires { ⌜ InLimits s × (p .taken < 2 ^ s .exceptions) ⌝ }
     ensures { λ r. ⌜ PageIs s (now (words .entry)) (now (ranks .entry)) (atPair p) (now (out .entry)) (now (out .exit)) r ⌝ }
 {
-    let rules = s.plain + s.exceptions;
+    let rules = s.plain + s.alternatives + s.exceptions;
     let mut index = [0u64; index::LENGTH];
     index::fill(words, rules, &mut index);
     let own = own(ranks, s.exceptions);

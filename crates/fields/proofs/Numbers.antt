@@ -89,7 +89,7 @@ pub exception-range : (n : ℕ) → range (pos 1) (toZ w32 limit.exceptions) 6 �
 unfolding rangeOf
 exception-range n = refl
 
-pub total-range : (n : ℕ) → range (pos 0) (toZ w32 (limit.plain + limit.exceptions + limit.preferences + limit.conditionals)) 6 ≡ rangeOf Total n
+pub total-range : (n : ℕ) → range (pos 0) (toZ w32 (limit.plain + limit.alternatives + limit.exceptions + limit.preferences + limit.conditionals)) 6 ≡ rangeOf Total n
 unfolding rangeOf mostRows most kinds rowOnce pick
 total-range n = refl
 

@@ -1,5 +1,5 @@
 -- What `opening`, `go_on` and `begin` promise, from what their parts left.
-use Prim.Native.Nat.{ℕ, suc, _+_, _-_, _*_, _/_, _^_, _<_, _≤_}
+use Prim.Native.Nat.{ℕ, _+_, _-_, _*_, _/_, _^_, _<_, _≤_}
 use mathlib.Core.Path.{_≡_, refl, sym, ap, _∙_}
 use mathlib.Core.Bool.{true, false}
 use mathlib.Core.List.{List, _++_}
@@ -13,7 +13,6 @@ use Rattle.sets.specs.declared.Pair.{Pair}
 use Rattle.sets.proofs.Digits.{lt-or-le}
 use Rattle.book.specs.declared.Shape.{Shape}
 use Rattle.book.specs.Limits as limit
-use Rattle.book.specs.Kinds.{longest, most, bytes, kinds}
 use Rattle.text.specs.declared.Refusal.{Refusal}
 use Rattle.text.specs.Fields.{written, writtenAll, columns, inColumns}
 use Rattle.text.specs.ALines.{lineFields}
@@ -132,13 +131,8 @@ few-taken s ws ranks p d = rw (exceptions-count s (d .rows)) at (d .lawful .exce
 
 -- ---- from the text
 module _ (bs : List ℕ) (q : Refusal) (r : readText bs ≡ refused (q .number) (q .line)) where
-  -- The longest text has fewer bytes, and so fewer lines, than a field of 4 columns can say.
-  longest-short : suc longest < 10000
-  unfolding longest most bytes kinds
-  longest-short = omega arith
-
   pub refusal-short : (q .number < 10000) × (q .line < 10000)
-  refusal-short = let k = rw r at (text-short bs) in let h = k .0 .high in let g = k .1 in let l = longest-short in (omega arith, omega arith)
+  refusal-short = let k = rw r at (text-short bs) in let h = k .0 .high in let g = k .1 in (omega arith, omega arith)
 
   pub begins-refused : (out out₁ ws ranks : List ℕ) (s : Shape) (p : Pair) → 10 ≤ length out → length out₁ ≡ length out → out₁ ≡ sets out 0 (failed (q .number) (q .line))
       → Begins bs ws ranks out₁ (record { part = record { bytes = 10; full = false; last = p }; shape = s })

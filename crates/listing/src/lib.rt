@@ -178,6 +178,7 @@ pub fn begin(text: &[u8], words: &mut Words, ranks: &mut Ranks, out: &mut Text) 
                     exceptions: 0,
                     preferences: 0,
                     conditionals: 0,
+                    alternatives: 0,
                 },
             }
         }

@@ -64,6 +64,11 @@ pub decides-then : (s t : Bool) {P Q : Type 0} → Decides s P → (P → Decide
 decides-then true t d e = let q = e (d .yes refl) in decided (λ h. (d .yes refl, q .yes h)) (λ p. holds q (p .1))
 decides-then false t d e = decided (λ h. absurd (clash h)) (λ p. holds d (p .0))
 
+-- Where the one passes, the other does.
+pub decides-imp : (s t : Bool) {P Q : Type 0} → Decides s P → Decides t Q → Decides (elim s as (λ _. Bool) [ true ↦ t | false ↦ true ]) (P → Q)
+decides-imp true t d e = decided (λ h p. e .yes h) (λ f. holds e (f (d .yes refl)))
+decides-imp false t d e = decided (λ h p. absurd (clash (holds d p))) (λ f. refl)
+
 pub decides-every : {A : Type 0} (f : A → Bool) (P : A → Type 0) → ((x : A) → Decides (f x) (P x)) → (xs : List A) → Decides (every f xs) (Every P xs)
 unfolding every
 decides-every f P d [] = decided (λ e. tt) (λ p. refl)

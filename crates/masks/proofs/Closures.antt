@@ -1,22 +1,24 @@
 -- The loop of passes ends at the least stable pair.
 -- Each pass stays below every stable pair, and a pass that adds nothing shows that all rules are stable.
-use mathlib.Core.Path.{_≡_}
-use mathlib.Core.Bool.{Bool, true, false}
+use mathlib.Core.Path.{_≡_, ap}
+use mathlib.Core.Bool.{Bool, true, false, not}
+use mathlib.Core.Logic.{⊎-elim}
 use mathlib.Core.List.{List}
 use Prim.Native.Nat.{ℕ, _+_, _<_, _≤_}
-use native.Mathlib.Nat.{le-refl, le-trans}
+use native.Mathlib.Nat.{le-trans}
 use native.Mathlib.Omega.{arith}
 use borrow.Author.Count.{below-more}
 use Rattle.logic.specs.Tests.{Decides}
 use Rattle.sets.specs.declared.Pair.{Pair}
-use Rattle.sets.specs.Sets.{Within}
-use Rattle.sets.specs.Pairs.{Sub, joinOf, meetOf}
+use Rattle.sets.specs.Sets.{Within, bitOf}
+use Rattle.sets.specs.Pairs.{Sub, Off, joinOf, meetOf, Atom}
 use Rattle.sets.proofs.Words.{none-sub}
-use Rattle.sets.proofs.Pairs.{sub-refl, sub-trans, join-sub, join-l, join-r, meet-r}
+use Rattle.sets.proofs.Pairs.{sub-refl, sub-trans, join-sub, join-l, join-r, meet-r, off-of-meet}
 use Rattle.masks.specs.declared.Masks.{Masks}
 use Rattle.masks.specs.declared.Bounds.{Bounds}
 use Rattle.masks.specs.Views.{masksAt, Fires}
-use Rattle.masks.specs.Closures.{only, bare, Stable, Fired, Passed, Closure}
+use Rattle.masks.specs.Closures.{bare, Stable, Fired, Passed, Closure, Grown, Beneath}
+use Rattle.masks.proofs.Booleans.{granted}
 use Rattle.masks.proofs.Sums.{total, total-lt}
 
 -- ---- one rule
@@ -76,14 +78,31 @@ module _ (ws : List ℕ) (n : ℕ) (b : Bounds) (c d : Pair) (p : Passed ws n b 
     pass-grows e = total-lt (p .grow) (λ s. q .no e (rw s))
 
 -- ---- a sweep, within one pair
--- Every pair is stable within the bounds from itself to itself, so a pass from its exceptions stays within it.
-pub passed-in : (ws : List ℕ) (k : ℕ) (v d : Pair) → Passed ws k (only v) (bare v) d → Sub d v
-passed-in ws k v d p = p .below v (record { held = none-sub (v .held); denied = none-sub (v .denied); taken = λ i. le-refl _ }) (λ j h x. meet-r _ _)
+-- Nothing is added.
+pub grown-none : (r : Masks) (v d : Pair) → Grown r v d d
+grown-none r v d = record { below = λ c x y f. x }
 
--- A rule whose body v does not satisfy adds nothing to a pair within v.
-pub idle-adds : (r : Masks) (v d : Pair) (f : Bool) → Decides f (Fires r v v) → f ≡ false → Sub d v → Fired r (only v) d d
-idle-adds r v d f q e s = record {
-  grow = sub-refl d;
-  below = λ t x y. x;
-  adds = λ x. absurd (q .no e (record { needed = sub-trans (x .needed) s; unbarred = x .unbarred }));
-}
+-- The one head that v has is added where d has what the rule needs.
+module _ (r : Masks) (v d : Pair) (w : Bool) (n : Decides w (Sub (r .need) d)) (ew : not w ≡ false) (u : Bool) (q : Decides u (Fires r v v)) (eu : not u ≡ false) where
+  pub grown-head : (o : Bool) (x e : Pair) → x ≡ meetOf (r .head) v → (o ≡ true → Atom x) → o ≡ true → e ≡ joinOf d x → Grown r v d e
+  grown-head o x e ex a eo ee =
+      rw ee (record {
+        below = λ c g h f. join-sub g (⊎-elim (λ (s : Sub x c). s)
+            (λ (s : Off x c). absurd (f (record { needed = sub-trans (granted n ew) g; unbarred = granted q eu .unbarred }) (off-of-meet (r .head) v h (rw ex at s))))
+            (a eo c));
+      })
+
+-- One rule more.
+pub beneath-turn : (ws : List ℕ) (k : ℕ) (v d e : Pair) (r : Masks) → Beneath ws k v d → r ≡ masksAt ws k → Grown r v d e → Beneath ws (k + 1) v e
+beneath-turn ws k v d e r f q g c t h m = g .below c (f c t h (λ j l. m j (omega arith))) h (rw q (m k (omega arith)))
+
+pub beneath-start : (ws : List ℕ) (v : Pair) → Beneath ws 0 v (bare v)
+beneath-start ws v c t h m = record { held = none-sub (c .held); denied = none-sub (c .denied); taken = λ i. let z = ap (λ (x : ℕ). bitOf x i) t in omega arith }
+
+-- What is beneath the pairs closed under fewer rules is beneath those closed under more.
+pub beneath-more : (ws : List ℕ) (k n : ℕ) (v d : Pair) → k ≤ n → Beneath ws k v d → Beneath ws n v d
+beneath-more ws k n v d l f c t h m = f c t h (λ j i. m j (omega arith))
+
+-- One rule more, from what is beneath the pairs closed under all of them.
+pub beneath-again : (ws : List ℕ) (n k : ℕ) (v d e : Pair) (r : Masks) → k < n → Beneath ws n v d → r ≡ masksAt ws k → Grown r v d e → Beneath ws n v e
+beneath-again ws n k v d e r l f q g c t h m = g .below c (f c t h m) h (rw q (m k l))

@@ -1,17 +1,19 @@
 -- What the search needs to know of a view (docs/SEARCH.md, facts (a) to (f)): (a), (b), (c), (e), (f) are fields of MaskView; here are (d) and the bound by a closure.
--- Both are its field `least` at a well chosen closed pair: the view without an unsupported set, and what the view shares with a closure.
+-- Both are its field `minimal` at a well chosen closed pair: the view without an unsupported set, and what the view shares with a closure.
 use mathlib.Core.Path.{_≡_}
 use mathlib.Core.List.{List}
 use mathlib.Core.Logic.{_⊎_, inl, inr, ⊎-elim}
 use Prim.Native.Nat.{ℕ, _<_}
 use native.Mathlib.Nat.{le-refl}
+use native.Mathlib.Omega.{arith}
 use lib.Bits.{bitAnd, and-zero-r, xor-zero-r}
-use Rattle.logic.proofs.Decide.{holds-or-not}
+use Rattle.logic.proofs.Decide.{decides-eq, holds-or-not}
 use Rattle.sets.specs.declared.Pair.{Pair}
 use Rattle.sets.specs.Sets.{Within, without}
 use Rattle.sets.specs.Pairs.{Sub, Off, meetOf, minusOf}
+use Rattle.sets.proofs.Digits.{bit-lt, bit-and}
 use Rattle.sets.proofs.Words.{both-ways, and-l, sub-and}
-use Rattle.sets.proofs.Pairs.{sub-refl, sub-trans, meet-sub, meet-l, meet-r, sub-minus, minus-sub, minus-off, off-sub, within-is, apart-is}
+use Rattle.sets.proofs.Pairs.{sub-refl, sub-trans, meet-l, meet-r, minus-sub, minus-off, off-sub, off-of-meet, within-is, apart-is}
 use Rattle.masks.specs.declared.Masks.{Masks}
 use Rattle.masks.specs.Views.{masksAt, Fires, MaskView}
 
@@ -21,25 +23,40 @@ fires-or-not r v c =
     (λ f. inr (λ x. f (x .needed)))
     (holds-or-not (within-is (r .need) c))
 
+-- Heads that are apart from what v shares with c are apart from v, if c has those of them that are within the bound.
+off-part : (x a v c : Pair) → Sub x a → Sub x c → Off a (meetOf v c) → Off x v
+unfolding meetOf
+off-part x a v c f g o = record {
+  held = λ i. omega (arith, bit-and (v .held) (c .held) i, f .held i, g .held i, o .held i, bit-lt (x .held) i, bit-lt (v .held) i, bit-lt (c .held) i);
+  denied = λ i. omega (arith, bit-and (v .denied) (c .denied) i, f .denied i, g .denied i, o .denied i, bit-lt (x .denied) i, bit-lt (v .denied) i, bit-lt (c .denied) i);
+  taken = λ i. omega (arith, bit-and (v .taken) (c .taken) i, f .taken i, g .taken i, o .taken i, bit-lt (x .taken) i, bit-lt (v .taken) i, bit-lt (c .taken) i);
+}
+
+off-shared : (a hi v c : Pair) → Sub v hi → Sub (meetOf a hi) c → Off a (meetOf v c) → Off a v
+off-shared a hi v c f g o = off-of-meet a hi f (off-part (meetOf a hi) a v c (meet-l a hi) g o)
+
 module _ {ws : List ℕ} {n : ℕ} {ranks : List ℕ} {v : Pair} (w : MaskView ws n ranks v) where
-  -- (d) A set m of conclusions that is in no head of a rule with a satisfied body has nothing of the view.
-  pub unsupported : (m : Pair) → m .taken ≡ 0 → ((k : ℕ) → k < n → Fires (masksAt ws k) v v → Off (masksAt ws k .head) m) → Off v m
+  -- (d) If every rule with a satisfied body has a head that the view has beside m, the view has nothing of m.
+  pub unsupported : (m : Pair) → m .taken ≡ 0 → ((k : ℕ) → k < n → Fires (masksAt ws k) v v → Off (masksAt ws k .head) (minusOf v m) → ⊥) → Off v m
   unfolding minusOf
   unsupported m e f =
       let c : Pair = minusOf v m in
-      let g : Sub v c = w .least c (keep (v .taken) (m .taken) e)
-      (λ k h x. let y : Fires (masksAt ws k) v v = record { needed = sub-trans (x .needed) (minus-sub v m); unbarred = x .unbarred } in
-      sub-minus (w .rules k h .closed y) (f k h y)) in
+      let g : Sub v c = w .minimal c (keep (v .taken) (m .taken) e) (minus-sub v m)
+      (λ k h x. f k h (record { needed = sub-trans (x .needed) (minus-sub v m); unbarred = x .unbarred })) in
       off-sub g (sub-refl m) (minus-off v m)
     where
       keep : (a b : ℕ) → b ≡ 0 → without a b ≡ a
       keep a b e = rw (e, and-zero-r a) (xor-zero-r a)
 
-  -- (d) The view has a member of m, and only rule j can have one in its head: the view satisfies the body of rule j.
+  -- (d) The view has a member of m, and every rule with a satisfied body but rule j has a head that the view has beside m: the view satisfies the
+  -- body of rule j, and has none of its heads beside m.
   pub only-support : (m : Pair) (j : ℕ) → m .taken ≡ 0 → (Off v m → ⊥)
-      → ((k : ℕ) → k < n → (k ≡ j → ⊥) → Fires (masksAt ws k) v v → Off (masksAt ws k .head) m) → Fires (masksAt ws j) v v
+      → ((k : ℕ) → k < n → (k ≡ j → ⊥) → Fires (masksAt ws k) v v → Off (masksAt ws k .head) (minusOf v m) → ⊥)
+      → Fires (masksAt ws j) v v × Off (masksAt ws j .head) (minusOf v m)
   only-support m j e o f =
-      ⊎-elim (λ x. x)
+      ⊎-elim (λ x. ⊎-elim (λ y. (x, y))
+      (λ y. absurd (o (unsupported m e (λ k h z q. ⊎-elim (λ (s : k ≡ j). y (rw s at q)) (λ s. f k h s z q) (holds-or-not (decides-eq k j))))))
+      (holds-or-not (apart-is (masksAt ws j .head) (minusOf v m))))
       (λ x. absurd (o (unsupported m e (λ k h y. f k h (λ q. x (rw q at y)) y))))
       (fires-or-not (masksAt ws j) v v)
 
@@ -49,11 +66,10 @@ module _ {ws : List ℕ} {n : ℕ} {ranks : List ℕ} {v : Pair} (w : MaskView w
   unfolding meetOf
   bounded lo hi c fl fh ft f =
       let d : Pair = meetOf v c in
-      let g : Sub v d = w .least d (same (v .taken) (c .taken) ft)
-      (λ k h x. let y : Fires (masksAt ws k) v v = record { needed = sub-trans (x .needed) (meet-l v c); unbarred = x .unbarred } in
+      let g : Sub v d = w .minimal d (same (v .taken) (c .taken) ft) (meet-l v c)
+      (λ k h x o. let y : Fires (masksAt ws k) v v = record { needed = sub-trans (x .needed) (meet-l v c); unbarred = x .unbarred } in
       let z : Fires (masksAt ws k) lo c = record { needed = sub-trans (x .needed) (meet-r v c); unbarred = off-sub (sub-refl _) fl (x .unbarred) } in
-      let a = w .rules k h .closed y in
-      meet-sub a (sub-trans (meet-sub (sub-refl _) (sub-trans a fh)) (f k h z))) in
+      w .rules k h .closed y (off-shared (masksAt ws k .head) hi v c fh (f k h z) o)) in
       sub-trans g (meet-r v c)
     where
       same : (a b : ℕ) → Within a b → bitAnd a b ≡ a

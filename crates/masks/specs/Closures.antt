@@ -1,16 +1,16 @@
 -- What the functions that compute a closure within bounds promise.
-use Prim.Native.Nat.{ℕ, _<_}
+use Prim.Native.Nat.{ℕ, _^_, _<_}
 use mathlib.Core.Path.{_≡_}
-use mathlib.Core.Bool.{true}
 use mathlib.Core.List.{List}
+use mathlib.Core.Logic.{_⊎_}
 use Rattle.logic.specs.Tests.{Decides}
 use Rattle.sets.specs.declared.Pair.{Pair}
 use Rattle.sets.specs.Sets.{Within}
-use Rattle.sets.specs.Pairs.{Sub, meetOf}
+use Rattle.sets.specs.Pairs.{Sub, Off, meetOf}
 use Rattle.masks.specs.declared.Masks.{Masks}
 use Rattle.masks.specs.declared.Bounds.{Bounds}
 use Rattle.masks.specs.declared.Outcome.{Outcome}
-use Rattle.masks.specs.Views.{masksAt, Fires, MeetsAll}
+use Rattle.masks.specs.Views.{masksAt, Fires, MaskClosed, MeetsAll}
 
 -- If the rule can fire from t within the bounds, what it adds within them is in t already.
 abbrev pub StableAt : Masks → Bounds → Pair → Type 0
@@ -38,14 +38,26 @@ pub record Closure (ws : List ℕ) (n : ℕ) (b : Bounds) (c : Pair) : Type 0 wh
   pub stable : Stable ws n b c
   pub least : (t : Pair) → Within (b .hi .taken) (t .taken) → Stable ws n b t → Sub c t
 
--- The bounds from v to v, and the pair from which a closure within them starts.
+-- The bounds from v to v, and the pair with v's exceptions alone.
 abbrev pub only : Pair → Bounds
 only v = record { lo = v; hi = v }
 
 abbrev pub bare : Pair → Pair
 bare v = record { taken = v .taken; held = 0; denied = 0 }
 
--- What a sweep over the first n rules tells of v. Where v meets them all, the sweep is a pass too.
+-- The word has one member at most.
+abbrev pub Lone : ℕ → Type 0
+Lone x = (x ≡ 0) ⊎ ((k : ℕ) × (x ≡ 2 ^ k))
+
+-- One rule takes d to e: what has d, is within v and is closed under the rule has e.
+pub record Grown (r : Masks) (v d e : Pair) : Type 0 where
+  pub below : (c : Pair) → Sub d c → Sub c v → (Fires r v c → Off (r .head) c → ⊥) → Sub e c
+
+-- Every closed pair within v that has v's exceptions has d; the same of closed under the first n rules.
+abbrev pub Beneath : List ℕ → ℕ → Pair → Pair → Type 0
+Beneath ws n v d = (c : Pair) → c .taken ≡ v .taken → Sub c v → MaskClosed ws n v c → Sub d c
+
+-- What a sweep over the first n rules tells of v: whether it meets them all, and a part of every closed pair within it.
 pub record Swept (ws : List ℕ) (n : ℕ) (v : Pair) (s : Outcome) : Type 0 where
   pub exact : Decides (s .ok) (MeetsAll ws n v)
-  pub passed : s .ok ≡ true → Passed ws n (only v) (bare v) (s .reached)
+  pub below : Beneath ws n v (s .reached)

@@ -21,9 +21,10 @@ pub record Fires (r : Masks) (v c : Pair) : Type 0 where
   pub needed : Sub (r .need) c
   pub unbarred : Off (r .bar) v
 
--- The pair c is closed under the first n rules, after those with a barred entry in v are dropped and the other barred entries struck.
+-- The pair c is closed under the first n rules, after those with a barred entry in v are dropped and the other barred entries struck: c has
+-- one of a rule's heads at least where it has what the rule needs. A constraint has no head, so c lacks something that it needs.
 abbrev pub MaskClosed : List ℕ → ℕ → Pair → Pair → Type 0
-MaskClosed ws n v c = (k : ℕ) → k < n → Fires (masksAt ws k) v c → Sub (masksAt ws k .head) c
+MaskClosed ws n v c = (k : ℕ) → k < n → Fires (masksAt ws k) v c → Off (masksAt ws k .head) c → ⊥
 
 -- The rule has no head.
 pub record Constraint (r : Masks) : Type 0 where
@@ -34,10 +35,10 @@ pub record Constraint (r : Masks) : Type 0 where
 abbrev pub Taken : Masks → Pair → Type 0
 Taken r v = Apart (r .need .taken) (v .taken) → ⊥
 
--- What a view is to every rule: it is closed under it, satisfies no constraint's body, and satisfies the body of each exception that it takes.
+-- What a view is to every rule: it has one of its heads at least if it satisfies its body, so it satisfies no constraint's, and it satisfies the
+-- body of each exception that it takes.
 pub record Meets (r : Masks) (v : Pair) : Type 0 where
-  pub closed : Fires r v v → Sub (r .head) v
-  pub quiet : Constraint r → Fires r v v → ⊥
+  pub closed : Fires r v v → Off (r .head) v → ⊥
   pub met : Taken r v → Fires r v v
 
 -- The same of the first n rules.
@@ -98,10 +99,10 @@ pub record MaskDominates (ws : List ℕ) (n : ℕ) (ranks : List ℕ) (w v : Pai
   pub leads : Leads ws n ranks (Shared ws n w v) upper lower
 
 -- ---- views
--- The pair is a view of the first n rules: S is coherent and least among the sets closed under the rules that S leaves, and T is as document 01 asks.
+-- The pair is a view of the first n rules: S is coherent, no proper subset of S is closed under the rules that S leaves, and T is as document 01 asks.
 pub record MaskView (ws : List ℕ) (n : ℕ) (ranks : List ℕ) (v : Pair) : Type 0 where
   pub coherent : Apart (v .held) (v .denied)
   pub rules : MeetsAll ws n v
-  pub least : (c : Pair) → c .taken ≡ v .taken → MaskClosed ws n v c → Sub v c
+  pub minimal : (c : Pair) → c .taken ≡ v .taken → Sub c v → MaskClosed ws n v c → Sub v c
   pub level : Level ranks (v .taken)
   pub lined : Lined ws n → Uncrossed ws n ranks v

@@ -1,12 +1,13 @@
-// Rules as masks, and the exact test of a view. A mask is a set of conclusions and exceptions in three words.
+// Rules as masks. A mask is a set of conclusions and exceptions in three words.
 ghost use mathlib.Core.Path.{_≡_};
+ghost use mathlib.Core.Bool.{true};
 ghost use Prim.Native.Nat.{_+_, _*_, _<_, _≤_};
 ghost use lib.ListN.{length};
 ghost use Rattle.logic.specs.Tests.{Decides};
 ghost use Rattle.sets.specs.Sets.{bitOf, Apart};
-ghost use Rattle.sets.specs.Pairs.{Sub};
-ghost use Rattle.masks.specs.Views.{masksAt, Fires, Constraint, Meets, Level, MaskView};
-ghost use Rattle.masks.specs.Closures.{only, Fired, Passed, Closure, Swept};
+ghost use Rattle.sets.specs.Pairs.{Sub, Off, Atom};
+ghost use Rattle.masks.specs.Views.{masksAt, Fires, MaskClosed, Constraint, Meets, Level};
+ghost use Rattle.masks.specs.Closures.{Fired, Passed, Closure, Lone, Grown, Beneath, Swept};
 use sets::Pair;
 
 pub mod lines;
@@ -119,21 +120,54 @@ pub fn meets(r: Masks, v: Pair, f: bool) -> bool
     ensures { λ o. ⌜ Decides o (Meets r v) ⌝ }
 {
     if f {
-        if constraint(r) {
-            return false;
-        }
-        return sets::within(r.head, v);
+        return !sets::apart(r.head, v);
     }
     r.need.taken & v.taken == 0
 }
 
-// The pair d, which is within v, with what the rule adds within v: nothing if v does not satisfy its body.
-pub fn add_within(r: Masks, v: Pair, f: bool, d: Pair) -> Pair
-    requires { ⌜ (Decides f (Fires r v v)) × Sub d v ⌝ }
-    ensures { λ e. ⌜ Fired r (only v) d e ⌝ }
+// The word has one member at most.
+pub fn lone_word(x: u64) -> bool
+    ensures { λ o. ⌜ (o ≡ true → Lone x) ⌝ }
 {
-    if f {
-        return fire(r, Bounds { lo: v, hi: v }, d);
+    let k = u64::trailing_zeros(x) as u64;
+    if 64 <= k {
+        return x == 0;
+    }
+    x == 1 << k
+}
+
+// The pair has one conclusion at most, and no exception: every pair has all of it or nothing.
+pub fn lone(x: Pair) -> bool
+    ensures { λ o. ⌜ (o ≡ true → Atom x) ⌝ }
+{
+    if x.taken != 0 {
+        return false;
+    }
+    let held = x.held;
+    let denied = x.denied;
+    if denied == 0 {
+        return lone_word(held);
+    }
+    if held == 0 {
+        return lone_word(denied);
+    }
+    false
+}
+
+// The pair d with the rule's head, if d has what it needs, v satisfies its body and has one of its heads alone.
+pub fn add_within(r: Masks, v: Pair, f: bool, d: Pair) -> Pair
+    requires { ⌜ Decides f (Fires r v v) ⌝ }
+    ensures { λ e. ⌜ Grown r v d e ⌝ }
+{
+    if !f {
+        return d;
+    }
+    if !sets::within(r.need, d) {
+        return d;
+    }
+    let x = sets::meet(r.head, v);
+    if lone(x) {
+        return sets::join(d, x);
     }
     d
 }
@@ -143,6 +177,9 @@ pub struct Outcome {
     pub ok: bool,
     pub reached: Pair,
 }
+
+// The most passes over the rules for one pair: each but the last adds a conclusion.
+const PASSES: u64 = 128;
 
 // One sweep over the first n rules. It ends at the first rule that v does not meet.
 pub fn sweep(words: &[u64], n: usize, v: Pair) -> Outcome
@@ -173,6 +210,74 @@ pub fn sweep(words: &[u64], n: usize, v: Pair) -> Outcome
     }
 }
 
+// The pair d with what the first n rules add to it in one pass, which every closed pair within v has as it has d.
+pub fn grow(words: &[u64], n: usize, v: Pair, d: Pair) -> Pair
+    requires { ⌜ (n * 8 ≤ length (now words)) × Beneath (now words) n v d ⌝ }
+    ensures { λ e. ⌜ Beneath (now (words .entry)) n v e ⌝ }
+{
+    let mut e = d;
+    let mut k = 0;
+    while k < n {
+        let r = masks_at(words, k);
+        let f = fires(r, v, v);
+        e = add_within(r, v, f, e);
+        k += 1;
+    }
+    e
+}
+
+// The same again and again, until v is reached or nothing is added.
+pub fn grown(words: &[u64], n: usize, v: Pair, d: Pair) -> Pair
+    requires { ⌜ (n * 8 ≤ length (now words)) × Beneath (now words) n v d ⌝ }
+    ensures { λ e. ⌜ Beneath (now (words .entry)) n v e ⌝ }
+{
+    let mut c = d;
+    let mut k: u64 = 0;
+    while k < PASSES {
+        let e = grow(words, n, v, c);
+        if sets::same(e, v) {
+            return e;
+        }
+        if sets::same(e, c) {
+            return e;
+        }
+        c = e;
+        k += 1;
+    }
+    c
+}
+
+// The pair d has one of the rule's heads at least, or it lacks something that the rule needs, or v has something that it bars.
+pub fn closed_at(r: Masks, v: Pair, d: Pair) -> bool
+    ensures { λ o. ⌜ (o ≡ true → Fires r v d → Off (r .head) d → ⊥) ⌝ }
+{
+    if !fires(r, v, d) {
+        return true;
+    }
+    !sets::apart(r.head, d)
+}
+
+// The pair d is closed and within v, with the same exceptions: if it is not v, then v is not minimal.
+pub fn closed_within(words: &[u64], n: usize, v: Pair, d: Pair) -> bool
+    requires { ⌜ n * 8 ≤ length (now words) ⌝ }
+    ensures { λ o. ⌜ (o ≡ true → (d .taken ≡ v .taken) × Sub d v × MaskClosed (now (words .entry)) n v d) ⌝ }
+{
+    if d.taken != v.taken {
+        return false;
+    }
+    if !sets::within(d, v) {
+        return false;
+    }
+    let mut k = 0;
+    while k < n {
+        if !closed_at(masks_at(words, k), v, d) {
+            return false;
+        }
+        k += 1;
+    }
+    true
+}
+
 // The exception at place a is not taken, or none of those that it outranks is.
 pub fn level_at(rank: u64, a: u64, taken: u64) -> bool
     requires { ⌜ a < 64 ⌝ }
@@ -197,31 +302,4 @@ pub fn level(ranks: &[u64], taken: u64) -> bool
         a += 1;
     }
     true
-}
-
-// The pair is a view, by the definition.
-pub fn is_view(words: &[u64], n: usize, ranks: &[u64], v: Pair) -> bool
-    requires { ⌜ (n * 8 ≤ length (now words)) × (length (now ranks) ≤ 64) ⌝ }
-    ensures { λ o. ⌜ Decides o (MaskView (now (words .entry)) n (now (ranks .entry)) v) ⌝ }
-{
-    let held = v.held;
-    let denied = v.denied;
-    if held & denied != 0 {
-        return false;
-    }
-    let taken = v.taken;
-    if !level(ranks, taken) {
-        return false;
-    }
-    if !lines::uncrossed(words, n, ranks, v) {
-        return false;
-    }
-    let s = sweep(words, n, v);
-    if !s.ok {
-        return false;
-    }
-    if sets::same(s.reached, v) {
-        return true;
-    }
-    sets::same(closure(words, n, Bounds { lo: v, hi: v }), v)
 }

@@ -1,7 +1,9 @@
--- The closure is the least closed set. Idea: each rule fires once at most, so as many steps as rules suffice; no counting of members.
+-- The closure has all heads of each rule whose needed entries it has; for rules with one head or none it is the least closed set.
+-- Idea: each rule fires once at most, so as many steps as rules suffice; no counting of members.
 use mathlib.Core.Path.{_≡_, refl, sym, ap, _∙_}
 use mathlib.Core.Bool.{Bool, true, false}
 use mathlib.Core.List.{List, [], _∷_}
+use mathlib.Core.Logic.{inl, ⊎-elim, _↔_}
 use Prim.Native.Nat.{ℕ, zero, suc, _-_, _≤_}
 use native.Mathlib.Omega.{arith}
 use lib.ListN.{length}
@@ -12,9 +14,9 @@ use Rattle.logic.proofs.Members.{every-map}
 use Rattle.sets.specs.Sets.{member}
 use Rattle.sets.proofs.Words.{member-empty}
 use Rattle.meaning.specs.Literals.{Literal, pos, neg, Conclusions, isIn, _∈_, _⊆_}
-use Rattle.meaning.specs.Rules.{Head, none, gives, Rule}
-use Rattle.meaning.specs.AnswerSets.{Given, Closed, Least}
-use Rattle.meaning.specs.Twins.Closure.{addHead, Fired, nothing, fires, keepBack, takeOut, closeBy, empty, closure}
+use Rattle.meaning.specs.Rules.{Rule}
+use Rattle.meaning.specs.AnswerSets.{Given, Closed, Minimal, Least, OneHead}
+use Rattle.meaning.specs.Twins.Closure.{addHeads, Fired, nothing, fires, keepBack, takeOut, closeBy, empty, closure}
 use Rattle.meaning.proofs.Members.{add-keeps, add-has, add-only, At, subset-same}
 
 -- The rule's needed entries are all in t.
@@ -53,17 +55,25 @@ unfolding keepBack
 split-back P r rs nothing h = tt
 split-back P r rs (fires q rest) h = (λ p. (p .1 .0, h .0 (p .0, p .1 .1)), λ p. (h .1 (p .1) .0, (p .0, h .1 (p .1) .1)))
 
-pub head-keeps : (h : Head) (l : Literal) (t : Conclusions) → l ∈ t → l ∈ addHead h t
-unfolding addHead
-head-keeps none l t m = m
-head-keeps (gives k) l t m = add-keeps k l t m
+-- All heads of each rule whose needed entries are in t are in t.
+abbrev pub Full : List Rule → Conclusions → Type 0
+Full rs t = Every (λ r. Ready t r → Every (λ l. l ∈ t) (r .heads)) rs
 
-pub given-in : (h : Head) (t u : Conclusions) → addHead h t ⊆ u → Given h u
-unfolding addHead
-given-in none t u f = tt
-given-in (gives l) t u f = f l (add-has l t)
+pub heads-keep : (hs : List Literal) (l : Literal) (t : Conclusions) → l ∈ t → l ∈ addHeads hs t
+unfolding addHeads
+heads-keep [] l t m = m
+heads-keep (h ∷ hs) l t m = add-keeps h l (addHeads hs t) (heads-keep hs l t m)
 
-none-left : (rs : List Rule) (t : Conclusions) → length rs ≤ zero → Closed rs t
+heads-in : (hs : List Literal) (t u : Conclusions) → addHeads hs t ⊆ u → Every (λ l. l ∈ u) hs
+unfolding addHeads
+heads-in [] t u f = tt
+heads-in (h ∷ hs) t u f = (f h (add-has h (addHeads hs t)), heads-in hs t u (λ l m. f l (add-keeps h l (addHeads hs t) m)))
+
+pub all-given : (hs : List Literal) (u : Conclusions) → Every (λ l. l ∈ u) hs → Given hs u
+all-given [] u f = tt
+all-given (h ∷ hs) u f = inl (f .0)
+
+none-left : (rs : List Rule) (t : Conclusions) → length rs ≤ zero → Full rs t
 none-left [] t h = tt
 none-left (r ∷ rs) t h = absurd (omega arith)
 
@@ -80,40 +90,36 @@ split P t (r ∷ rs) = go (every (λ l. isIn l t) (r .body .needed)) (split P t 
 grows : (k : ℕ) (rs : List Rule) (t : Conclusions) → t ⊆ closeBy k rs t
 unfolding closeBy
 grows zero rs t l h = h
-grows (suc k) rs t l h = go (takeOut t rs) (λ r rest. grows k rest (addHead (r .head) t) l)
+grows (suc k) rs t l h = go (takeOut t rs) (λ r rest. grows k rest (addHeads (r .heads) t) l)
   where
-    go : (f : Fired) → ((r : Rule) (rest : List Rule) → l ∈ addHead (r .head) t → l ∈ closeBy k rest (addHead (r .head) t))
-        → l ∈ (elim f as (λ _. Conclusions) [ nothing ↦ t | fires r rest ↦ closeBy k rest (addHead (r .head) t) ])
+    go : (f : Fired) → ((r : Rule) (rest : List Rule) → l ∈ addHeads (r .heads) t → l ∈ closeBy k rest (addHeads (r .heads) t))
+        → l ∈ (elim f as (λ _. Conclusions) [ nothing ↦ t | fires r rest ↦ closeBy k rest (addHeads (r .heads) t) ])
     go nothing ih = h
-    go (fires r rest) ih = ih r rest (head-keeps (r .head) l t h)
+    go (fires r rest) ih = ih r rest (heads-keep (r .heads) l t h)
 
-closes : (k : ℕ) (rs : List Rule) (t : Conclusions) → length rs ≤ k → Closed rs (closeBy k rs t)
+closes : (k : ℕ) (rs : List Rule) (t : Conclusions) → length rs ≤ k → Full rs (closeBy k rs t)
 unfolding closeBy
 closes zero rs t h = none-left rs t h
 closes (suc k) rs t h =
-    go (takeOut t rs) (found t rs) (λ P. split P t rs) (λ r rest. closes k rest (addHead (r .head) t))
+    go (takeOut t rs) (found t rs) (λ P. split P t rs) (λ r rest. closes k rest (addHeads (r .heads) t))
   where
     go : (f : Fired) → Found t rs f → ((P : Rule → Type 0) → Split P rs f)
-        → ((r : Rule) (rest : List Rule) → length rest ≤ k → Closed rest (closeBy k rest (addHead (r .head) t)))
-        → Closed rs (elim f as (λ _. Conclusions) [ nothing ↦ t | fires r rest ↦ closeBy k rest (addHead (r .head) t) ])
+        → ((r : Rule) (rest : List Rule) → length rest ≤ k → Full rest (closeBy k rest (addHeads (r .heads) t)))
+        → Full rs (elim f as (λ _. Conclusions) [ nothing ↦ t | fires r rest ↦ closeBy k rest (addHeads (r .heads) t) ])
     go nothing n s ih = every-map (λ r f g. absurd (f g)) rs n
     go (fires r rest) n s ih =
-        let u = closeBy k rest (addHead (r .head) t) in
-        s (λ q. Ready u q → Given (q .head) u) .0 (λ g. given-in (r .head) t u (grows k rest (addHead (r .head) t)), ih r rest (omega arith))
+        let u = closeBy k rest (addHeads (r .heads) t) in
+        s (λ q. Ready u q → Every (λ l. l ∈ u) (q .heads)) .0 (λ g. heads-in (r .heads) t u (grows k rest (addHeads (r .heads) t)), ih r rest (omega arith))
 
 -- ---- and within every property that the rules keep
--- The property holds of the head's conclusion.
-abbrev pub Keeps : (ℕ → Type 0) → (ℕ → Type 0) → Head → Type 0
-Keeps P Q none = Unit {0}
-Keeps P Q (gives l) = At P Q l
-
+-- The property holds of the heads if it holds of the needed entries.
 abbrev pub KeptBy : (ℕ → Type 0) → (ℕ → Type 0) → Rule → Type 0
-KeptBy P Q r = Every (At P Q) (r .body .needed) → Keeps P Q (r .head)
+KeptBy P Q r = Every (At P Q) (r .body .needed) → Every (At P Q) (r .heads)
 
-head-only : (P Q : ℕ → Type 0) (h : Head) (t : Conclusions) → Keeps P Q h → ((l : Literal) → l ∈ t → At P Q l) → (l : Literal) → l ∈ addHead h t → At P Q l
-unfolding addHead
-head-only P Q none t p f l m = f l m
-head-only P Q (gives k) t p f l m = add-only P Q k l t p f m
+heads-only : (P Q : ℕ → Type 0) (hs : List Literal) (t : Conclusions) → Every (At P Q) hs → ((l : Literal) → l ∈ t → At P Q l) → (l : Literal) → l ∈ addHeads hs t → At P Q l
+unfolding addHeads
+heads-only P Q [] t p f l m = f l m
+heads-only P Q (h ∷ hs) t p f l m = add-only P Q h l (addHeads hs t) (p .0) (heads-only P Q hs t (p .1) f) m
 
 pub not-empty : (l : Literal) → l ∈ empty → ⊥
 unfolding isIn empty
@@ -126,49 +132,55 @@ unfolding isIn member
 in-place t (pos i) = let e : suc (i - 1) - 1 ≡ i - 1 = omega arith in (λ h. rw e h, λ h. rw e at h)
 in-place t (neg i) = let e : suc (i - 1) - 1 ≡ i - 1 = omega arith in (λ h. rw e h, λ h. rw e at h)
 
-kept : (t : Conclusions) (r : Rule) → (Ready t r → Given (r .head) t) → KeptBy (λ k. pos (suc k) ∈ t) (λ k. neg (suc k) ∈ t) r
-kept t r f n = go (r .head) (f (every-map (λ l. in-place t l .1) (r .body .needed) n))
+-- A closed set keeps a rule with one head or none.
+kept : (t : Conclusions) (r : Rule) → OneHead r → (Ready t r → Given (r .heads) t) → KeptBy (λ k. pos (suc k) ∈ t) (λ k. neg (suc k) ∈ t) r
+kept t r o f n = go (r .heads) o (f (every-map (λ l. in-place t l .1) (r .body .needed) n))
   where
-    go : (h : Head) → Given h t → Keeps (λ k. pos (suc k) ∈ t) (λ k. neg (suc k) ∈ t) h
-    go none g = tt
-    go (gives l) g = in-place t l .0 g
+    go : (hs : List Literal) → length hs ≤ 1 → Given hs t → Every (At (λ k. pos (suc k) ∈ t) (λ k. neg (suc k) ∈ t)) hs
+    go [] o g = tt
+    go (l ∷ []) o g = (⊎-elim (λ m. in-place t l .0 m) (λ m. absurd m) g, tt)
+    go (l ∷ k ∷ ls) o g = absurd (omega arith)
+
+pub every-two : {A : Type 0} {P Q R : A → Type 0} → ((x : A) → P x → Q x → R x) → (xs : List A) → Every P xs → Every Q xs → Every R xs
+every-two f [] p q = tt
+every-two f (x ∷ xs) p q = (f x (p .0) (q .0), every-two f xs (p .1) (q .1))
 
 within : (P Q : ℕ → Type 0) (k : ℕ) (rs : List Rule) (t : Conclusions) → Every (KeptBy P Q) rs → ((l : Literal) → l ∈ t → At P Q l)
     → (l : Literal) → l ∈ closeBy k rs t → At P Q l
 unfolding closeBy
 within P Q zero rs t c h l m = h l m
-within P Q (suc k) rs t c h l m = go (takeOut t rs) (found t rs) (split (KeptBy P Q) t rs) m (λ r rest. within P Q k rest (addHead (r .head) t))
+within P Q (suc k) rs t c h l m = go (takeOut t rs) (found t rs) (split (KeptBy P Q) t rs) m (λ r rest. within P Q k rest (addHeads (r .heads) t))
   where
     go : (f : Fired) → Found t rs f → Split (KeptBy P Q) rs f
-        → l ∈ (elim f as (λ _. Conclusions) [ nothing ↦ t | fires r rest ↦ closeBy k rest (addHead (r .head) t) ])
-        → ((r : Rule) (rest : List Rule) → Every (KeptBy P Q) rest → ((l : Literal) → l ∈ addHead (r .head) t → At P Q l) → (l : Literal) → l ∈ closeBy k rest (addHead (r .head) t) → At P Q l)
+        → l ∈ (elim f as (λ _. Conclusions) [ nothing ↦ t | fires r rest ↦ closeBy k rest (addHeads (r .heads) t) ])
+        → ((r : Rule) (rest : List Rule) → Every (KeptBy P Q) rest → ((l : Literal) → l ∈ addHeads (r .heads) t → At P Q l) → (l : Literal) → l ∈ closeBy k rest (addHeads (r .heads) t) → At P Q l)
         → At P Q l
     go nothing n s m ih = h l m
     go (fires r rest) n s m ih =
         let c′ = s .1 c in
-        ih r rest (c′ .1) (head-only P Q (r .head) t (c′ .0 (every-map (λ l. h l) (r .body .needed) (n .0))) h) l m
+        ih r rest (c′ .1) (heads-only P Q (r .heads) t (c′ .0 (every-map (λ l. h l) (r .body .needed) (n .0))) h) l m
 
 -- A property of places that every rule keeps holds of the whole closure.
 pub closure-keeps : (P Q : ℕ → Type 0) (rs : List Rule) → Every (KeptBy P Q) rs → (l : Literal) → l ∈ closure rs → At P Q l
 unfolding closure empty
 closure-keeps P Q rs c l m = within P Q (length rs) rs empty c (λ l h. absurd (not-empty l h)) l m
 
-pub closure-closed : (rs : List Rule) → Closed rs (closure rs)
+pub closure-full : (rs : List Rule) → Full rs (closure rs)
 unfolding closure
-closure-closed rs = closes (length rs) rs empty (omega arith)
+closure-full rs = closes (length rs) rs empty (omega arith)
 
-pub closure-least : (rs : List Rule) → Least rs (closure rs)
-closure-least rs = record { closed = closure-closed rs; least = λ t c l m. in-place t l .1 (closure-keeps (λ k. pos (suc k) ∈ t) (λ k. neg (suc k) ∈ t) rs (every-map (kept t) rs c) l m) }
+pub closure-closed : (rs : List Rule) → Closed rs (closure rs)
+closure-closed rs = every-map (λ r f n. all-given (r .heads) (closure rs) (f n)) rs (closure-full rs)
 
--- The least closed set is the closure, and no other.
-pub least-only : (rs : List Rule) (s : Conclusions) → Least rs s → s ≡ closure rs
-least-only rs s h = subset-same s (closure rs) (h .least (closure rs) (closure-closed rs)) (closure-least rs .least s (h .closed))
+-- For rules with one head or none the closure is the least closed set, and a minimal closed set is the least one: document 01's words.
+pub closure-least : (rs : List Rule) → Every OneHead rs → Least rs (closure rs)
+closure-least rs o = record {
+  closed = closure-closed rs;
+  least = λ t c l m. in-place t l .1 (closure-keeps (λ k. pos (suc k) ∈ t) (λ k. neg (suc k) ∈ t) rs (every-two (kept t) rs o c) l m);
+}
 
-pub closure-only : (rs : List Rule) (s : Conclusions) → s ≡ closure rs → Least rs s
-closure-only rs s e = rw e (closure-least rs)
-
-pub head-within : (h : Head) (t u : Conclusions) → t ⊆ u → Given h u → addHead h t ⊆ u
-unfolding addHead
-head-within none t u f g l m = f l m
-head-within (gives k) t u f g l m =
-    in-place u l .1 (add-only (λ k. pos (suc k) ∈ u) (λ k. neg (suc k) ∈ u) k l t (in-place u k .0 g) (λ j n. in-place u j .0 (f j n)) m)
+pub one-head-least : (rs : List Rule) → Every OneHead rs → (s : Conclusions) → Minimal rs s ↔ Least rs s
+one-head-least rs o s = let c = closure-least rs o in (
+  λ m. record { closed = m .closed; least = λ t h l i. c .least t h l (m .minimal (closure rs) (c .closed) (c .least s (m .closed)) l i) },
+  λ h. record { closed = h .closed; minimal = λ t k f. h .least t k },
+)

@@ -12,6 +12,7 @@ pub mod Demand3
 pub mod Shown
 pub mod Next
 pub mod Ranges
+pub mod OneHeads
 pub mod Parts
 pub mod Pages
 pub mod Conditions

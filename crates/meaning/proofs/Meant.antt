@@ -10,15 +10,15 @@ use Rattle.book.specs.Counts.{startOf}
 use Rattle.meaning.specs.Meant.{rulesAt, conditionalAt, bookOf}
 
 -- There is one rule for each row.
-rules-length : (t : List ℤ) (k m : ℕ) → length (rulesAt t k m) ≡ m
+pub rules-length : (h w : ℕ) (t : List ℤ) (k m : ℕ) → length (rulesAt h w t k m) ≡ m
 unfolding rulesAt
-rules-length t k zero = refl
-rules-length t k (suc m) = ap suc (rules-length t (k + ruleNumbers) m)
+rules-length h w t k zero = refl
+rules-length h w t k (suc m) = ap suc (rules-length h w t (k + w) m)
 
 -- The book has as many exceptions as its shape says.
 pub exceptions-count : (s : Shape) (t : List ℤ) → length (bookOf s t .exceptions) ≡ s .exceptions
 unfolding bookOf
-exceptions-count s t = rules-length t (startOf s exception) (s .exceptions)
+exceptions-count s t = rules-length 1 ruleNumbers t (startOf s exception) (s .exceptions)
 
 -- And as many preferences under a condition; none, if the shape says so.
 conditionals-length : (t : List ℤ) (k m : ℕ) → length (conditionalAt t k m) ≡ m

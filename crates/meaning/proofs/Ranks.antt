@@ -52,9 +52,9 @@ module _ (ls : List (ℕ × ℕ)) where
     unfolding rankRule
     keeps-line l m = go (eqb (l .0) a) refl
       where
-        go : (b : Bool) → eqb (l .0) a ≡ b → Every (At P Q) (elim b as (λ _. List Literal) [ true ↦ [] | false ↦ pos (suc (l .0)) ∷ [] ]) → P (suc (l .1) - 1)
-        go true e h = rw (back (l .1)) (step (rw (eqb-true (l .0) a e) at m))
-        go false e h = rw (back (l .1)) (longer (rw (back (l .0)) at (h .0)) m)
+        go : (b : Bool) → eqb (l .0) a ≡ b → Every (At P Q) (elim b as (λ _. List Literal) [ true ↦ [] | false ↦ pos (suc (l .0)) ∷ [] ]) → P (suc (l .1) - 1) × Unit {0}
+        go true e h = (rw (back (l .1)) (step (rw (eqb-true (l .0) a e) at m)), tt)
+        go false e h = (rw (back (l .1)) (longer (rw (back (l .0)) at (h .0)) m), tt)
 
     keeps-lines : (ms : List (ℕ × ℕ)) → ((l : ℕ × ℕ) → Among l ms → Among l ls) → Every (KeptBy P Q) (rankRules a ms)
     unfolding rankRules
@@ -71,8 +71,8 @@ module _ (ls : List (ℕ × ℕ)) where
       follow [] h x y m o = absurd m
       follow (l ∷ ms) h x y m o = ⊎-elim (λ q. go (rw q at (h .0))) (λ r. follow ms (h .1) x y r o) m
         where
-          go : (Every (λ k. k ∈ c) (elim (eqb x a) as (λ _. List Literal) [ true ↦ [] | false ↦ pos (suc x) ∷ [] ]) → pos (suc y) ∈ c) → pos (suc y) ∈ c
-          go f = f (fill (eqb x a) refl)
+          go : (Every (λ k. k ∈ c) (elim (eqb x a) as (λ _. List Literal) [ true ↦ [] | false ↦ pos (suc x) ∷ [] ]) → (pos (suc y) ∈ c) ⊎ ⊥) → pos (suc y) ∈ c
+          go f = ⊎-elim (λ i. i) (λ n. absurd n) (f (fill (eqb x a) refl))
             where
               fill : (b : Bool) → eqb x a ≡ b → Every (λ k. k ∈ c) (elim b as (λ _. List Literal) [ true ↦ [] | false ↦ pos (suc x) ∷ [] ])
               fill true e = tt

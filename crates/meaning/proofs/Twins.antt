@@ -1,30 +1,29 @@
 -- Each test of specs/Twins/Verdicts decides its definition.
 use mathlib.Core.Path.{_≡_, refl, sym, ap, _∙_}
 use mathlib.Core.Bool.{Bool, true, false, not}
-use mathlib.Core.List.{List, _++_}
-use mathlib.Core.Logic.{_⊎_, inl, inr, ⊎-elim}
+use mathlib.Core.List.{List, [], _∷_, _++_}
+use mathlib.Core.Logic.{_⊎_, inl, inr, ⊎-elim, _↔_}
 use Prim.Native.Nat.{ℕ, zero, suc, _-_, _^_, _<_, _≤_}
 use native.Mathlib.Nat.{eq-or-lt-of-le}
 use native.Mathlib.Omega.{arith}
 use lib.Dec.{eqb, ltb}
 use lib.ListN.{length}
-use Rattle.logic.specs.Lists.{Among}
+use Rattle.logic.specs.Lists.{Every, Among}
 use Rattle.logic.specs.Tests.{Decides, every, keep}
-use Rattle.logic.proofs.Decide.{clash, decided, decides-both, decides-eq, decides-every, decides-lt, decides-not, decides-some, decides-then, holds, is, reworded}
-use Rattle.logic.proofs.Members.{among-concat, every-at, keep-in, keep-only, kept-from, some-at, some-of}
+use Rattle.logic.proofs.Decide.{clash, decided, decides-both, decides-eq, decides-every, decides-imp, decides-lt, decides-not, decides-some, decides-then, holds, holds-or-not, is, reworded}
+use Rattle.logic.proofs.Members.{among-concat, every-at, every-of, keep-in, keep-only, kept-from, some-at, some-of}
 use Rattle.sets.specs.Sets.{Contained, ProperSubset, member}
 use Rattle.sets.specs.declared.Pair.{Pair}
 use Rattle.sets.proofs.Digits.{lt-or-le, lt-pow}
-use Rattle.sets.proofs.Words.{member-past}
-use Rattle.meaning.specs.Literals.{pos, neg, Conclusions, isIn, _∈_, Consistent}
-use Rattle.meaning.specs.Rules.{Head, none, gives, Body, Rule, Satisfied, satisfied}
-use Rattle.meaning.specs.AnswerSets.{reduct, Breaks, AnswerSet}
+use Rattle.sets.proofs.Words.{sub-le, contained-within, member-past}
+use Rattle.meaning.specs.Literals.{Literal, pos, neg, Conclusions, isIn, _∈_, _⊆_, Consistent}
+use Rattle.meaning.specs.Rules.{Body, Rule, Satisfied, satisfied}
+use Rattle.meaning.specs.AnswerSets.{reduct, Given, Closed, Minimal, Breaks, AnswerSet}
 use Rattle.meaning.specs.Books.{Book, Lawful, conclusions, applied}
 use Rattle.meaning.specs.Views.{Answers, RankedWithin, Bodies, View, Dominates}
 use Rattle.meaning.specs.Resolutions.{Dominated, Exceeded, Resolution, Verdict, no-answer-set, ranked-within, body-unsatisfied, dominated, not-minimal, resolution}
-use Rattle.meaning.specs.Twins.Closure.{closure}
-use Rattle.meaning.specs.Twins.Verdicts.{breaks, apart, same, answerSet, rankedWithin, dominates, lawful, answers, bodies, view, below, pairs, views, containedTo, properSubset, dominatedBy, exceededBy, verdict, unbeaten, resolutionsAmong, resolutions}
-use Rattle.meaning.proofs.Closed.{least-only, closure-only}
+use Rattle.meaning.specs.Twins.Verdicts.{breaks, apart, same, given, follows, closed, noSmaller, upTo, minimal, answerSet, rankedWithin, dominates, lawful, answers, bodies, view, below, pairs, views, containedTo, properSubset, dominatedBy, exceededBy, verdict, unbeaten, resolutionsAmong, resolutions}
+use Rattle.meaning.proofs.Members.{subset-same}
 use Rattle.meaning.proofs.Ranks.{decides-within, decides-dominates}
 
 pub decides-satisfied : (s : Conclusions) (r : Body) → Decides (satisfied s r) (Satisfied s r)
@@ -36,10 +35,10 @@ decides-satisfied s r =
     (decides-every (λ l. not (isIn l s)) (λ l. l ∈ s → ⊥) (λ l. decides-not (is (isIn l s))) (r .barred)))
     (λ p. record { needs = p .0; bars = p .1 }) (λ h. (h .needs, h .bars))
 
-pub decides-breaks : (s : Conclusions) (r : Body) (h : Head) → Decides (breaks s r h) (Breaks s r h)
+pub decides-breaks : (s : Conclusions) (r : Body) (hs : List Literal) → Decides (breaks s r hs) (Breaks s r hs)
 unfolding breaks
-decides-breaks s r none = decides-satisfied s r
-decides-breaks s r (gives l) = decided (clash) (λ n. absurd n)
+decides-breaks s r [] = decides-satisfied s r
+decides-breaks s r (l ∷ ls) = decided (clash) (λ n. absurd n)
 
 -- ---- no statement both held and denied
 apart-at : (k : ℕ) (s : Conclusions) → apart k s ≡ true → (i : ℕ) → i < k → pos (suc i) ∈ s → neg (suc i) ∈ s → ⊥
@@ -85,66 +84,7 @@ decides-same s t =
     reworded (decides-both (eqb (s .held) (t .held)) (eqb (s .denied) (t .denied)) (decides-eq (s .held) (t .held)) (decides-eq (s .denied) (t .denied)))
     (λ p. λ i. record { held = p .0 i; denied = p .1 i }) (λ e. (ap (λ (u : Conclusions). u .held) e, ap (λ (u : Conclusions). u .denied) e))
 
-pub decides-answer-set : (rs : List Rule) (s : Conclusions) → Consistent s → Decides (answerSet rs s) (AnswerSet rs s)
-unfolding answerSet
-decides-answer-set rs s c =
-    reworded
-    (decides-both (same s (closure (reduct s rs))) (every (λ r. not (breaks s (r .body) (r .head))) rs)
-    (decides-same s (closure (reduct s rs)))
-    (decides-every (λ r. not (breaks s (r .body) (r .head))) (λ r. Breaks s (r .body) (r .head) → ⊥) (λ r. decides-not (decides-breaks s (r .body) (r .head))) rs))
-    (λ p. record { consistent = c; least = closure-only (reduct s rs) s (p .0); unbroken = p .1 })
-    (λ a. (least-only (reduct s rs) s (a .least), a .unbroken))
-
--- ---- views
-pub decides-lawful : (b : Book) (p : Pair) → Decides (lawful b p) (Lawful b p)
-unfolding lawful
-decides-lawful b p =
-    reworded {P = (p .taken < 2 ^ length (b .exceptions)) × ((p .held < 2 ^ b .statements) × ((p .denied < 2 ^ b .statements) × Consistent (conclusions p)))}
-    (decides-then (ltb (p .taken) (2 ^ length (b .exceptions))) _ (decides-lt _ _) (λ x.
-    decides-then (ltb (p .held) (2 ^ b .statements)) _ (decides-lt _ _) (λ h.
-    decides-both (ltb (p .denied) (2 ^ b .statements)) _ (decides-lt _ _) (decides-apart (b .statements) (conclusions p) h))))
-    (λ h. record { exceptions = h .0; held = h .1 .0; denied = h .1 .1 .0; apart = h .1 .1 .1 })
-    (λ l. (l .exceptions, (l .held, (l .denied, l .apart))))
-
-pub decides-answers : (b : Book) (p : Pair) → Lawful b p → Decides (answers b p) (Answers b p)
-unfolding answers
-decides-answers b p l = decides-answer-set (b .plain ++ applied b p) (conclusions p) (l .apart)
-
-pub decides-bodies : (b : Book) (p : Pair) → Decides (bodies b p) (Bodies b p)
-unfolding bodies
-decides-bodies b p = decides-every (λ r. satisfied (conclusions p) (r .body)) (λ r. Satisfied (conclusions p) (r .body)) (λ r. decides-satisfied (conclusions p) (r .body)) (applied b p)
-
-pub decides-view : (b : Book) (p : Pair) → Decides (view b p) (View b p)
-unfolding view
-decides-view b p =
-    reworded {P = Lawful b p × (Answers b p × ((RankedWithin b p → ⊥) × Bodies b p))}
-    (decides-then (lawful b p) _ (decides-lawful b p) (λ l.
-    decides-both (answers b p) _ (decides-answers b p l)
-    (decides-both (not (rankedWithin b p)) _ (decides-not (decides-within b p)) (decides-bodies b p))))
-    (λ h. record { lawful = h .0; answers = h .1 .0; unranked = h .1 .1 .0; bodies = h .1 .1 .1 })
-    (λ v. (v .lawful, (v .answers, (v .unranked, v .bodies))))
-
--- ---- all views are among the pairs
-below-all : (k i : ℕ) → i < k → Among i (below k)
-unfolding below
-below-all zero i h = absurd (omega arith)
-below-all (suc k) i h = ⊎-elim (λ e. inl (sym e)) (λ l. inr (below-all k i l)) (eq-or-lt-of-le (omega arith))
-
-pub pairs-all : (b : Book) (p : Pair) → Lawful b p → Among p (pairs b)
-unfolding pairs
-pairs-all b p l =
-    among-concat _ (p .taken) p _ (below-all _ (p .taken) (l .exceptions))
-    (among-concat _ (p .held) p _ (below-all _ (p .held) (l .held)) (among-concat _ (p .denied) p _ (below-all _ (p .denied) (l .denied)) (inl refl)))
-
-pub views-all : (b : Book) (p : Pair) → View b p → Among p (views b)
-unfolding views
-views-all b p v = keep-in (view b) p (pairs b) (pairs-all b p (v .lawful)) (holds (decides-view b p) v)
-
-pub views-only : (b : Book) (p : Pair) → Among p (views b) → View b p
-unfolding views
-views-only b p m = decides-view b p .yes (every-at (λ q. view b q ≡ true) p (keep (view b) (pairs b)) (keep-only (view b) (pairs b)) m)
-
--- ---- proper subsets
+-- ---- subsets
 contained-at : (k a c : ℕ) → containedTo k a c ≡ true → (i : ℕ) → i < k → member (suc i) a ≡ true → member (suc i) c ≡ true
 unfolding containedTo
 contained-at zero a c e i h m = absurd (omega arith)
@@ -176,6 +116,118 @@ decides-contained a c = decided (λ e i. go e i (lt-or-le (i - 1) a)) (contained
     go e i (inl l) m = rw (one-up i c) at (contained-at a a c e (i - 1) l (rw (one-up i a) m))
     go e i (inr l) m = absurd (clash (sym (member-past a a i (lt-pow a) l) ∙ m))
 
+below-all : (k i : ℕ) → i < k → Among i (below k)
+unfolding below
+below-all zero i h = absurd (omega arith)
+below-all (suc k) i h = ⊎-elim (λ e. inl (sym e)) (λ l. inr (below-all k i l)) (eq-or-lt-of-le (omega arith))
+
+-- A subset by its two numbers.
+halves : (t s : Conclusions) → t ⊆ s → Contained (t .held) (s .held) × Contained (t .denied) (s .denied)
+unfolding isIn
+halves t s f = (λ i. f (pos i), λ i. f (neg i))
+
+joined : (t s : Conclusions) → Contained (t .held) (s .held) → Contained (t .denied) (s .denied) → t ⊆ s
+unfolding isIn
+joined t s f g (pos i) = f i
+joined t s f g (neg i) = g i
+
+-- ---- closed sets, minimal ones
+pub decides-given : (hs : List Literal) (t : Conclusions) → Decides (given hs t) (Given hs t)
+unfolding given
+decides-given [] t = decided (λ e. tt) (λ p. refl)
+decides-given (l ∷ ls) t = decides-some (λ k. isIn k t) (λ k. k ∈ t) (λ k. is (isIn k t)) (l ∷ ls)
+
+pub decides-closed : (rs : List Rule) (t : Conclusions) → Decides (closed rs t) (Closed rs t)
+unfolding closed follows
+decides-closed rs t =
+    decides-every (follows t) (λ r. Every (λ l. l ∈ t) (r .body .needed) → Given (r .heads) t)
+    (λ r. decides-imp _ _ (decides-every (λ l. isIn l t) (λ l. l ∈ t) (λ l. is (isIn l t)) (r .body .needed)) (decides-given (r .heads) t)) rs
+
+decides-no-smaller : (rs : List Rule) (s t : Conclusions) → Decides (noSmaller rs s t) (Closed rs t → t ⊆ s → s ⊆ t)
+unfolding noSmaller
+decides-no-smaller rs s t =
+    reworded
+    (decides-imp _ _ (decides-contained (t .held) (s .held)) (decides-imp _ _ (decides-contained (t .denied) (s .denied)) (decides-imp (closed rs t) (same t s) (decides-closed rs t) (decides-same t s))))
+    (λ f c h l m. rw (f (halves t s h .0) (halves t s h .1) c) m) (λ f h d c. let g = joined t s h d in subset-same t s g (f c g))
+
+up-to-all : (s t : Conclusions) → t ⊆ s → Among t (upTo s)
+unfolding upTo
+up-to-all s t f =
+    let h = sub-le (t .held) (s .held) (contained-within _ _ (halves t s f .0)) in
+    let d = sub-le (t .denied) (s .denied) (contained-within _ _ (halves t s f .1)) in
+    among-concat _ (t .held) t _ (below-all _ (t .held) (omega arith)) (among-concat _ (t .denied) t _ (below-all _ (t .denied) (omega arith)) (inl refl))
+
+pub decides-minimal : (rs : List Rule) (s : Conclusions) → Decides (minimal rs s) (Minimal rs s)
+unfolding minimal
+decides-minimal rs s =
+    reworded
+    (decides-both (closed rs s) (every (noSmaller rs s) (upTo s)) (decides-closed rs s)
+    (decides-every (noSmaller rs s) (λ t. Closed rs t → t ⊆ s → s ⊆ t) (decides-no-smaller rs s) (upTo s)))
+    (λ h. record { closed = h .0; minimal = λ t c f. every-at (λ t. Closed rs t → t ⊆ s → s ⊆ t) t (upTo s) (h .1) (up-to-all s t f) c f })
+    (λ m. (m .closed, every-of (λ t. Closed rs t → t ⊆ s → s ⊆ t) (upTo s) (λ t i. m .minimal t)))
+
+-- No proper subset of a closed set is closed: it is minimal, in (g)'s words.
+pub no-proper-subset : (rs : List Rule) (s : Conclusions) → Minimal rs s ↔ (Closed rs s × ((t : Conclusions) → t ⊆ s → (t ≡ s → ⊥) → Closed rs t → ⊥))
+no-proper-subset rs s = (
+  λ m. (m .closed, λ t f n c. n (subset-same t s f (m .minimal t c f))),
+  λ h. record { closed = h .0; minimal = λ t c f l i. ⊎-elim (λ (e : t ≡ s). rw e i) (λ n. absurd (h .1 t f n c)) (holds-or-not (decides-same t s)) },
+)
+
+pub decides-answer-set : (rs : List Rule) (s : Conclusions) → Consistent s → Decides (answerSet rs s) (AnswerSet rs s)
+unfolding answerSet
+decides-answer-set rs s c =
+    reworded
+    (decides-both (minimal (reduct s rs) s) (every (λ r. not (breaks s (r .body) (r .heads))) rs)
+    (decides-minimal (reduct s rs) s)
+    (decides-every (λ r. not (breaks s (r .body) (r .heads))) (λ r. Breaks s (r .body) (r .heads) → ⊥) (λ r. decides-not (decides-breaks s (r .body) (r .heads))) rs))
+    (λ p. record { consistent = c; minimal = p .0; unbroken = p .1 })
+    (λ a. (a .minimal, a .unbroken))
+
+-- ---- views
+pub decides-lawful : (b : Book) (p : Pair) → Decides (lawful b p) (Lawful b p)
+unfolding lawful
+decides-lawful b p =
+    reworded {P = (p .taken < 2 ^ length (b .exceptions)) × ((p .held < 2 ^ b .statements) × ((p .denied < 2 ^ b .statements) × Consistent (conclusions p)))}
+    (decides-then (ltb (p .taken) (2 ^ length (b .exceptions))) _ (decides-lt _ _) (λ x.
+    decides-then (ltb (p .held) (2 ^ b .statements)) _ (decides-lt _ _) (λ h.
+    decides-both (ltb (p .denied) (2 ^ b .statements)) _ (decides-lt _ _) (decides-apart (b .statements) (conclusions p) h))))
+    (λ h. record { exceptions = h .0; held = h .1 .0; denied = h .1 .1 .0; apart = h .1 .1 .1 })
+    (λ l. (l .exceptions, (l .held, (l .denied, l .apart))))
+
+pub decides-answers : (b : Book) (p : Pair) → Lawful b p → Decides (answers b p) (Answers b p)
+unfolding answers
+decides-answers b p l = decides-answer-set (b .plain ++ applied b p) (conclusions p) (l .apart)
+
+pub decides-bodies : (b : Book) (p : Pair) → Decides (bodies b p) (Bodies b p)
+unfolding bodies
+decides-bodies b p = decides-every (λ r. satisfied (conclusions p) (r .body)) (λ r. Satisfied (conclusions p) (r .body)) (λ r. decides-satisfied (conclusions p) (r .body)) (applied b p)
+
+pub decides-view : (b : Book) (p : Pair) → Decides (view b p) (View b p)
+unfolding view
+decides-view b p =
+    reworded {P = Lawful b p × (Answers b p × ((RankedWithin b p → ⊥) × Bodies b p))}
+    (decides-then (lawful b p) _ (decides-lawful b p) (λ l.
+    decides-both (answers b p) _ (decides-answers b p l)
+    (decides-both (not (rankedWithin b p)) _ (decides-not (decides-within b p)) (decides-bodies b p))))
+    (λ h. record { lawful = h .0; answers = h .1 .0; unranked = h .1 .1 .0; bodies = h .1 .1 .1 })
+    (λ v. (v .lawful, (v .answers, (v .unranked, v .bodies))))
+
+-- ---- all views are among the pairs
+pub pairs-all : (b : Book) (p : Pair) → Lawful b p → Among p (pairs b)
+unfolding pairs
+pairs-all b p l =
+    among-concat _ (p .taken) p _ (below-all _ (p .taken) (l .exceptions))
+    (among-concat _ (p .held) p _ (below-all _ (p .held) (l .held)) (among-concat _ (p .denied) p _ (below-all _ (p .denied) (l .denied)) (inl refl)))
+
+pub views-all : (b : Book) (p : Pair) → View b p → Among p (views b)
+unfolding views
+views-all b p v = keep-in (view b) p (pairs b) (pairs-all b p (v .lawful)) (holds (decides-view b p) v)
+
+pub views-only : (b : Book) (p : Pair) → Among p (views b) → View b p
+unfolding views
+views-only b p m = decides-view b p .yes (every-at (λ q. view b q ≡ true) p (keep (view b) (pairs b)) (keep-only (view b) (pairs b)) m)
+
+-- ---- proper subsets
 pub decides-proper : (a c : ℕ) → Decides (properSubset a c) (ProperSubset a c)
 unfolding properSubset
 decides-proper a c =

@@ -9,7 +9,7 @@ use Rattle.meaning.specs.Literals.{Conclusions, Consistent}
 use Rattle.meaning.specs.Rules.{Rule}
 use Rattle.meaning.specs.Preferences.{Conditional}
 
--- A book: the number n of statements, the plain rules (R lines), the exceptions (X lines), the preferences (P lines: a before b),
+-- A book: the number n of statements, the plain rules (R lines, then O lines), the exceptions (X lines), the preferences (P lines: a before b),
 -- and those under a condition (Q lines).
 pub record Book : Type 0 where
   pub statements : ℕ

@@ -5,19 +5,14 @@ use Rattle.logic.specs.Lists.{Every}
 use Rattle.logic.specs.Tests.{every}
 use Rattle.meaning.specs.Literals.{Literal, Conclusions, isIn, _∈_}
 
--- A head is a conclusion; a constraint has none.
-pub data Head : Type 0 where
-  none : Head
-  gives : Literal → Head
-
 -- A body: needed entries and barred entries.
 pub record Body : Type 0 where
   pub needed : List Literal
   pub barred : List Literal
 
--- A rule: a head and a body.
+-- A rule: its heads and its body. A constraint has no head, an R or X line one, an O line two or three: alternatives.
 pub record Rule : Type 0 where
-  pub head : Head
+  pub heads : List Literal
   pub body : Body
 
 -- The body is satisfied by S: every needed entry is in S and no barred entry is.

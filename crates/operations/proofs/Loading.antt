@@ -1,16 +1,13 @@
 -- A parsed text is loaded: an accepted book's facts are what packing its rules, its Q lines and its preferences ask of its rows.
-use mathlib.Core.Path.{_≡_, refl, sym}
-use mathlib.Core.Bool.{Bool, true, false}
+use mathlib.Core.Path.{_≡_, sym}
 use mathlib.Core.List.{List}
-use Prim.Native.Nat.{ℕ, _+_, _-_, _*_, _<_, _≤_}
+use Prim.Native.Nat.{ℕ, zero, suc, _+_, _*_, _<_, _≤_}
 use native.Mathlib.Omega.{arith}
-use lib.Dec.{ltb}
 use lib.IntN.{ℤ, natAbs}
 use lib.ListN.{length, take, length-take}
 use lib.Seq.{length-take-le}
-use borrow.Author.Tests.{ltb-true, ltb-false}
 use Rattle.book.specs.declared.Shape.{Shape}
-use Rattle.book.specs.Kinds.{plain, exception, preference, conditional, ruleNumbers, preferenceNumbers, conditionalNumbers}
+use Rattle.book.specs.Kinds.{kinds, kind, entriesEach, plain, alternative, exception, preference, conditional, preferenceNumbers, conditionalNumbers}
 use Rattle.book.specs.Counts.{countsOf, allCounts, countAt, startOf, rowNumbers, InLimits}
 use Rattle.text.specs.declared.Refusal.{Refusal}
 use Rattle.text.specs.declared.Reading.{Reading}
@@ -18,27 +15,25 @@ use Rattle.text.specs.declared.Reading.the-variants.{Accepted, Refused}
 use Rattle.text.specs.Reading.{readText}
 use Rattle.text.specs.Reading.Outcome.{accepted, refused}
 use Rattle.text.specs.Accepted.{Accepted as Facts}
-use Rattle.text.proofs.Facts.{plain-rules, exception-rules, entry-small, Named, preference-named, conditional-named, conditional-small}
+use Rattle.text.proofs.Facts.{plain-rules, alternative-rules, exception-rules, entry-small, Named, preference-named, conditional-named, conditional-small}
 use Rattle.read.specs.Storing.{outcomeOf}
 use Rattle.read.specs.Parsing.{Parsing}
 use Rattle.meaning.specs.Meant.{at, number, bookOf}
 use Rattle.bridge.specs.Packed.{Packs}
 use Rattle.bridge.specs.Ranks.{Names, RanksOf}
-use Rattle.bridge.specs.Rows.{ruleStart, ruleCount, RowsLawful}
-use Rattle.bridge.proofs.Rows.{start-plain, start-late}
+use Rattle.bridge.specs.Rows.{ruleCount, RowsLawful}
 use Rattle.engine.specs.Loaded.{Loaded}
 use Rattle.operations.specs.Loads.{Loads, Filled}
 
--- The facts of an accepted book, row by row.
-entries-lawful : (s : Shape) (ws : List ℤ) → Facts s ws → (k : ℕ) → k < ruleCount s → (i : ℕ) → i < ruleNumbers → natAbs (at ws (ruleStart s k + i)) ≤ s .statements
-unfolding countAt allCounts countsOf
-entries-lawful s ws f k h i l = go (ltb k (s .plain)) refl
-  where
-    go : (b : Bool) → ltb k (s .plain) ≡ b → natAbs (at ws (ruleStart s k + i)) ≤ s .statements
-    go true p = let z = ltb-true k (s .plain) p in rw (start-plain (s .plain) (startOf s plain) (startOf s exception) k z) (entry-small s ws f plain plain-rules k i z l)
-    go false p =
-        let z = ltb-false k (s .plain) p in
-        rw (start-late (s .plain) (startOf s plain) (startOf s exception) k z) (entry-small s ws f exception exception-rules (k - s .plain) i (omega arith) l)
+-- The facts of an accepted book, row by row. The rules are the rows of R, O and X lines.
+entries-lawful : (s : Shape) (ws : List ℤ) → Facts s ws → (q : ℕ) → plain ≤ q → q ≤ exception → (k : ℕ) → k < countAt s q → (i : ℕ) → i < kind q .heads + (entriesEach + entriesEach)
+    → natAbs (at ws (startOf s q + k * kind q .numbers + i)) ≤ s .statements
+unfolding kind kinds
+entries-lawful s ws f zero g h k l i m = absurd (omega arith)
+entries-lawful s ws f (suc zero) g h k l i m = entry-small s ws f plain plain-rules k i l m
+entries-lawful s ws f (suc (suc zero)) g h k l i m = entry-small s ws f alternative alternative-rules k i l m
+entries-lawful s ws f (suc (suc (suc zero))) g h k l i m = entry-small s ws f exception exception-rules k i l m
+entries-lawful s ws f (suc (suc (suc (suc q)))) g h k l i m = absurd (omega arith)
 
 names-own : (m : ℕ) (v : ℤ) → Named m v → Names m (number v)
 unfolding number

@@ -6,3 +6,4 @@ pub mod Statements
 pub mod Branches
 pub mod Pages
 pub mod Search
+pub mod Ends

@@ -78,6 +78,10 @@ fits-again ws ranks o o′ q at r f e h = record { suits = f .suits; place = h; 
 pub ready-again : (ws ranks o o′ : List ℕ) (q : Task) (left at r : ℕ) → Ready ws ranks o q left at → length o′ ≡ length o → r ≤ q .room → Ready ws ranks o′ q left r
 ready-again ws ranks o o′ q left at r rd e h = record { fits = fits-again ws ranks o o′ q at r (rd .fits) e h; unsettled = rd .unsettled }
 
+-- Fewer statements are left.
+pub ready-fewer : (ws ranks o : List ℕ) (q : Task) (left at fewer : ℕ) → Ready ws ranks o q left at → fewer ≤ left → Ready ws ranks o q fewer at
+ready-fewer ws ranks o q left at fewer rd h = record { fits = rd .fits; unsettled = omega (arith, rd .unsettled) }
+
 -- What a value of the first statement left needs, and what the search from there needs.
 pub branch-ready : (ws ranks o : List ℕ) (q : Task) (left at : ℕ) → Ready ws ranks o q left at → 0 < left → (w : ℕ) → w ≤ 2 → BranchReady ws ranks q (left - 1) w
 branch-ready ws ranks o q left at rd pos w h = record { suits = rd .fits .suits; unsettled = omega (arith, rd .unsettled); value = h }

@@ -16,6 +16,7 @@ use Rattle.bounds.specs.Sound.{In}
 use Rattle.meaning.specs.Order.{value as valueAt}
 use Rattle.page.specs.declared.Task.{Task}
 use Rattle.page.specs.declared.Node.{Node}
+use Rattle.page.specs.declared.Stretch.{Stretch}
 use Rattle.page.specs.declared.Branch.{Branch}
 use Rattle.page.specs.declared.Branch.the-variants.{Cut, Open}
 use Rattle.page.specs.Orders.{bare, given, tried, allFrom, passes, listFrom}
@@ -91,6 +92,14 @@ pub record Settled (P : Pair → Type 0) (q : Task) (left : ℕ) (d : Node) (at 
   pub most : r ≤ q .room
   pub page : (g : Pair → Bool) → Tests P (allFrom (q .statements) left (d .pair)) g → Covered g q left d
       → Page (q .room) at o o′ (passing g q left d (allFrom (q .statements) left (d .pair))) r
+
+-- What a node's bounds have settled of the statements ahead: the pair has more of its values, and fewer statements are left. Every pair that comes from
+-- there comes from the node, and of those from the node none else passes a test that the bounds lose nothing of. The point's own branch goes no further.
+pub record GoneOn (n left : ℕ) (d : Node) (r : Stretch) : Type 0 where
+  pub fewer : r .left ≤ left
+  pub own : d .equal ≡ true → (r .left ≡ left) × (r .pair ≡ d .pair)
+  pub among : (u : Pair) → Among u (allFrom n (r .left) (r .pair)) → Among u (allFrom n left (d .pair))
+  pub kept : (g : Pair → Bool) → Covers g n left (d .pair) (d .bounds) → keep g (allFrom n left (d .pair)) ≡ keep g (allFrom n (r .left) (r .pair))
 
 -- The pairs that come from the node d with the last v values tried at a statement that `left` others follow.
 abbrev pub triedFrom : Task → ℕ → ℕ → Node → List Pair

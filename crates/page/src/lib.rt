@@ -13,7 +13,7 @@ ghost use Rattle.probe.specs.declared.Answer.the-variants.{Nothing};
 ghost use Rattle.meaning.specs.Order.{value as valueOf};
 ghost use Rattle.page.specs.Orders.{about as aboutOf, said as saidOf, given as givenOf};
 ghost use Rattle.sets.specs.Pairs.{flat};
-ghost use Rattle.page.specs.Pages.{pairAt, Giving, ViewGiving, Barren, Fits, BranchReady, Ready, Settled, Tried, TriedOne, Branched, Listed};
+ghost use Rattle.page.specs.Pages.{pairAt, Giving, ViewGiving, Barren, Fits, BranchReady, Ready, GoneOn, Settled, Tried, TriedOne, Branched, Listed};
 use masks::Bounds;
 use probe::Answer;
 use queue::Rest;
@@ -306,19 +306,50 @@ pub fn finish(
     out: &mut [u64],
     place: Place,
 ) -> Place
-    requires { ⌜ (Fits (now words) (now ranks) (now out) task (place .at)) × (place .at < task .room) ⌝ }
+    requires { ⌜ (Fits (now words) (now ranks) (now out) task (place .at)) × (place .at < task .room) × (task .rules ≤ 256) ⌝ }
     ensures { λ r. ⌜ Settled (MaskView (now (words .entry)) (task .rules) (now (ranks .entry))) task 0 node (place .at) (now (out .entry)) (now (out .exit)) (r .at) ⌝ }
 {
     if node.equal {
         return place;
     }
-    if !masks::is_view(words, task.rules, ranks, node.pair) {
+    if !least::is_view(words, task.rules, ranks, node.pair) {
         return place;
     }
     put_next(out, place, node.pair)
 }
 
-// Settles the last `left` statements: puts the views that come from the node on the page, in order, and answers the place after them.
+// How far a node has come without a search: its pair with more values, and how many statements are left then.
+pub struct Stretch {
+    pub pair: Pair,
+    pub left: u64,
+}
+
+// The next statements of a node that are settled already, since its bounds leave them one value: these values, up to the first statement that is open.
+// The point's own branch goes on statement by statement.
+pub fn ahead(node: Node, n: u64, left: u64) -> Stretch
+    requires { ⌜ (left ≤ n) × (n ≤ 64) ⌝ }
+    ensures { λ r. ⌜ GoneOn n left node r ⌝ }
+{
+    let mut pair = node.pair;
+    let mut l = left;
+    if node.equal {
+        return Stretch { pair, left: l };
+    }
+    let x = sets::minus(node.bounds.hi, node.bounds.lo);
+    let free = x.held | x.denied;
+    while 0 < l {
+        let i = n - (l - 1);
+        if (free >> (i - 1)) % 2 == 1 {
+            return Stretch { pair, left: l };
+        }
+        pair = given(pair, i, value_at(node.bounds.lo, i));
+        l -= 1;
+    }
+    Stretch { pair, left: l }
+}
+
+// Settles the last `left` statements: puts the views that come from the node on the page, in order, and answers the place after them. Statements
+// that the bounds have settled are passed over.
 pub fn settle(
     words: &[u64],
     ranks: &[u64],
@@ -332,10 +363,22 @@ pub fn settle(
     requires { ⌜ (Ready (now words) (now ranks) (now out) task left (place .at)) × (place .at < task .room) × Chains (now words) (task .rules) (now index) ⌝ }
     ensures { λ r. ⌜ Settled (MaskView (now (words .entry)) (task .rules) (now (ranks .entry))) task left node (place .at) (now (out .entry)) (now (out .exit)) (r .at) ⌝ }
 {
-    if left == 0 {
-        return finish(words, ranks, task, node, out, place);
+    let a = ahead(node, task.statements, left);
+    let pair = a.pair;
+    let bounds = node.bounds;
+    let live = node.live;
+    let hint = node.hint;
+    let next = Node {
+        equal: node.equal,
+        pair,
+        bounds,
+        live,
+        hint,
+    };
+    if a.left == 0 {
+        return finish(words, ranks, task, next, out, place);
     }
-    values(words, ranks, index, task, left, VALUES, node, out, place)
+    values(words, ranks, index, task, a.left, VALUES, next, out, place)
 }
 
 // Tries the last `rest` values of the first statement left: absent, held, denied.

@@ -10,14 +10,14 @@ use lib.IntN.{ℤ, negsuc, natAbs}
 use lib.IntN as Z
 use lib.Signed.{ltZ}
 use Rattle.logic.proofs.Decide.{clash}
-use Rattle.book.specs.Kinds.{entriesEach, ruleFields}
+use Rattle.book.specs.Kinds.{entriesEach}
 use Rattle.sets.proofs.Digits.{shifted}
 use Rattle.sets.specs.declared.Pair.{Pair}
 use Rattle.sets.specs.Pairs.{joinOf}
 use Rattle.meaning.specs.Literals.{Literal}
-use Rattle.meaning.specs.Meant.{entry, headOf, number, at, entriesAt, ruleAt, conditionAt}
+use Rattle.meaning.specs.Meant.{entry, number, at, entriesAt, ruleAt, conditionAt}
 use Rattle.masks.specs.declared.Masks.{Masks}
-use Rattle.bridge.specs.Packed.{nothing, maskOf, maskAll, maskHead, masksOf, lineOf}
+use Rattle.bridge.specs.Packed.{nothing, maskOf, maskAll, masksOf, lineOf}
 use Rattle.prepare.specs.Packing.{Readable, LineReadable}
 use Rattle.prepare.proofs.Numbers.{back, Small, back-same, back-small, no-neg}
 use Rattle.prepare.proofs.Preferences.{names-same}
@@ -66,9 +66,9 @@ entry-join (Z.pos zero) ls = refl
 entry-join (Z.pos (suc i)) ls = simp or-zero-r
 entry-join (negsuc i) ls = simp or-zero-r
 
-pub entries-last : (t : List ℤ) (k : ℕ) → nothing ≡ maskAll (entriesAt t k 0)
+pub entries-start : (t : List ℤ) (k n : ℕ) → nothing ≡ maskAll (entriesAt t k (n - n))
 unfolding entriesAt maskAll
-entries-last t k = refl
+entries-start t k n = let e : n - n ≡ 0 = omega arith in rw e refl
 
 entries-more : (t : List ℤ) (k m : ℕ) → maskAll (entriesAt t k (suc m)) ≡ joinOf (maskAll (entry (at t k))) (maskAll (entriesAt t (k + 1) m))
 unfolding entriesAt
@@ -87,20 +87,8 @@ pub entries-all : (t : List ℤ) (k n i : ℕ) (m : Pair) → i ≤ 0 → m ≡ 
 entries-all t k n i m h e = let a : k + i ≡ k = omega arith in let b : n - i ≡ n = omega arith in rw (a, b) at e
 
 -- ---- a rule
-head-mask : (x : ℤ) → maskHead (headOf x) ≡ maskAll (entry x)
-unfolding maskHead headOf maskAll entry maskOf joinOf
-head-mask (Z.pos zero) = refl
-head-mask (Z.pos (suc i)) = simp or-zero-r
-head-mask (negsuc i) = simp or-zero-r
-
 pub readable-at : (t : List ℤ) (k m : ℕ) → Readable t k m → (i : ℕ) → i < m → Small (back (at t (k + i)))
 readable-at t k m r i h = back-small (at t (k + i)) (r .small i h)
-
-readable-first : (t : List ℤ) (k m : ℕ) → Readable t k m → 0 < m → Small (at t k)
-readable-first t k m r h = let e : k + 0 ≡ k = omega arith in rw e at (r .small 0 h)
-
-pub first-small : (t : List ℤ) (k m : ℕ) → Readable t k m → 0 < m → Small (back (at t k))
-first-small t k m r h = back-small (at t k) (readable-first t k m r h)
 
 pub readable-part : (t : List ℤ) (k m j n : ℕ) → Readable t k m → j + n ≤ m → Readable t (k + j) n
 readable-part t k m j n r h = record {
@@ -111,14 +99,10 @@ readable-part t k m j n r h = record {
 pub readable-front : (t : List ℤ) (k m n : ℕ) → Readable t k m → n ≤ m → Readable t k n
 readable-front t k m n r h = record { room = let q = r .room in omega arith; small = λ i l. r .small i (omega arith) }
 
-pub rule-is : (t : List ℤ) (k own : ℕ) → Readable t k ruleFields → (h n b : Pair) → h ≡ maskAll (entry (back (at t k)))
-    → n ≡ maskAll (entriesAt t (k + 1) entriesEach) → b ≡ maskAll (entriesAt t (k + 1 + entriesEach) entriesEach)
-    → _≡_ {A = Masks} (record { head = h; need = record { taken = own; held = n .held; denied = n .denied }; bar = b }) (masksOf (record { own = own; rule = ruleAt t k }))
+pub rule-is : (t : List ℤ) (k h own : ℕ) (a n b : Pair) → a ≡ maskAll (entriesAt t k h) → n ≡ maskAll (entriesAt t (k + h) entriesEach) → b ≡ maskAll (entriesAt t (k + h + entriesEach) entriesEach)
+    → _≡_ {A = Masks} (record { head = a; need = record { taken = own; held = n .held; denied = n .denied }; bar = b }) (masksOf (record { own = own; rule = ruleAt h t k }))
 unfolding masksOf ruleAt
-rule-is t k own r h n b eh en eb =
-    let f : h ≡ maskAll (entry (at t k)) = eh ∙ ap (λ (z : ℤ). maskAll (entry z)) (back-same _ (readable-first t k ruleFields r (omega arith))) in
-    let e : k + 1 + entriesEach ≡ k + (1 + entriesEach) = omega arith in
-    rw (f, en, eb, e, head-mask (at t k)) refl
+rule-is t k h own a n b ea en eb = let e : k + h + entriesEach ≡ k + (h + entriesEach) = omega arith in rw (ea, en, eb, e) refl
 
 -- ---- a Q line
 pub line-is : (t : List ℤ) (k : ℕ) → LineReadable t k → (u l : ℕ) (n b : Pair) → u ≡ 2 ^ (number (back (at t k)) - 1) → l ≡ 2 ^ (number (back (at t (k + 1))) - 1)

@@ -1,19 +1,18 @@
 -- What the functions that pack the rules and the Q lines of a book promise.
-use Prim.Native.Nat.{ℕ, _+_, _-_, _*_, _^_, _<_, _≤_}
+use Prim.Native.Nat.{ℕ, _+_, _*_, _^_, _<_, _≤_}
 use mathlib.Core.Path.{_≡_}
 use mathlib.Core.List.{List, [], _∷_}
-use lib.Dec.{ltb}
+use lib.Dec.{eqb}
 use lib.IntN.{ℤ, natAbs}
 use lib.ListN.{length, getD}
 use Rattle.logic.specs.Tests.{pick}
 use Rattle.book.specs.Limits as limit
-use Rattle.book.specs.Kinds.{entriesEach, preferenceFields, conditionalNumbers}
+use Rattle.book.specs.Kinds.{kind, entriesEach, exception, preferenceFields, conditionalNumbers}
 use Rattle.meaning.specs.Meant.{at, number, ruleAt, conditionAt}
 use Rattle.masks.specs.declared.Masks.{Masks}
 use Rattle.masks.specs.Views.{masksAt}
 use Rattle.bridge.specs.Packed.{masksOf, lineOf}
 use Rattle.bridge.specs.Ranks.{Names}
-use Rattle.bridge.specs.Rows.{startAt}
 
 -- The m numbers from place k on are there, and each names a statement or nothing.
 pub record Readable (t : List ℤ) (k m : ℕ) : Type 0 where
@@ -26,17 +25,17 @@ pub record LineReadable (t : List ℤ) (k : ℕ) : Type 0 where
   pub lower : Names limit.exceptions (number (at t (k + 1)))
   pub entries : Readable t (k + preferenceFields) (entriesEach + entriesEach)
 
--- The set of its own exception that rule k has, in a book with r plain rules.
+-- The set of its own exception that rule k of the kind at place q has: none for a plain rule.
 unfoldable pub ownOf : ℕ → ℕ → ℕ
-ownOf r k = pick (ltb k r) 0 (2 ^ (k - r))
+ownOf q k = pick (eqb q exception) (2 ^ k) 0
 
 -- The words of a rule, in the order in which masksAt reads them.
 unfoldable pub wordsOf : Masks → List ℕ
 wordsOf r = r .head .held ∷ r .head .denied ∷ r .need .held ∷ r .need .denied ∷ r .need .taken ∷ r .bar .held ∷ r .bar .denied ∷ []
 
--- The masks of rule k: the first r rules are plain and have their rows from a on, the others from b on.
-unfoldable pub ruleRow : List ℤ → ℕ → ℕ → ℕ → ℕ → Masks
-ruleRow t r a b k = masksOf (record { own = ownOf r k; rule = ruleAt t (startAt r a b k) })
+-- The masks of rule k of the kind at place q, the rows of which begin at a.
+unfoldable pub ruleRow : List ℤ → ℕ → ℕ → ℕ → Masks
+ruleRow t q a k = masksOf (record { own = ownOf q k; rule = ruleAt (kind q .heads) t (a + k * kind q .numbers) })
 
 -- The masks of Q line j, the rows of which begin at a.
 unfoldable pub lineRow : List ℤ → ℕ → ℕ → Masks

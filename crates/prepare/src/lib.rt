@@ -7,12 +7,12 @@ ghost use lib.IntN.{ℤ, natAbs};
 ghost use lib.ListN.{length};
 ghost use lib.Seq.{sets as setsAt};
 ghost use Rattle.book.specs.Limits as limit;
-ghost use Rattle.book.specs.Kinds.{entriesEach, ruleFields, plain, exception, preference, conditional};
-ghost use Rattle.book.specs.Counts.{startOf};
+ghost use Rattle.book.specs.Kinds.{kind, entriesEach, plain, exception, preference, conditional};
+ghost use Rattle.book.specs.Counts.{countAt, startOf};
 ghost use Rattle.meaning.specs.Meant.{entry, number, entriesAt, ruleAt, conditionAt, bookOf};
 ghost use Rattle.bridge.specs.Packed.{maskAll, masksOf, lineOf, Packs};
 ghost use Rattle.bridge.specs.Ranks.{Names, RanksOf};
-ghost use Rattle.bridge.specs.Rows.{startAt, ruleCount, RowsLawful};
+ghost use Rattle.bridge.specs.Rows.{ruleCount, RowsLawful};
 ghost use Rattle.bridge.specs.Roots.{upTo, rootOf};
 ghost use Rattle.prepare.specs.Packing.{Readable, LineReadable, ownOf, wordsOf, ruleRow, lineRow, PackedTo, Blank};
 ghost use Rattle.prepare.specs.Ranking.{WithLine, LinesFrom, LinesTo, Extended, ClosedThrough, ClosedTo};
@@ -64,17 +64,17 @@ fn entry_mask(x: i32) -> Pair
     }
 }
 
-// The mask of the needed or the barred entries of a rule or a Q line, which begin at a place of the rows.
-fn entries_mask(rows: &[i32], from: usize) -> Pair
-    requires { ⌜ Readable (now rows) from entriesEach ⌝ }
-    ensures { λ r. ⌜ r ≡ maskAll (entriesAt (now (rows .entry)) from entriesEach) ⌝ }
+// The mask of the heads, the needed or the barred entries of a rule or a Q line: those of n numbers from a place of the rows on.
+fn entries_mask(rows: &[i32], from: usize, n: usize) -> Pair
+    requires { ⌜ Readable (now rows) from n ⌝ }
+    ensures { λ r. ⌜ r ≡ maskAll (entriesAt (now (rows .entry)) from n) ⌝ }
 {
     let mut m = Pair {
         taken: 0,
         held: 0,
         denied: 0,
     };
-    let mut i = Book::ENTRIES;
+    let mut i = n;
     while i > 0 {
         i -= 1;
         m = sets::join(entry_mask(rows[from + i]), m);
@@ -82,14 +82,14 @@ fn entries_mask(rows: &[i32], from: usize) -> Pair
     m
 }
 
-// The masks of the rule whose row begins at a place of the rows, with the set of its own exception.
-fn rule_masks(rows: &[i32], from: usize, own: u64) -> Masks
-    requires { ⌜ Readable (now rows) from ruleFields ⌝ }
-    ensures { λ r. ⌜ r ≡ masksOf (record { own = own; rule = ruleAt (now (rows .entry)) from }) ⌝ }
+// The masks of the rule whose row begins at a place of the rows, with room for so many heads, and with the set of its own exception.
+fn rule_masks(rows: &[i32], from: usize, heads: usize, own: u64) -> Masks
+    requires { ⌜ Readable (now rows) from (heads + (entriesEach + entriesEach)) ⌝ }
+    ensures { λ r. ⌜ r ≡ masksOf (record { own = own; rule = ruleAt heads (now (rows .entry)) from }) ⌝ }
 {
-    let head = entry_mask(rows[from]);
-    let needed = entries_mask(rows, from + 1);
-    let barred = entries_mask(rows, from + 1 + Book::ENTRIES);
+    let head = entries_mask(rows, from, heads);
+    let needed = entries_mask(rows, from + heads, Book::ENTRIES);
+    let barred = entries_mask(rows, from + heads + Book::ENTRIES, Book::ENTRIES);
     Masks {
         head: head,
         need: Pair {
@@ -125,8 +125,12 @@ fn line_masks(rows: &[i32], from: usize) -> Masks
 {
     let upper = named_set(rows[from]);
     let lower = named_set(rows[from + 1]);
-    let needed = entries_mask(rows, from + Book::PREFERENCE_FIELDS);
-    let barred = entries_mask(rows, from + Book::PREFERENCE_FIELDS + Book::ENTRIES);
+    let needed = entries_mask(rows, from + Book::PREFERENCE_FIELDS, Book::ENTRIES);
+    let barred = entries_mask(
+        rows,
+        from + Book::PREFERENCE_FIELDS + Book::ENTRIES,
+        Book::ENTRIES,
+    );
     Masks {
         head: Pair {
             taken: 0,
@@ -157,42 +161,30 @@ fn put(words: &mut [u64], k: usize, r: Masks)
     words[at + 6] = r.bar.denied;
 }
 
-// The set of its own exception that rule k has, in a book with so many plain rules.
-fn own_set(plain: usize, k: usize) -> u64
-    requires { ⌜ k < plain + limit.exceptions ⌝ }
-    ensures { λ r. ⌜ r ≡ ownOf plain k ⌝ }
+// The set of its own exception that rule k of the kind at place q has: none for a plain rule.
+fn own_set(q: usize, k: usize) -> u64
+    requires { ⌜ (q ≡ exception → k < 64) ⌝ }
+    ensures { λ r. ⌜ r ≡ ownOf q k ⌝ }
 {
-    if k < plain {
-        return 0;
+    if q == Book::AT_EXCEPTION {
+        return 1 << k;
     }
-    1 << (k - plain)
+    0
 }
 
-// Where the row of rule k begins: the first `plain` rules have their rows from `first` on, the others from `other` on.
-fn row_start(plain: usize, first: usize, other: usize, k: usize) -> usize
-    requires { ⌜ (first < 1000000) × (other < 1000000) × (k < 1000000) ⌝ }
-    ensures { λ r. ⌜ r ≡ startAt plain first other k ⌝ }
+// Packs the rules of the kind at place q, R, O or X lines, into the words from row n on.
+fn pack_kind(shape: Shape, rows: &[i32], q: usize, words: &mut [u64], n: usize)
+    requires { ⌜ RowsLawful shape (now rows) × (plain ≤ q) × (q ≤ exception) × ((n + countAt shape q) * 8 ≤ length (now words)) × (n ≤ ruleCount shape) ⌝ }
+    ensures { λ o. ⌜ PackedTo (ruleRow (now (rows .entry)) q (startOf shape q)) n (now (words .entry)) (now (words .exit)) (countAt shape q) ⌝ }
 {
-    if k < plain {
-        return first + k * Book::RULE_NUMBERS;
-    }
-    other + (k - plain) * Book::RULE_NUMBERS
-}
-
-// Packs the rules of a book into the first rows of the words: the plain rules, then the exceptions.
-fn pack_rules(shape: Shape, rows: &[i32], words: &mut [u64])
-    requires { ⌜ RowsLawful shape (now rows) × (ruleCount shape * 8 ≤ length (now words)) ⌝ }
-    ensures { λ o. ⌜ PackedTo (ruleRow (now (rows .entry)) (shape .plain) (startOf shape plain) (startOf shape exception)) 0 (now (words .entry)) (now (words .exit)) (ruleCount shape) ⌝ }
-{
-    let plain = shape.plain;
-    let n = plain + shape.exceptions;
-    let first = book::start_of(shape, Book::AT_PLAIN);
-    let other = book::start_of(shape, Book::AT_EXCEPTION);
+    let x = book::kind_at(q);
+    let m = book::count_of(shape, q);
+    let from = book::start_of(shape, q);
     let mut k = 0;
-    while k < n {
-        let own = own_set(plain, k);
-        let r = rule_masks(rows, row_start(plain, first, other, k), own);
-        put(words, k, r);
+    while k < m {
+        let own = own_set(q, k);
+        let r = rule_masks(rows, from + k * x.numbers, x.heads, own);
+        put(words, n + k, r);
         k += 1;
     }
 }
@@ -202,7 +194,7 @@ fn pack_lines(shape: Shape, rows: &[i32], words: &mut [u64])
     requires { ⌜ RowsLawful shape (now rows) × ((ruleCount shape + shape .conditionals) * 8 ≤ length (now words)) ⌝ }
     ensures { λ o. ⌜ PackedTo (lineRow (now (rows .entry)) (startOf shape conditional)) (ruleCount shape) (now (words .entry)) (now (words .exit)) (shape .conditionals) ⌝ }
 {
-    let n = shape.plain + shape.exceptions;
+    let n = shape.plain + shape.alternatives + shape.exceptions;
     let m = shape.conditionals;
     let from = book::start_of(shape, Book::AT_CONDITIONAL);
     let mut k = 0;
@@ -213,12 +205,20 @@ fn pack_lines(shape: Shape, rows: &[i32], words: &mut [u64])
     }
 }
 
-// Packs the rules of a book into words, and after them its Q lines. Behind the rules the words are lent as zeros: the rows of no line.
+// Packs the rules of a book into words, R, O and X lines, and after them its Q lines. Behind the rules the words are lent as zeros: the rows of no line.
 pub fn pack(shape: Shape, rows: &[i32], words: &mut [u64])
     requires { ⌜ RowsLawful shape (now rows) × ((ruleCount shape + limit.conditionals) * 8 ≤ length (now words)) × Blank (now words) (ruleCount shape * 8) ⌝ }
     ensures { λ o. ⌜ Packs (bookOf shape (now (rows .entry))) (now (words .exit)) (ruleCount shape) ⌝ }
 {
-    pack_rules(shape, rows, words);
+    pack_kind(shape, rows, Book::AT_PLAIN, words, 0);
+    pack_kind(shape, rows, Book::AT_ALTERNATIVE, words, shape.plain);
+    pack_kind(
+        shape,
+        rows,
+        Book::AT_EXCEPTION,
+        words,
+        shape.plain + shape.alternatives,
+    );
     pack_lines(shape, rows, words);
 }
 

@@ -14,6 +14,8 @@ use Rattle.sets.proofs.Pairs.{sub-refl, sub-trans, sub-both, sub-of-minus}
 use Rattle.masks.specs.declared.Bounds.{Bounds}
 use Rattle.masks.specs.Views.{MaskView}
 use Rattle.masks.proofs.Booleans.{refused, granted}
+use Rattle.least.specs.Founded.{Founded}
+use Rattle.least.proofs.Laws.{view-founded}
 use Rattle.bounds.specs.Singles.{oneOf, Picked}
 use Rattle.bounds.specs.Sound.{In, Propagated}
 use Rattle.bounds.proofs.Singles.{one-atom, one-some}
@@ -60,6 +62,10 @@ module _ {ws : List ℕ} {n : ℕ} {ranks : List ℕ} (b : Bounds) where
 
       pub node-empty : (t : Bool) → s ≡ true → Decides t (MaskView ws n ranks (c .lo)) → t ≡ false → Opened ws n ranks b Empty
       node-empty t es dt et = empty-node (λ v k x. let e = one-end es v k x in dt .no et (rw e k))
+
+      -- The lower end is not the only set below it.
+      pub node-unfounded : (t : Bool) → Decides t (Founded ws n c) → not t ≡ true → Opened ws n ranks b Empty
+      node-unfounded t dt et = empty-node (λ v k x. refused dt et (view-founded k c (p .keeps .kept v k x)))
 
       pub node-open : (m : Pair) (live : Waiting) → s ≡ false → Picked (minusOf (c .hi) (c .lo)) m → Opened ws n ranks b (Open c m live)
       node-open m live es pm = record {

@@ -57,10 +57,15 @@ pub fn visit(words: &[u64], n: usize, ranks: &[u64], index: &Index, w: Work, b: 
         return Node::Empty;
     }
     if sets::same(lo, hi) {
-        if masks::is_view(words, n, ranks, lo) {
+        if least::is_view(words, n, ranks, lo) {
             return Node::View(lo);
         }
         return Node::Empty;
+    }
+    if index[index::KNOT] != 0 {
+        if !least::founded(words, n, c) {
+            return Node::Empty;
+        }
     }
     Node::Open(c, pick(words, n, live, c), live)
 }

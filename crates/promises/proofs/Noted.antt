@@ -1,9 +1,9 @@
 -- "A point noted before the change goes on to the same resolutions" (document 02, (c)). Any table of sets that meets document 01's rule gives the one
 -- order of pairs: `all-later-by`. So the table of 4,096 sets and that of 65,536 list a book of at most 12 exceptions alike, `noted-point`; the engine
--- hands out that list, `goes-on`, in lines of the same bytes, `keeps-fields`. If the book has no Q line, its resolutions are those of document 01,
+-- hands out that list, `goes-on`, in lines of the same bytes, `keeps-fields`. If the book has no Q and no O line, its resolutions are those of document 01,
 -- `same-resolutions`, so the list is document 01's by its own words, `goes-on-before`, and it keeps document 01's limits, `keeps-limits`.
 use mathlib.Core.Path.{_≡_, sym, ap, _∙_}
-use mathlib.Core.List.{List, [], _∷_}
+use mathlib.Core.List.{List, [], _∷_, _++_}
 use mathlib.Core.Logic.{_↔_}
 use Prim.Native.Nat.{ℕ, _+_, _^_, _<_, _≤_}
 use native.Mathlib.Omega.{arith}
@@ -28,14 +28,16 @@ use Rattle.order.specs.Order.{Earlier, fewer as fewer-set, smaller as smaller-s
 use Rattle.order.specs.Formula.{placeOf, setAt}
 use Rattle.order.proofs.Rule.{order-rule, place-there}
 use Rattle.order.proofs.Places.{place-earlier, same-order}
-use Rattle.meaning.specs.Books.{Book, Lawful}
+use Rattle.meaning.specs.AnswerSets.{OneHead}
+use Rattle.meaning.specs.Books.{Book, Lawful, conclusions, applied}
 use Rattle.meaning.specs.Meant.{bookOf}
 use Rattle.meaning.specs.Order.{Before, fewer, smaller, differs, Ascending, Point, start, at, LawfulPoint, Later, AllLater}
-use Rattle.meaning.specs.Views.{View}
+use Rattle.meaning.specs.Views.{Answers, View}
 use Rattle.meaning.specs.Resolutions.{Resolution}
 use Rattle.meaning.specs.Listings.{goOn, listing}
 use Rattle.meaning.proofs.Conditions.{within-plain, dominates-plain, resolution-plain}
 use Rattle.meaning.proofs.Meant.{exceptions-count, unconditional}
+use Rattle.meaning.proofs.OneHeads.{one-head-answers, rows-one-head}
 use Rattle.meaning.proofs.Pages.{page-is}
 use Rattle.meaning.proofs.Sorted.{all-later}
 use Rattle.answers.specs.Operations.{lineIn, asks}
@@ -45,7 +47,7 @@ use Rattle.bridge.proofs.Rows.{rows-named}
 use Rattle.line.proofs.PutLaws.{fields-short, line-54}
 use Rattle.walk.proofs.Places.{earlier-before}
 use Rattle.operations.proofs.Loading.{lawful-rows}
-use Rattle.promises.specs.Noted.{BeforeBy, earlier, differs as differs-by, LaterBy, AscendingBy, AllLaterBy, AllBefore, ViewBefore, ResolutionBefore, exceptionsBefore, KeepsLimits}
+use Rattle.promises.specs.Noted.{BeforeBy, earlier, differs as differs-by, LaterBy, AscendingBy, AllLaterBy, AllBefore, AnswerSetBefore, ViewBefore, ResolutionBefore, exceptionsBefore, KeepsLimits}
 
 -- ---- two pairs
 -- Pairs with different sets stand in the order of their sets.
@@ -142,12 +144,18 @@ module _ (w : ℕ) (f : ℕ → ℕ) (rule : Ordered w f) where
     some-later-by from h = let a = all-later b from h in (a .0, all-later-by from h (a .0) .1 (a .1))
 
 -- ---- resolutions
--- In a book without Q lines a view and a resolution are those of document 01.
-module _ (b : Book) (none : b .conditional ≡ []) where
+-- In a book without Q lines whose rules have one head or none, a view and a resolution are those of document 01.
+module _ (b : Book) (none : b .conditional ≡ []) (one : (p : Pair) → Every OneHead (b .plain ++ applied b p)) where
+  answers-before : (p : Pair) → Answers b p ↔ AnswerSetBefore (b .plain ++ applied b p) (conclusions p)
+  answers-before p = let k = one-head-answers (b .plain ++ applied b p) (one p) (conclusions p) in (
+    λ a. let h = k .0 a in record { consistent = h .0; least = h .1; unbroken = h .2 },
+    λ a. k .1 (a .consistent, a .least, a .unbroken),
+  )
+
   view-before : (p : Pair) → View b p ↔ ViewBefore b p
-  view-before p = let w = within-plain b none p in (
-    λ v. record { lawful = v .lawful; answers = v .answers; unranked = λ r. v .unranked (w .1 r); bodies = v .bodies },
-    λ v. record { lawful = v .lawful; answers = v .answers; unranked = λ r. v .unranked (w .0 r); bodies = v .bodies },
+  view-before p = let w = within-plain b none p in let k = answers-before p in (
+    λ v. record { lawful = v .lawful; answers = k .0 (v .answers); unranked = λ r. v .unranked (w .1 r); bodies = v .bodies },
+    λ v. record { lawful = v .lawful; answers = k .1 (v .answers); unranked = λ r. v .unranked (w .0 r); bodies = v .bodies },
   )
 
   pub resolution-before : (p : Pair) → Resolution b p ↔ ResolutionBefore b p
@@ -204,10 +212,10 @@ module _ (bs : List ℕ) (s : Shape) (ws : List ℤ) (e : readText bs ≡ accept
   names-few : (i : ℕ) → Names (length (bookOf s ws .exceptions)) i → Names exceptionsBefore i
   names-few i n = record { from-one = n .from-one; most = omega (arith, n .most, exceptions-count s ws) }
 
-  -- Document 01 has no Q lines.
-  module _ (none : s .conditionals ≡ 0) where
+  -- Document 01 has no Q lines and no O lines.
+  module _ (none : s .conditionals ≡ 0) (one : s .alternatives ≡ 0) where
     pub same-resolutions : (p : Pair) → Resolution (bookOf s ws) p ↔ ResolutionBefore (bookOf s ws) p
-    same-resolutions = resolution-before (bookOf s ws) (unconditional s ws none)
+    same-resolutions = resolution-before (bookOf s ws) (unconditional s ws none) (rows-one-head s ws one)
 
     -- So the calls that go on from a point hand out document 01's list of document 01's resolutions.
     pub goes-on-before : (old : ℕ → ℕ) → Ordered exceptionsBefore old → (from : Point) → LawfulPoint (bookOf s ws) from → (ps : List Pair) → AllBefore exceptionsBefore old (bookOf s ws) from ps → (k : ℕ)
@@ -218,13 +226,13 @@ module _ (bs : List ℕ) (s : Shape) (ws : List ℤ) (e : readText bs ≡ accept
 
     few-bytes : textBytes s ≤ 8392
     unfolding sumTo countAt allCounts countsOf kind kinds bytes
-    few-bytes = omega (arith, none, plain-in s (facts .limits), preferences-in s (facts .limits))
+    few-bytes = omega (arith, none, one, plain-in s (facts .limits), preferences-in s (facts .limits))
 
     few-rows : total s ≤ 244
     unfolding sumTo countAt allCounts countsOf kind kinds rowOnce pick
-    few-rows = omega (arith, none, plain-in s (facts .limits), preferences-in s (facts .limits))
+    few-rows = omega (arith, none, one, plain-in s (facts .limits), preferences-in s (facts .limits))
 
-    -- A text that is accepted now and has no more X lines than document 01 allows, and no Q line, keeps all its limits.
+    -- A text that is accepted now and has no more X lines than document 01 allows, and no Q or O line, keeps all its limits.
     pub keeps-limits : KeepsLimits bs s ws
     unfolding bookOf
     keeps-limits = record {
@@ -234,6 +242,7 @@ module _ (bs : List ℕ) (s : Shape) (ws : List ℤ) (e : readText bs ≡ accept
       exceptions = few;
       preferences = preferences-in s (facts .limits);
       conditionals = none;
+      alternatives = one;
       total = few-rows;
       named = every-map (λ (l : ℕ × ℕ) n. (names-few (l .0) (n .0), names-few (l .1) (n .1))) (bookOf s ws .preferences) (rows-named s ws (lawful-rows s ws facts));
     }

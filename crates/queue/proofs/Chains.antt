@@ -14,7 +14,7 @@ use Rattle.logic.specs.Tests.{Decides}
 use Rattle.logic.proofs.Decide.{clash, holds-or-not, decides-eq}
 use Rattle.sets.specs.declared.Pair.{Pair}
 use Rattle.sets.specs.Sets.{Within}
-use Rattle.sets.specs.Pairs.{Sub}
+use Rattle.sets.specs.Pairs.{Sub, Off, minusOf}
 use Rattle.sets.proofs.Digits.{bit-zero, bit-single, lt-or-le}
 use Rattle.sets.proofs.Words.{single-has}
 use Rattle.masks.specs.declared.Masks.{Masks}
@@ -23,8 +23,8 @@ use Rattle.masks.specs.Views.{masksAt, Fires, Constraint}
 use Rattle.bounds.specs.Singles.{oneOf}
 use Rattle.queue.specs.declared.heads.Givers.{Givers}
 use Rattle.queue.specs.declared.heads.Givers.the-variants.{Nobody, One, Several}
-use Rattle.queue.specs.Places.{firstAt, nextAt, wholePlace, indexLength}
-use Rattle.queue.specs.Chains.{Gives, ChainsFrom, Chains, Chained, headless, headed, Seen, Counted, idle, sole, more}
+use Rattle.queue.specs.Places.{firstAt, nextAt, wholePlace, cutPlace, rowAt, indexLength}
+use Rattle.queue.specs.Chains.{Gives, ChainsFrom, Chains, Chained, headless, headed, RowsPut, Seen, Counted, idle, sole, more, Weighed, passed}
 
 -- ---- one conclusion
 same-place : (i j : ℕ) → Within (2 ^ i) (2 ^ j) → i ≡ j
@@ -138,15 +138,41 @@ module _ (ws : List ℕ) (n : ℕ) where
       let ek : k ≡ l + 1 = omega arith in
       chain-more ws n index long l (omega arith) (rw ek at (c ew)) r er index′ (f (not-false z e))
 
-  pub chains-done : (index : List ℕ) → length index ≡ indexLength → (k w : ℕ) → k ≤ 0 → n ≤ 256 → (w ≡ 1 → ChainsFrom ws n index k) → Chains ws n (set index wholePlace w)
-  chains-done index long k w h few c = record {
+  pub chains-done : (index : List ℕ) (k w : ℕ) → k ≤ 0 → (w ≡ 1 → ChainsFrom ws n index k) → w ≡ 1 → ChainsFrom ws n index 0
+  chains-done index k w h c e = let q : k ≡ 0 = omega arith in rw q at (c e)
+
+-- The two words between the chains and the rows.
+module _ (ws : List ℕ) (n c w : ℕ) (before index : List ℕ) (long : length index ≡ indexLength) (few : n ≤ 256) (upto : c ≤ n) (f : w ≡ 1 → ChainsFrom ws c before 0) (g : RowsPut ws n c before index) where
+  abbrev cutted : List ℕ
+  cutted = set index cutPlace c
+
+  abbrev done : List ℕ
+  done = set cutted wholePlace w
+
+  at-cut : getD done cutPlace 0 ≡ c
+  at-cut = getD-set-other cutted wholePlace cutPlace w 0 (λ z. omega arith) ∙ getD-set-same index cutPlace c 0 (rw long (omega arith))
+
+  at-whole : getD done wholePlace 0 ≡ w
+  at-whole = getD-set-same cutted wholePlace w 0 (rw (length-set index cutPlace c, long) (omega arith))
+
+  at-else : (p : ℕ) → (p ≡ wholePlace → ⊥) → (p ≡ cutPlace → ⊥) → getD done p 0 ≡ getD index p 0
+  at-else p a b = getD-set-other cutted wholePlace p w 0 a ∙ getD-set-other index cutPlace p c 0 b
+
+  -- What stands before the two words is that from before the rows.
+  at-chains : (p : ℕ) → p < wholePlace → getD done p 0 ≡ getD before p 0
+  at-chains p h = at-else p (λ z. omega arith) (λ z. omega arith) ∙ g .grown .kept p (omega arith)
+
+  pub chains-are : Chains ws n done
+  chains-are = record {
     few = few;
+    upto = rw at-cut upto;
     whole = λ e.
-        let d = c (sym (getD-set-same index wholePlace w 0 (rw long (omega arith))) ∙ e) in
-        record {
-          first = λ s i j a b f g x. rw (getD-set-other index wholePlace (firstAt s i) w 0 (λ z. omega arith)) (d .first s i j a b (omega arith) g x);
-          next = λ s i j l a b f g z x y. rw (getD-set-other index wholePlace (nextAt j) w 0 (λ u. omega arith)) (d .next s i j l a b (omega arith) g z x y);
-        };
+        let d = f (sym at-whole ∙ e) in
+        rw at-cut (record {
+          first = λ s i j a b u h x. rw (at-chains (firstAt s i) (omega arith)) (d .first s i j a b (omega arith) h x);
+          next = λ s i j l a b u h z x y. rw (at-chains (nextAt j) (omega arith)) (d .next s i j l a b (omega arith) h z x y);
+        });
+    rows = λ h. rw at-cut (record { row = λ s i k a b u v x. rw (at-else (rowAt s i) (λ z. omega arith) (λ z. omega arith)) (g .rows (rw at-cut at h) .row s i k a b u v x) });
   }
 
 -- ---- along a chain
@@ -173,11 +199,11 @@ module _ (r : Masks) (b : Bounds) (k : ℕ) (g : Givers) where
 module _ (ws : List ℕ) (n : ℕ) (m : Pair) (b : Bounds) where
   -- The first of the chain has no rule with its head before it.
   pub seen-first : (p : ℕ) → ((k : ℕ) → k < n → Sub m (masksAt ws k .head) → p ≤ k) → Seen ws n p m b Nobody
-  seen-first p f = record { rule = λ k e. nobody-one e; only = λ k h l x y. let z = f k h y in absurd (omega arith) }
+  seen-first p f = record { rule = λ k e. nobody-one e; only = λ k h l x y o. let z = f k h y in absurd (omega arith) }
 
   -- Nothing is known.
   pub seen-several : (p : ℕ) (g : Givers) → g ≡ Several → Seen ws n p m b g
-  seen-several p g e = record { rule = λ k q. one-several (sym q ∙ e); only = λ k h l x y. inr e }
+  seen-several p g e = record { rule = λ k q. one-several (sym q ∙ e); only = λ k h l x y o. inr e }
 
   -- Rule p and the next of its chain.
   pub seen-next : (p q : ℕ) (r : Masks) (g h : Givers) → Seen ws n p m b g → p < n → r ≡ masksAt ws p → Counted r b p g h
@@ -189,13 +215,21 @@ module _ (ws : List ℕ) (n : ℕ) (m : Pair) (b : Bounds) where
       before k a d z = ⊎-elim (λ u. inl u) (λ u. ⊎-elim (λ v. let w = f k v a z in absurd (omega arith)) (λ v. inr (omega arith)) (lt-or-le p k)) (lt-or-le k p)
 
       go : Counted r b p g h → Seen ws n q m b h
-      go (idle x e) = rw e (record { rule = s .rule; only = λ k a d y z. ⊎-elim (λ u. s .only k a u y z) (λ u. absurd (x (rw er (rw u at y)))) (before k a d z) })
+      go (idle x e) = rw e (record { rule = s .rule; only = λ k a d y z o. ⊎-elim (λ u. s .only k a u y z o) (λ u. absurd (x (rw er (rw u at y)))) (before k a d z) })
       go (sole x e) = rw e (record {
         rule = λ k u. rw (same-one u) l;
-        only = λ k a d y z. ⊎-elim (λ u. ⊎-elim (λ v. nobody-one (sym x ∙ v)) (λ v. nobody-several (sym x ∙ v)) (s .only k a u y z)) (λ u. inl (ap (λ (j : ℕ). One j) (sym u))) (before k a d z);
+        only = λ k a d y z o. ⊎-elim (λ u. ⊎-elim (λ v. nobody-one (sym x ∙ v)) (λ v. nobody-several (sym x ∙ v)) (s .only k a u y z o)) (λ u. inl (ap (λ (j : ℕ). One j) (sym u))) (before k a d z);
       })
       go (more e) = seen-several q h e
 
   -- The end of the chain.
   pub seen-all : (p : ℕ) (g : Givers) → n ≤ p → Seen ws n p m b g → Seen ws n n m b g
   seen-all p g l s = record { rule = s .rule; only = λ k h x. s .only k h (omega arith) }
+
+-- ---- the rules after those in chains
+module _ (r : Masks) (b : Bounds) (m : Pair) (k : ℕ) (g : Givers) where
+  pub weighed-without : (w : Bool) → Decides w (Sub m (r .head)) → not w ≡ true → Weighed r b m k g g
+  weighed-without w d e = passed (λ s o. d .no (not-true w e) s) refl
+
+  pub weighed-sure : (w : Bool) (x : Pair) → x ≡ minusOf (r .head) m → Decides w (Off x (b .lo)) → not w ≡ true → Weighed r b m k g g
+  weighed-sure w x ex d e = passed (λ s o. d .no (not-true w e) (rw ex o)) refl

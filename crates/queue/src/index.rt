@@ -11,10 +11,13 @@ use masks::Masks;
 use sets::Pair;
 
 // Four words for each of 192 rows: rows 0 to 63 for the statements held, 64 to 127 denied, 128 to 191 for the exceptions.
-// Then one word, not 0 if conclusions can need each other in a circle; then the chains of `heads`.
+// Then one word, not 0 if conclusions can need each other in a circle; then the chains and rows of `heads`.
 pub const CIRCLE: usize = 192 * 4;
 
-pub const LENGTH: usize = heads::WHOLE + 1;
+// Not 0 if a rule has alternatives: then the search asks whether what is sure has a smaller closed set.
+pub const KNOT: usize = heads::ROWS + 128;
+
+pub const LENGTH: usize = KNOT + 1;
 
 pub type Index = [u64; LENGTH];
 
@@ -148,6 +151,21 @@ pub fn circular(words: &[u64], n: usize) -> bool
     true
 }
 
+// 1 if a rule has alternatives, else 0.
+pub fn branching(words: &[u64], n: usize) -> u64
+    requires { ⌜ n * 8 ≤ length (now words) ⌝ }
+{
+    let mut k = 0;
+    while k < n {
+        let r = masks::masks_at(words, k);
+        if !masks::lone(r.head) {
+            return 1;
+        }
+        k += 1;
+    }
+    0
+}
+
 // Fills an index of zeros from the first n rules.
 pub fn fill(words: &[u64], n: usize, index: &mut Index)
     requires { ⌜ (n * 8 ≤ length (now words)) × (n ≤ 256) ⌝ }
@@ -160,6 +178,9 @@ pub fn fill(words: &[u64], n: usize, index: &mut Index)
     }
     if circular(words, n) {
         index[CIRCLE] = 1;
+    }
+    if index[CIRCLE] != 0 {
+        index[KNOT] = branching(words, n);
     }
     heads::chains(words, n, index);
 }

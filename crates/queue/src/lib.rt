@@ -43,7 +43,7 @@ pub fn quiet(r: Masks, b: Bounds, alive: bool) -> bool {
     let y = sets::meet(r.bar, b.hi);
     let open = x.held | x.denied | x.taken | y.held | y.denied;
     if open == 0 {
-        return !masks::constraint(r) && sets::within(r.head, b.lo);
+        return !sets::apart(r.head, b.lo) || !masks::lone(sets::meet(r.head, b.hi));
     }
     if r.need.taken & b.lo.taken != 0 {
         return false;
@@ -62,12 +62,29 @@ pub fn said(r: Masks, b: Bounds, alive: bool) -> Bounds
     bounds::untaken(r, b)
 }
 
-// The work without rule j. If its body surely fails it is live no longer, and its head asks for support.
-pub fn without_rule(w: Work, j: u64, head: Pair, alive: bool) -> Work {
+// The heads of a rule with alternatives that ask for support where some of them are sure: the others if one is, and if several are, these.
+pub fn unsupported(head: Pair, lo: Pair) -> Pair {
+    let sure = sets::meet(head, lo);
+    if masks::lone(sure) {
+        return sets::minus(head, sure);
+    }
+    sure
+}
+
+// The work without rule j. If its body surely fails it is live no longer, and its head asks for support; so do heads of which one is sure, where
+// the rule is one of those that may have alternatives.
+pub fn without_rule(w: Work, j: u64, head: Pair, lo: Pair, several: bool, alive: bool) -> Work {
     let rules = waiting::without(w.rules, j);
     let asked = w.asked;
     let live = w.live;
     if alive {
+        if several && !sets::apart(head, lo) {
+            return Work {
+                rules,
+                asked: sets::join(asked, unsupported(head, lo)),
+                live,
+            };
+        }
         return Work { rules, asked, live };
     }
     Work {
@@ -77,8 +94,8 @@ pub fn without_rule(w: Work, j: u64, head: Pair, alive: bool) -> Work {
     }
 }
 
-// The rules that wait, one after the other, until one has something new to say.
-pub fn stepped(words: &[u64], n: usize, q: State) -> State
+// The rules that wait, one after the other, until one has something new to say. Those before place `cut` have one head or none.
+pub fn stepped(words: &[u64], n: usize, cut: u64, q: State) -> State
     requires { ⌜ n * 8 ≤ length (now words) ⌝ }
     ensures { λ p. ⌜ Keeps (Ruled (now (words .entry)) n) (q .bounds) (p .bounds) ⌝ }
 {
@@ -92,7 +109,7 @@ pub fn stepped(words: &[u64], n: usize, q: State) -> State
         }
         let r = masks::masks_at(words, j as usize);
         let alive = masks::fires(r, bounds.lo, bounds.hi);
-        work = without_rule(work, j, r.head, alive);
+        work = without_rule(work, j, r.head, bounds.lo, cut <= j, alive);
         if !quiet(r, bounds, alive) {
             return State {
                 bounds: said(r, bounds, alive),
@@ -144,7 +161,7 @@ pub fn turn(words: &[u64], n: usize, index: &Index, q: State) -> State
     requires { ⌜ (n * 8 ≤ length (now words)) × Chains (now words) n (now index) ⌝ }
     ensures { λ p. ⌜ Keeps (Ruled (now (words .entry)) n) (q .bounds) (p .bounds) ⌝ }
 {
-    let p = stepped(words, n, q);
+    let p = stepped(words, n, index[heads::CUT], q);
     if !bounds::unchanged(q.bounds, p.bounds) {
         return p;
     }

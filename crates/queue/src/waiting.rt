@@ -1,5 +1,7 @@
 // Sets of rules that wait for a step. Which rules wait, no contract depends on: every step is sound.
-ghost use Prim.Native.Nat.{_≤_};
+ghost use mathlib.Core.Path.{_≡_};
+ghost use Prim.Native.Nat.{_^_, _<_, _≤_};
+ghost use Rattle.sets.specs.Sets.{without as withoutOf};
 use sets::Pair;
 
 // A bit for each of 256 rules.
@@ -67,7 +69,9 @@ pub fn all() -> Work {
 }
 
 // The word without its member at place i.
-pub fn cleared(x: u64, i: u64) -> u64 {
+pub fn cleared(x: u64, i: u64) -> u64
+    ensures { λ r. ⌜ (i < 64 → r ≡ withoutOf x (2 ^ i)) ⌝ }
+{
     if i < 64 {
         return x ^ (x & (1 << i));
     }

@@ -102,7 +102,8 @@ pub fn read_fields(text: &[u8], at: usize, x: Kind, st: State, t: &mut [i32], to
     Fields::Right(seen)
 }
 
-// The refusal of a line as a whole: 8 (for Q lines 19), 9, 10, 11 in this order, the first two being its kind's own; 0 if none.
+// The refusal of a line as a whole: 8 (for Q lines 19, for O lines 22), 9 (for O lines 23), 10, 11 in this order, the first two being its
+// kind's own; 0 if none.
 pub fn line_fault(x: Kind, count: usize, headless: bool, seen: Seen) -> u32
     ensures { λ r. ⌜ r ≡ wholeIs x count headless seen ⌝ }
 {

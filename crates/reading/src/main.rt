@@ -18,14 +18,17 @@ fn main() {
     lines::misspelt();
     lines::ranges();
     lines::overs();
+    lines::alternative_overs();
     lines::conditional_overs();
     lines::heads();
+    lines::alternative_heads();
     lines::totals();
     lines::lent();
     tables::good();
     tables::few();
     tables::counts();
     tables::lines();
+    tables::alternative_lines();
     tables::conditional_lines();
     tables::lent();
 }

@@ -73,6 +73,7 @@ fn reading(r: Reading) {
             number(s.exceptions);
             number(s.preferences);
             number(s.conditionals);
+            number(s.alternatives);
         }
         Reading::Refused(q) => {
             refusal(q);
@@ -244,9 +245,9 @@ fn write_part(t: &[i32], b: &mut [u8], m: usize) {
     letter(b'\n');
 }
 
-// Write into a slice of m bytes, m at most 500.
+// Write into a slice of m bytes, m at most 600.
 pub fn write_short(t: &[i32], m: usize) {
-    let mut b = [MARK_BYTE; 500];
+    let mut b = [MARK_BYTE; 600];
     io::write_all(1, b" into");
     number(m);
     write_part(t, &mut b, m);

@@ -40,7 +40,7 @@ pub fn finish(
     }
     let n = task.rules;
     let p = node.pair;
-    if !masks::is_view(words, n, ranks, p) {
+    if !least::is_view(words, n, ranks, p) {
         return place;
     }
     if !standing::stands(words, n, ranks, index, root, memory, p) {

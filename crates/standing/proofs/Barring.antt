@@ -31,7 +31,7 @@ use Rattle.standing.specs.Standing.{banAt, Right, Failing, Joins, ShutAt
 -- ---- lines that do not count
 -- A rule that has no exception of its own is met where its body fails.
 pub fails-is : (r : Masks) (b o : Bounds) → r .need .taken ≡ 0 → Keeps (Idle r) b o → Keeps (Failing r) b o
-fails-is r b o z k = keeps-less (λ v f. record { meets = record { closed = λ g. absurd (f .fails g); quiet = λ q g. f .fails g; met = λ t. absurd (t (rw z (none-off (v .taken)))) }; fails = f .fails }) k
+fails-is r b o z k = keeps-less (λ v f. record { meets = record { closed = λ g. absurd (f .fails g); met = λ t. absurd (t (rw z (none-off (v .taken)))) }; fails = f .fails }) k
 
 module _ (ws : List ℕ) (n m s t j : ℕ) (b : Bounds) where
   shut-own : (bitOf m j ≡ 0 → ⊥) → (bitAnd (fromAt ws n j) s ≡ 0 → ⊥) → (bitAnd (toAt ws n j) t ≡ 0 → ⊥) → fromAt ws n j < 2 ^ 64 → toAt ws n j < 2 ^ 64

@@ -21,7 +21,8 @@ use Rattle.queue.specs.declared.waiting.Waiting.{Waiting}
 use Rattle.probe.specs.declared.Node.{Node}
 use Rattle.probe.specs.declared.Node.the-variants.{View, Empty, Open}
 use Rattle.probe.specs.Probes.{Halved, Opened}
-use Rattle.probe.proofs.Halves.{room, out-less, into-less}
+use Rattle.bounds.proofs.Halves.{room}
+use Rattle.probe.proofs.Halves.{out-less, into-less}
 use Rattle.admissible.specs.Admissible.{Stands}
 use Rattle.standing.specs.Standing.{Right, Unbanned, Split, same, other, StandingIn}
 

@@ -19,7 +19,7 @@ use Rattle.book.specs.declared.Measure.the-variants.{Numbers}
 use Rattle.book.specs.declared.Shape.{Shape}
 use Rattle.book.specs.declared.Content.{Content}
 use Rattle.book.specs.declared.Content.the-variants.{Edition, Literal, Exception}
-use Rattle.book.specs.Kinds.{kinds, kind, contents, fieldsOf, numbersOf, none, first, last, plain, exception, preference, conditional, entriesEach, ruleNumbers, preferenceNumbers, conditionalNumbers, rangeOf}
+use Rattle.book.specs.Kinds.{kinds, kind, contents, fieldsOf, numbersOf, none, first, last, plain, alternative, exception, preference, conditional, entriesEach, ruleNumbers, alternativeNumbers, preferenceNumbers, conditionalNumbers, rangeOf}
 use Rattle.book.specs.Counts.{countsOf, countAt, sumTo, startOf, rowNumbers, textBytes, measured}
 use Rattle.book.proofs.Counts.{sum-next, sum-up}
 use Rattle.text.specs.declared.Field.the-variants.{Value}
@@ -211,23 +211,27 @@ module _ (s : Shape) (ws : List ℤ) (a : Accepted s ws) (k i j : ℕ) (h : firs
       (rw (getD-take (kind k .numbers) (drop (startOf s k + i * kind k .numbers) ws) j (pos 0) w, getD-drop (startOf s k + i * kind k .numbers) ws j (pos 0)) at (no-larger c))
 
 -- ---- rules
--- A kind whose numbers are all heads and entries.
-abbrev pub RuleKind : ℕ → Type 0
-RuleKind k = (first < k) × (k < last) × (kind k .numbers ≡ ruleNumbers) × (numbersOf (kind k) ≡ replicate ruleNumbers Literal)
+-- A kind of w numbers that are all heads and entries.
+abbrev pub RuleKind : ℕ → ℕ → Type 0
+RuleKind w k = (first < k) × (k < last) × (kind k .numbers ≡ w) × (numbersOf (kind k) ≡ replicate w Literal)
 
-pub plain-rules : RuleKind plain
+pub plain-rules : RuleKind ruleNumbers plain
 unfolding kind kinds numbersOf contents
 plain-rules = (omega arith, omega arith, refl, refl)
 
-pub exception-rules : RuleKind exception
+pub alternative-rules : RuleKind alternativeNumbers alternative
+unfolding kind kinds numbersOf contents
+alternative-rules = (omega arith, omega arith, refl, refl)
+
+pub exception-rules : RuleKind ruleNumbers exception
 unfolding kind kinds numbersOf contents
 exception-rules = (omega arith, omega arith, refl, refl)
 
 -- Heads and entries lie in -n to n.
-pub entry-small : (s : Shape) (ws : List ℤ) → Accepted s ws → (k : ℕ) → RuleKind k → (i j : ℕ) → i < countAt s k → j < ruleNumbers → natAbs (getD ws (startOf s k + i * ruleNumbers + j) (pos 0)) ≤ s .statements
-entry-small s ws a k r i j l h =
+pub entry-small : (s : Shape) (ws : List ℤ) → Accepted s ws → {w : ℕ} (k : ℕ) → RuleKind w k → (i j : ℕ) → i < countAt s k → j < w → natAbs (getD ws (startOf s k + i * w + j) (pos 0)) ≤ s .statements
+entry-small s ws a {w} k r i j l h =
     rw (ap (λ (w : ℕ). startOf s k + i * w + j) (r .2))
-    at (literal-at s ws a k i j (r .0) (r .1) l (rw (r .2) h) (ap (λ (l : List Content). getD l j Edition) (r .3) ∙ getD-replicate ruleNumbers j Literal Edition h))
+    at (literal-at s ws a k i j (r .0) (r .1) l (rw (r .2) h) (ap (λ (l : List Content). getD l j Edition) (r .3) ∙ getD-replicate w j Literal Edition h))
 
 -- ---- preferences
 -- P and Q rows begin with two exceptions; in a Q row entries follow.

@@ -16,7 +16,7 @@ use Rattle.logic.proofs.Decide.{clash}
 use Rattle.book.specs.declared.Kind.{Kind}
 use Rattle.book.specs.declared.Shape.{Shape}
 use Rattle.book.specs.declared.Content.the-variants.{Statements}
-use Rattle.book.specs.Kinds.{kinds, kind, unknown, none, first, last, plain, exception, preference, conditional, front, most, longest, rowOnce, mostRows, rangeOf}
+use Rattle.book.specs.Kinds.{kinds, kind, unknown, none, first, last, plain, alternative, exception, preference, conditional, front, most, longest, rowOnce, mostRows, rangeOf}
 use Rattle.book.specs.Counts.{countsOf, frontOf, allCounts, countAt, shapeFrom, total, rowNumbers, InLimits}
 use Rattle.book.proofs.Counts.{many}
 use Rattle.text.specs.Lines.{between, inside, lines}
@@ -87,7 +87,8 @@ count-at s ws (suc zero) h g = refl
 count-at s ws (suc (suc zero)) h g = refl
 count-at s ws (suc (suc (suc zero))) h g = refl
 count-at s ws (suc (suc (suc (suc zero)))) h g = refl
-count-at s ws (suc (suc (suc (suc (suc k))))) h g = absurd (omega arith)
+count-at s ws (suc (suc (suc (suc (suc zero))))) h g = refl
+count-at s ws (suc (suc (suc (suc (suc (suc k)))))) h g = absurd (omega arith)
 
 counted : (t : List ℤ) (k : ℕ) → first < k → k < last → countAt (shapeIn t) k ≡ toNat (getD t (kind k .count) (pos 0))
 unfolding shapeIn shapeFrom countAt allCounts countsOf kind kinds
@@ -96,7 +97,8 @@ counted t (suc zero) h g = refl
 counted t (suc (suc zero)) h g = refl
 counted t (suc (suc (suc zero))) h g = refl
 counted t (suc (suc (suc (suc zero)))) h g = refl
-counted t (suc (suc (suc (suc (suc k))))) h g = absurd (omega arith)
+counted t (suc (suc (suc (suc (suc zero))))) h g = refl
+counted t (suc (suc (suc (suc (suc (suc k)))))) h g = absurd (omega arith)
 
 -- Some test of a list holds if it holds at a place, and only then.
 some-none : {A : Type 0} (f : A → Bool) (xs : List A) (d : A) → ((k : ℕ) → k < length xs → f (getD xs k d) ≡ false) → some f xs ≡ false
@@ -177,13 +179,14 @@ unfolding inside between rangeOf toNat
 n-is (pos m) e = (refl, e)
 n-is (negsuc m) e = absurd (clash (both-left (leZ (pos 1) (negsuc m)) _ e))
 
-front-numbers : (t : List ℤ) → front ≤ length t → getD t 0 (pos 0) ∷ getD t 1 (pos 0) ∷ getD t 2 (pos 0) ∷ getD t 3 (pos 0) ∷ getD t 4 (pos 0) ∷ drop front t ≡ t
+front-numbers : (t : List ℤ) → front ≤ length t → getD t 0 (pos 0) ∷ getD t 1 (pos 0) ∷ getD t 2 (pos 0) ∷ getD t 3 (pos 0) ∷ getD t 4 (pos 0) ∷ getD t 5 (pos 0) ∷ drop front t ≡ t
 front-numbers [] h = absurd (omega arith)
 front-numbers (a ∷ []) h = absurd (omega arith)
 front-numbers (a ∷ b ∷ []) h = absurd (omega arith)
 front-numbers (a ∷ b ∷ c ∷ []) h = absurd (omega arith)
 front-numbers (a ∷ b ∷ c ∷ d ∷ []) h = absurd (omega arith)
-front-numbers (a ∷ b ∷ c ∷ d ∷ e ∷ t) h = refl
+front-numbers (a ∷ b ∷ c ∷ d ∷ e ∷ []) h = absurd (omega arith)
+front-numbers (a ∷ b ∷ c ∷ d ∷ e ∷ f ∷ t) h = refl
 
 -- What an accepted table is.
 pub record Table (t : List ℤ) (s : Shape) (ws : List ℤ) : Type 0 where
@@ -216,6 +219,7 @@ module _ (t : List ℤ) (long : front ≤ length t) (n : inside (rangeOf Stateme
         count-is _ _ (count-right exception (omega arith) (omega arith)) .0,
         count-is _ _ (count-right preference (omega arith) (omega arith)) .0,
         count-is _ _ (count-right conditional (omega arith) (omega arith)) .0,
+        count-is _ _ (count-right alternative (omega arith) (omega arith)) .0,
       )
       (front-numbers t long)
 

@@ -1,4 +1,5 @@
--- A number table is refused only by 16, 6, 8, 9 and 10 (document 01, 'Turned down, by place'); so not by 19, which Q lines of a text have.
+-- A number table is refused only by 16, 6, 8, 9, 10 (document 01, 'Turned down, by place') and 23 (document 02, (g)); so not by 19 or 22, which Q
+-- and O lines of a text have.
 -- By cases on the tests in their order; a row's own refusals by its kind's contents, all of whose ranges refuse by 6.
 use mathlib.Core.Path.{_≡_, refl, sym, _∙_}
 use mathlib.Core.Bool.{Bool, true, false, not}
@@ -32,7 +33,7 @@ use Rattle.text.proofs.Layouts.{Rising, sumBy, widths, layout-widths, r
 use Rattle.text.proofs.Rows.{row-yes}
 
 abbrev pub Refused : ℕ → Type 0
-Refused q = Among q (6 ∷ 8 ∷ 9 ∷ 10 ∷ 16 ∷ [])
+Refused q = Among q (6 ∷ 8 ∷ 9 ∷ 10 ∷ 16 ∷ 23 ∷ [])
 
 -- ---- a row
 -- A range's refusal does not depend on n.
@@ -74,17 +75,29 @@ fields-fault (c ∷ cs) n (v ∷ vs) q l s e =
     let t = every-first (eqb (rangeOf c 0 .fault) 6) (sixes cs) s in
     first-fault v (rangeOf c n) (testFields cs n vs) q e (fault-same c n ∙ eqb-true (rangeOf c 0 .fault) 6 (t .0)) (λ p f. fields-fault cs n vs p (omega arith) (t .1) f)
 
--- A row that lacks a head is refused by 9, whatever its kind.
-row-nines : all (λ (k : ℕ). eqb (kind k .unfilled) 9) none ≡ true
-unfolding kinds kind unknown
-row-nines = refl
+-- A row that lacks a head is refused by 9 or 23, by its kind.
+abbrev nine : ℕ → Bool
+nine k = either (eqb (kind k .unfilled) 9) (eqb (kind k .unfilled) 23)
+
+nines : all nine none ≡ true
+unfolding kinds kind unknown either
+nines = refl
+
+lacking : (k q : ℕ) → k < none → kind k .unfilled ≡ q → Refused q
+unfolding either
+lacking k q h e = go (eqb (kind k .unfilled) 9) (eqb (kind k .unfilled) 23) refl refl (all-at nine none k nines h)
+  where
+    go : (a b : Bool) → eqb (kind k .unfilled) 9 ≡ a → eqb (kind k .unfilled) 23 ≡ b → either a b ≡ true → Refused q
+    go true b x y s = inr (inr (inl (sym (eqb-true (kind k .unfilled) 9 x) ∙ e)))
+    go false true x y s = inr (inr (inr (inr (inr (inl (sym (eqb-true (kind k .unfilled) 23 y) ∙ e))))))
+    go false false x y s = absurd (clash s)
 
 whole-fault : (m k : ℕ) (vs : List ℤ) (q : ℕ) → k < none → rowFault m (kind k) vs ≡ suc q → Refused (suc q)
 unfolding rowFault pick
 whole-fault m k vs q h e = go (headless (kind k) vs) (missing m (kind k) vs) e
   where
     go : (a b : Bool) → _≡_ {A = ℕ} (pick a (kind k .unfilled) (pick b 10 0)) (suc q) → Refused (suc q)
-    go true b e = inr (inr (inl (sym (eqb-true (kind k .unfilled) 9 (all-at (λ (j : ℕ). eqb (kind j .unfilled) 9) none k row-nines h)) ∙ e)))
+    go true b e = lacking k (suc q) h e
     go false true e = inr (inr (inr (inl e)))
     go false false e = absurd (omega arith)
 

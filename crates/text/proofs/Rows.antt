@@ -16,7 +16,7 @@ use Rattle.logic.specs.Tests.{both, pick, consIf, some}
 use Rattle.book.specs.declared.Kind.{Kind}
 use Rattle.book.specs.declared.Shape.{Shape}
 use Rattle.book.specs.declared.Content.the-variants.{Exception, Total}
-use Rattle.book.specs.Kinds.{kinds, kind, contents, fieldsOf, numbersOf, none, first, last, plain, exception, preference, conditional, rowOnce, mostRows, rangeOf}
+use Rattle.book.specs.Kinds.{kinds, kind, contents, fieldsOf, numbersOf, none, first, last, plain, alternative, exception, preference, conditional, rowOnce, mostRows, rangeOf}
 use Rattle.book.specs.Counts.{countsOf, allCounts, countAt, shapeFrom, total, InLimits}
 use Rattle.book.proofs.Counts.{sum-all}
 use Rattle.text.specs.declared.State.{State}
@@ -231,7 +231,15 @@ z-statements st vs = rw (no-statements last vs (omega arith) (λ e. omega arith)
 -- The shape at the end is the one that was to come.
 end-shape : (st : State) (s : Shape) (vs : List ℤ) → Fits st s [] → shapeOf (step st last vs) ≡ s
 unfolding shapeFrom countAt allCounts countsOf
-end-shape st s vs f = λ i. record { statements = same-n i; plain = count plain (omega arith) (omega arith) i; exceptions = count exception (omega arith) (omega arith) i; preferences = count preference (omega arith) (omega arith) i; conditionals = count conditional (omega arith) (omega arith) i }
+end-shape st s vs f =
+    λ i. record {
+      statements = same-n i;
+      plain = count plain (omega arith) (omega arith) i;
+      exceptions = count exception (omega arith) (omega arith) i;
+      preferences = count preference (omega arith) (omega arith) i;
+      conditionals = count conditional (omega arith) (omega arith) i;
+      alternatives = count alternative (omega arith) (omega arith) i;
+    }
   where
     same-n : step st last vs .statements ≡ s .statements
     same-n = z-statements st vs ∙ f .same-n

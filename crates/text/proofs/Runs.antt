@@ -85,7 +85,8 @@ shape-counts st (suc zero) h g = refl
 shape-counts st (suc (suc zero)) h g = refl
 shape-counts st (suc (suc (suc zero))) h g = refl
 shape-counts st (suc (suc (suc (suc zero)))) h g = refl
-shape-counts st (suc (suc (suc (suc (suc k))))) h g = absurd (omega arith)
+shape-counts st (suc (suc (suc (suc (suc zero))))) h g = refl
+shape-counts st (suc (suc (suc (suc (suc (suc k)))))) h g = absurd (omega arith)
 
 -- ---- the lines after B
 pub record Form (st : State) (s : Shape) (rs : List Row) (ws : List ℤ) : Type 0 where

@@ -93,7 +93,8 @@ unfoldable pub filledIn : List ℤ → ℕ
 filledIn [] = 0
 filledIn (v ∷ vs) = pick (between (pos 0) (pos 0) v) (filledIn vs) (suc (filledIn vs))
 
--- The kind's own refusal, 9: fewer heads are filled than it asks for ("exception with head 0").
+-- The kind's own refusal, 9, or 23: fewer heads are filled than it asks for ("exception with head 0"; document 02, (g): "23 when fewer than two of
+-- its heads are filled, in the place of 9").
 unfoldable pub headless : Kind → List ℤ → Bool
 headless x vs = ltb (filledIn (take (x .heads) vs)) (x .filled)
 
@@ -107,7 +108,7 @@ unfoldable pub miscounted : ℕ → Kind → List ℤ → Bool
 miscounted m x vs = some (λ v. not (between (pos m) (pos m) v)) (numbersIn Total (fieldsOf x) vs)
 
 -- The refusal of a line of the kind at place k as a whole, after the lines before it: the kind's own one over its limit, 8 ("19 when a Q line
--- is over 32, in the place of 8"), then its own for heads that are missing, 9, then 10, 11; 0 if none.
+-- is over 32", "22 when an O line is over 40", each "in the place of 8"), then its own for heads that are missing, 9 or 23, then 10, 11; 0 if none.
 unfoldable pub wholeOf : State → ℕ → List ℤ → ℕ
 wholeOf st k vs =
     pick (leb (kind k .limit) (getD (st .counts) k 0)) (kind k .over)

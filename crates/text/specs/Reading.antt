@@ -112,7 +112,7 @@ unfoldable pub readText : List ℕ → Outcome
 readText bs = pick (ltb longest (length bs)) (refused 1 0) (pick (eqb (lastByte bs) 10) (readLines (lines bs) start 1) (refused 2 0))
 
 -- ---- the lent slice
--- The number table: n, the counts of R, X, P and Q, the rows in line order.
+-- The number table: n, the counts of R, X, P, Q and O, the rows in line order.
 unfoldable pub tableOf : Shape → List ℤ → List ℤ
 tableOf s ws = map pos (frontOf s) ++ ws
 

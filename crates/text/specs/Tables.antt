@@ -38,7 +38,7 @@ cut (k ∷ ks) ws = record { place = k; nums = take (kind k .numbers) ws } ∷ c
 unfoldable pub rowsOf : Shape → List ℤ → List Row
 rowsOf s ws = cut (layout 1 (countsOf s)) ws
 
--- ---- the test of a row: 6, its kind's own refusal for heads, 9, then 10
+-- ---- the test of a row: 6, its kind's own refusal for heads, 9 or 23, then 10
 -- A row's numbers, tested left to right as fields that are spelt right. Rows are cut to their length, so 4 does not occur in tables.
 unfoldable pub testFields : List Content → ℕ → List ℤ → Numbers
 testFields [] n [] = numbers []
@@ -46,7 +46,7 @@ testFields [] n (v ∷ vs) = fault 4
 testFields (c ∷ cs) n [] = fault 4
 testFields (c ∷ cs) n (v ∷ vs) = testField (Value v) (rangeOf c n) (testFields cs n vs)
 
--- The refusal of a row as a whole in a book of m exceptions: its kind's own, 9, then 10; 0 if none.
+-- The refusal of a row as a whole in a book of m exceptions: its kind's own, 9 or 23, then 10; 0 if none.
 unfoldable pub rowFault : ℕ → Kind → List ℤ → ℕ
 rowFault m x vs = pick (headless x vs) (x .unfilled) (pick (missing m x vs) 10 0)
 
@@ -68,8 +68,8 @@ unfoldable pub miscount : List ℤ → Kind → Bool
 miscount t x = both (x .row) (not (between (pos 0) (pos (x .limit)) (getD t (x .count) (pos 0))))
 
 -- "16 under 4 numbers; 6 n; 8 a count negative or over; 16 length differs from the counts; then each row"; by document 02, (e), "the first 16
--- means a count is missing" and "8 covers every count", so that 19 never comes from a table. n and counts have line 1, the first row has line 2,
--- for B is line 1.
+-- means a count is missing" and "8 covers every count, now and later", so that 19 and 22 never come from a table. n and counts have line 1, the
+-- first row has line 2, for B is line 1.
 unfoldable pub testTable : List ℤ → Outcome
 testTable t =
     pick (ltb (length t) front) (refused 16 0)

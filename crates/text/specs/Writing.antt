@@ -19,7 +19,7 @@ use Rattle.text.specs.Tables.{Row, rowsOf, testTable}
 unfoldable pub firstRow : ℕ → Row
 firstRow n = record { place = first; nums = pos 1 ∷ pos n ∷ [] }
 
--- The line Z: the number of R, X, P and Q lines.
+-- The line Z: the number of R, O, X, P and Q lines.
 unfoldable pub lastRow : ℕ → Row
 lastRow m = record { place = last; nums = pos m ∷ [] }
 

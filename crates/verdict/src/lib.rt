@@ -7,17 +7,14 @@ use masks::Bounds;
 use masks::Masks;
 use sets::Pair;
 
-// The pair is to this rule what an answer set is to every rule: closed under it, and its body not satisfied if it is a constraint.
+// The pair is to this rule what an answer set is to every rule: it has one of its heads if it satisfies its body; a constraint has none.
 fn obeys(r: Masks, v: Pair) -> bool
     ensures { λ o. ⌜ Decides o (Obeys v r) ⌝ }
 {
     if !masks::fires(r, v, v) {
         return true;
     }
-    if masks::constraint(r) {
-        return false;
-    }
-    sets::within(r.head, v)
+    !sets::apart(r.head, v)
 }
 
 // The same of the first n rules.
@@ -37,7 +34,7 @@ fn obeys_all(words: &[u64], n: usize, v: Pair) -> bool
 
 // The pair's S is an answer set of the plain rules with those of its T added; where it is not, the verdict is 1.
 pub fn is_answer(words: &[u64], n: usize, v: Pair) -> bool
-    requires { ⌜ n * 8 ≤ length (now words) ⌝ }
+    requires { ⌜ (n * 8 ≤ length (now words)) × (n ≤ 256) ⌝ }
     ensures { λ o. ⌜ Decides o (MaskAnswers (now (words .entry)) n v) ⌝ }
 {
     let held = v.held;
@@ -48,8 +45,7 @@ pub fn is_answer(words: &[u64], n: usize, v: Pair) -> bool
     if !obeys_all(words, n, v) {
         return false;
     }
-    let least = masks::closure(words, n, Bounds { lo: v, hi: v });
-    sets::same(least, v)
+    least::founded(words, n, Bounds { lo: v, hi: v })
 }
 
 // The pair does not take the rule, or satisfies its body.

@@ -1,4 +1,4 @@
-use Rattle.bounds.proofs.Steps.{step-taken, step-sure, step-constraint, step-head}
+use Rattle.bounds.proofs.Steps.{step-taken, step-sure, step-head}
 use borrow.Author.Needs.{needs}
 use Rattle.bounds.proofs.step.Statement.{statement}
 use Rattle.bounds.proofs.step.Tie as tie
@@ -18,26 +18,17 @@ forced-requires-2 c κs = search needs
 returns-2 : tie.Need-returns-2
 returns-2 c = step-sure _ _ _ _ (c .before .before .fires .ensures) (search needs) (c .forced2 .ensures)
 
-constraint-requires : tie.Need-constraint-requires
-constraint-requires c κs = search needs
+apart-requires : tie.Need-apart-requires
+apart-requires c κs = search needs
 
 falsified-requires : tie.Need-falsified-requires
 falsified-requires c κs = search needs
 
 returns-3 : tie.Need-returns-3
-returns-3 c = step-constraint _ _ _ _ (c .before .before .constraint .ensures) (search needs) (c .falsified .ensures)
-
-within-requires : tie.Need-within-requires
-within-requires c κs = search needs
-
-falsified-requires-2 : tie.Need-falsified-requires-2
-falsified-requires-2 c κs = search needs
+returns-3 c = step-head _ _ _ _ (c .before .before .apart .ensures) (search needs) (c .falsified .ensures)
 
 returns-4 : tie.Need-returns-4
-returns-4 c = step-head _ _ _ _ (c .before .before .within .ensures) (search needs) (c .falsified2 .ensures)
-
-returns-5 : tie.Need-returns-5
-returns-5 c = search needs
+returns-4 c = search needs
 
 pub step-spec : {M : Type 1} → statement M
 step-spec =
@@ -48,10 +39,7 @@ step-spec =
     fires-requires
     forced-requires-2
     returns-2
-    constraint-requires
+    apart-requires
     falsified-requires
     returns-3
-    within-requires
-    falsified-requires-2
-    returns-4
-    returns-5)
+    returns-4)

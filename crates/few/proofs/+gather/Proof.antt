@@ -1,6 +1,7 @@
 use borrow.Author.Needs.{needs}
 use native.Mathlib.Omega.{arith}
-use Rattle.probe.proofs.Halves.{room, out-less, into-less}
+use Rattle.bounds.proofs.Halves.{room}
+use Rattle.probe.proofs.Halves.{out-less, into-less}
 use Rattle.few.proofs.Gathering.{store-again, gathered-full, gathered-dry, gathered-view, gathered-empty, gathered-both}
 use Prim.Native.Nat.{ℕ, _<_}
 use borrow.Fn.Kinds.{In}

@@ -1,4 +1,5 @@
--- The least closed set, computed: a rule whose needed entries are there is taken out and its head added, until none is left.
+-- A closed set, computed: a rule whose needed entries are there is taken out and its heads added, all of them, until none is left.
+-- For rules with one head or none it is the least one.
 use Prim.Native.Nat.{ℕ, zero, suc, _+_, _-_, _^_}
 use mathlib.Core.Bool.{true, false}
 use mathlib.Core.List.{List, [], _∷_}
@@ -6,7 +7,7 @@ use lib.ListN.{length}
 use Rattle.logic.specs.Tests.{every}
 use Rattle.sets.specs.Sets.{member}
 use Rattle.meaning.specs.Literals.{Literal, pos, neg, Conclusions, isIn}
-use Rattle.meaning.specs.Rules.{Head, none, gives, Rule}
+use Rattle.meaning.specs.Rules.{Rule}
 
 -- The set a with number i.
 unfoldable pub addTo : ℕ → ℕ → ℕ
@@ -17,10 +18,10 @@ unfoldable pub add : Literal → Conclusions → Conclusions
 add (pos i) s = record { held = addTo i (s .held); denied = s .denied }
 add (neg i) s = record { held = s .held; denied = addTo i (s .denied) }
 
--- S with the head's conclusion.
-unfoldable pub addHead : Head → Conclusions → Conclusions
-addHead none s = s
-addHead (gives l) s = add l s
+-- S with all of the heads.
+unfoldable pub addHeads : List Literal → Conclusions → Conclusions
+addHeads [] s = s
+addHeads (l ∷ ls) s = add l (addHeads ls s)
 
 -- No rule fires, or one does and the others are left.
 pub data Fired : Type 0 where
@@ -39,11 +40,11 @@ takeOut t (r ∷ rs) = elim (every (λ l. isIn l t) (r .body .needed)) [ true �
 -- At most k rules fire, one after the other.
 unfoldable pub closeBy : ℕ → List Rule → Conclusions → Conclusions
 closeBy zero rs t = t
-closeBy (suc k) rs t = elim (takeOut t rs) [ nothing ↦ t | fires r rest ↦ closeBy k rest (addHead (r .head) t) ]
+closeBy (suc k) rs t = elim (takeOut t rs) [ nothing ↦ t | fires r rest ↦ closeBy k rest (addHeads (r .heads) t) ]
 
 unfoldable pub empty : Conclusions
 empty = record { held = 0; denied = 0 }
 
--- The least set closed under the rules.
+-- The closure of the rules.
 unfoldable pub closure : List Rule → Conclusions
 closure rs = closeBy (length rs) rs empty

@@ -7,8 +7,8 @@ use lib.ListN.{length}
 use Rattle.logic.specs.Tests.{both, concatMap, every, keep, some}
 use Rattle.sets.specs.Sets.{member}
 use Rattle.sets.specs.declared.Pair.{Pair}
-use Rattle.meaning.specs.Literals.{pos, neg, Conclusions, isIn}
-use Rattle.meaning.specs.Rules.{Head, none, gives, Body, Rule, satisfied}
+use Rattle.meaning.specs.Literals.{Literal, pos, neg, Conclusions, isIn}
+use Rattle.meaning.specs.Rules.{Body, Rule, satisfied}
 use Rattle.meaning.specs.Preferences.{inBoth}
 use Rattle.meaning.specs.AnswerSets.{reduct}
 use Rattle.meaning.specs.Books.{Book, conclusions, applied}
@@ -16,9 +16,9 @@ use Rattle.meaning.specs.Views.{ranking}
 use Rattle.meaning.specs.Twins.Closure.{closure}
 
 -- S breaks the constraint.
-unfoldable pub breaks : Conclusions → Body → Head → Bool
-breaks s b none = satisfied s b
-breaks s b (gives l) = false
+unfoldable pub breaks : Conclusions → Body → List Literal → Bool
+breaks s b [] = satisfied s b
+breaks s b (l ∷ ls) = false
 
 -- No statement from 1 to k is both held and denied.
 unfoldable pub apart : ℕ → Conclusions → Bool
@@ -28,13 +28,46 @@ apart (suc k) s = elim (not (isIn (pos (suc k)) s)) [ true ↦ apart k s | false
 unfoldable pub same : Conclusions → Conclusions → Bool
 same s t = elim (eqb (s .held) (t .held)) [ true ↦ eqb (s .denied) (t .denied) | false ↦ false ]
 
+-- The numbers below k.
+unfoldable pub below : ℕ → List ℕ
+below zero = []
+below (suc k) = k ∷ below k
+
+-- The numbers from 1 to k that are in a are in c.
+unfoldable pub containedTo : ℕ → ℕ → ℕ → Bool
+containedTo zero a c = true
+containedTo (suc k) a c = elim (not (member (suc k) a)) [ true ↦ containedTo k a c | false ↦ elim (member (suc k) c) [ true ↦ containedTo k a c | false ↦ false ] ]
+
+-- At least one of the heads is in t; t is closed.
+unfoldable pub given : List Literal → Conclusions → Bool
+given [] t = true
+given (l ∷ ls) t = some (λ k. isIn k t) (l ∷ ls)
+
+unfoldable pub follows : Conclusions → Rule → Bool
+follows t r = elim (every (λ l. isIn l t) (r .body .needed)) [ true ↦ given (r .heads) t | false ↦ true ]
+
+unfoldable pub closed : List Rule → Conclusions → Bool
+closed rs t = every (follows t) rs
+
+-- t is no closed proper subset of s.
+unfoldable pub noSmaller : List Rule → Conclusions → Conclusions → Bool
+noSmaller rs s t =
+    elim (containedTo (t .held) (t .held) (s .held)) [ false ↦ true | true ↦ elim (containedTo (t .denied) (t .denied) (s .denied)) [ false ↦ true | true ↦ elim (closed rs t) [ false ↦ true | true ↦ same t s ] ] ]
+
+-- All sets whose numbers are not larger than those of s: its subsets are among them.
+unfoldable pub upTo : Conclusions → List Conclusions
+upTo s = concatMap (λ h. concatMap (λ d. record { held = h; denied = d } ∷ []) (below (suc (s .denied)))) (below (suc (s .held)))
+
+unfoldable pub minimal : List Rule → Conclusions → Bool
+minimal rs s = elim (closed rs s) [ true ↦ every (noSmaller rs s) (upTo s) | false ↦ false ]
+
 -- A consistent S is an answer set of the rules.
 unfoldable pub answerSet : List Rule → Conclusions → Bool
-answerSet rs s = elim (same s (closure (reduct s rs))) [ true ↦ every (λ r. not (breaks s (r .body) (r .head))) rs | false ↦ false ]
+answerSet rs s = elim (minimal (reduct s rs) s) [ true ↦ every (λ r. not (breaks s (r .body) (r .heads))) rs | false ↦ false ]
 
 -- The line x, y as a rule: whatever leads from a to x leads to y.
 unfoldable pub rankRule : ℕ → ℕ × ℕ → Rule
-rankRule a l = record { head = gives (pos (suc (l .1))); body = record { needed = elim (eqb (l .0) a) [ true ↦ [] | false ↦ pos (suc (l .0)) ∷ [] ]; barred = [] } }
+rankRule a l = record { heads = pos (suc (l .1)) ∷ []; body = record { needed = elim (eqb (l .0) a) [ true ↦ [] | false ↦ pos (suc (l .0)) ∷ [] ]; barred = [] } }
 
 unfoldable pub rankRules : ℕ → List (ℕ × ℕ) → List Rule
 rankRules a [] = []
@@ -82,11 +115,6 @@ unfoldable pub view : Book → Pair → Bool
 view b p =
     elim (lawful b p) [ true ↦ elim (answers b p) [ true ↦ elim (not (rankedWithin b p)) [ true ↦ bodies b p | false ↦ false ] | false ↦ false ] | false ↦ false ]
 
--- The numbers below k.
-unfoldable pub below : ℕ → List ℕ
-below zero = []
-below (suc k) = k ∷ below k
-
 -- All pairs within the book's numbers.
 unfoldable pub pairs : Book → List Pair
 pairs b =
@@ -95,11 +123,6 @@ pairs b =
 -- All views.
 unfoldable pub views : Book → List Pair
 views b = keep (view b) (pairs b)
-
--- The numbers from 1 to k that are in a are in c.
-unfoldable pub containedTo : ℕ → ℕ → ℕ → Bool
-containedTo zero a c = true
-containedTo (suc k) a c = elim (not (member (suc k) a)) [ true ↦ containedTo k a c | false ↦ elim (member (suc k) c) [ true ↦ containedTo k a c | false ↦ false ] ]
 
 unfoldable pub properSubset : ℕ → ℕ → Bool
 properSubset a c = elim (containedTo a a c) [ true ↦ not (eqb a c) | false ↦ false ]

@@ -1,5 +1,5 @@
 use native.Mathlib.Omega.{arith}
-use Rattle.book.proofs.Counts.{plain-in, exceptions-in}
+use Rattle.book.proofs.Counts.{plain-in, alternatives-in, exceptions-in}
 use Rattle.operations.proofs.Loading.{front-long, front-lawful, front-filled}
 use Rattle.operations.proofs.fill.Statement.{statement}
 use Rattle.operations.proofs.fill.Tie as tie
@@ -11,7 +11,7 @@ slice-aggregate-pack : tie.Need-slice-aggregate-pack
 slice-aggregate-pack c = front-long (c .before .before .args .s) (c .before .before .args .rows .now) (c .before .row-numbers .result) (c .before .row-numbers .ensures) (c .before .before .pre .0)
 
 pack-requires : tie.Need-pack-requires
-pack-requires c κs = (front-lawful (c .before .before .before .args .s) (c .before .before .before .args .rows .now) (c .before .before .row-numbers .result) (c .before .before .row-numbers .ensures) (c .before .before .before .pre .0), omega (arith, plain-in _ (c .before .before .before .pre .0 .limits), exceptions-in _ (c .before .before .before .pre .0 .limits)), c .before .before .before .pre .1)
+pack-requires c κs = (front-lawful (c .before .before .before .args .s) (c .before .before .before .args .rows .now) (c .before .before .row-numbers .result) (c .before .before .row-numbers .ensures) (c .before .before .before .pre .0), omega (arith, plain-in _ (c .before .before .before .pre .0 .limits), alternatives-in _ (c .before .before .before .pre .0 .limits), exceptions-in _ (c .before .before .before .pre .0 .limits)), c .before .before .before .pre .1)
 
 slice-aggregate-rank : tie.Need-slice-aggregate-rank
 slice-aggregate-rank c = front-long (c .before .before .before .before .before .args .s) (c .before .before .before .before .before .args .rows .now) (c .before .before .before .before .row-numbers .result) (c .before .before .before .before .row-numbers .ensures) (c .before .before .before .before .before .pre .0)

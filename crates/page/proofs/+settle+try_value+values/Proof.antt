@@ -1,6 +1,7 @@
 use borrow.Author.Needs.{needs}
 use native.Mathlib.Omega.{arith}
-use Rattle.page.proofs.Search.{settle-open, settle-last, ready-again, branch-ready, child-ready, one-full, one-cut, one-open, try-one, try-last}
+use Rattle.page.proofs.Ends.{settle-ahead}
+use Rattle.page.proofs.Search.{settle-open, settle-last, ready-again, ready-fewer, branch-ready, child-ready, one-full, one-cut, one-open, try-one, try-last}
 use Prim.Native.Nat.{ℕ, _+_, _-_, _*_, _<_}
 use borrow.Fn.Kinds.{In}
 use borrow.Fn.PlainCycle.{Measures, is, falls, and}
@@ -14,6 +15,7 @@ use Rattle.page.proofs.values.Reads as values
 use Rattle.page.proofs.values.Kinds as values-kinds
 use Rattle.page.proofs.+settle+try_value+values.Lts-values as values-lts
 use Rattle.page.proofs.branch_of.Reads as branch-of-reads
+use Rattle.page.proofs.ahead.Reads as ahead-reads
 use Rattle.page.proofs.finish.Reads as finish-reads
 use Rattle.std.proofs.num.wrapping_add_u64.Reads as wrapping-add-u64-reads
 use Rattle.page.proofs.+settle+try_value+values.{statement}
@@ -48,7 +50,7 @@ abbrev values-below : ℕ → In 4 values-kinds.ps
 values-below t = and 4 values-kinds.ps (falls 4 values-kinds.ps _<_ μ-values t) values.Pre
 
 abbrev settle-callees : ℕ → settle-lts.Claims
-settle-callees t = (finish-reads.Asked, finish-reads.Learnt, values-below t, values.Post)
+settle-callees t = (ahead-reads.Asked, ahead-reads.Learnt, finish-reads.Asked, finish-reads.Learnt, values-below t, values.Post)
 
 abbrev try-value-callees : ℕ → try-value-lts.Claims
 try-value-callees t = (
@@ -63,25 +65,28 @@ try-value-callees t = (
 abbrev values-callees : ℕ → values-lts.Claims
 values-callees t = (try-value-below t, try-value.Post, values-below t, values.Post)
 
+settle-ahead-requires : (t : ℕ) → settle-lts.Need-ahead-requires (settle-callees t) (settle-at t) settle.Post
+settle-ahead-requires t c κs = let r = c .before .before .before .pre .1 .0 in (r .unsettled, r .fits .suits .few)
+
 settle-finish-requires : (t : ℕ) → settle-lts.Need-finish-requires (settle-callees t) (settle-at t) settle.Post
-settle-finish-requires t c κs = (c .before .before .before .before .before .pre .1 .0 .fits, c .before .before .before .before .before .pre .1 .1)
+settle-finish-requires t c κs = let p = c .before .before .before .before .before .before .before .before .before .before .before .pre in (p .1 .0 .fits, p .1 .1, p .1 .2 .few)
 
 settle-same-length : (t : ℕ) → settle-lts.Need-same-length (settle-callees t) (settle-at t) settle.Post
 settle-same-length t c = search needs
 
 settle-returns : (t : ℕ) → settle-lts.Need-returns (settle-callees t) (settle-at t) settle.Post
-settle-returns t c = settle-last _ _ _ _ _ _ _ _ (search needs) (c .before .before .finish .ensures)
+settle-returns t c = settle-ahead _ _ _ _ _ (c .before .before .before .before .before .before .before .before .before .before .ahead .ensures) _ _ _ _ _ _ (settle-last _ _ _ _ _ _ _ _ (c .before .before .before .before .if1 .taken) (c .before .before .finish .ensures))
 
 settle-values-requires : (t : ℕ) → settle-lts.Need-values-requires (settle-callees t) (settle-at t) settle.Post
 settle-values-requires t c κs =
-    let pre = c .before .before .before .before .before .pre in
-    (omega (arith, pre .0), (pre .1 .0, omega arith, omega arith, omega arith, pre .1 .2))
+    let pre = c .before .before .before .before .before .before .before .before .before .before .before .pre in let l = c .before .if1 .left in let f = c .before .before .before .before .before .before .before .ahead .ensures .fewer in
+    (omega (arith, pre .0), (ready-fewer _ _ _ _ _ _ _ (pre .1 .0) f, omega arith, omega arith, omega arith, pre .1 .2))
 
 settle-same-length-2 : (t : ℕ) → settle-lts.Need-same-length-2 (settle-callees t) (settle-at t) settle.Post
 settle-same-length-2 t c = search needs
 
 settle-returns-2 : (t : ℕ) → settle-lts.Need-returns-2 (settle-callees t) (settle-at t) settle.Post
-settle-returns-2 t c = settle-open _ _ _ _ _ _ _ _ (search needs) (c .before .before .values .ensures)
+settle-returns-2 t c = settle-ahead _ _ _ _ _ (c .before .before .before .before .before .before .before .before .before .before .ahead .ensures) _ _ _ _ _ _ (settle-open _ _ _ _ _ _ _ _ (c .before .before .before .before .if1 .left) (c .before .before .values .ensures))
 
 try-value-returns : (t : ℕ) → try-value-lts.Need-returns (try-value-callees t) (try-value-at t) try-value.Post
 try-value-returns t c = one-full _ _ _ _ _ _ _ (c .before .before .before .before .before .before .pre .1 .0 .fits .place) (search needs)
@@ -163,6 +168,7 @@ pub +settle+try-value+values-spec : {M : Type 1} → statement M
 +settle+try-value+values-spec = close μ-settle μ-try-value μ-values (λ t. settle-lts.spec (settle-callees t)
     (settle-at t)
     settle.Post
+    (settle-ahead-requires t)
     (settle-finish-requires t)
     (settle-same-length t)
     (settle-returns t)

@@ -1,22 +1,21 @@
-use Rattle.prepare.proofs.Masks.{entries-last, entries-turn, entries-all, readable-at}
+use Rattle.prepare.proofs.Masks.{entries-start, entries-turn, entries-all, readable-at}
 use borrow.Author.Needs.{needs}
 use mathlib.Core.Path.{_≡_}
 use Prim.Native.Nat.{_+_, _-_, _≤_}
 use native.Mathlib.Omega.{arith}
-use Rattle.book.specs.Kinds.{entriesEach}
 use Rattle.meaning.specs.Meant.{entriesAt}
 use Rattle.bridge.specs.Packed.{maskAll}
 use Rattle.prepare.proofs.entries_mask.Statement.{statement}
 use Rattle.prepare.proofs.entries_mask.Tie as tie
 
 abbrev Inv-loop : tie.InvT-loop
-Inv-loop rows from m₀ i₀ m i = (i ≤ entriesEach) × (m ≡ maskAll (entriesAt rows (from + i) (entriesEach - i)))
+Inv-loop rows from n m₀ i₀ m i = (i ≤ n) × (m ≡ maskAll (entriesAt rows (from + i) (n - i)))
 
 abbrev μ-loop : tie.MeasureT-loop
-μ-loop rows from m₀ i₀ m i = i
+μ-loop rows from n m₀ i₀ m i = i
 
 loop-holds : tie.Need-loop-holds Inv-loop μ-loop
-loop-holds c = (omega arith, entries-last _ _)
+loop-holds c = (omega arith, entries-start _ _ _)
 
 sub-i : tie.Need-sub-i Inv-loop μ-loop
 sub-i c = search needs

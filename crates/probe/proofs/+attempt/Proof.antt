@@ -1,6 +1,7 @@
 use borrow.Author.Needs.{needs}
 use native.Mathlib.Omega.{arith}
-use Rattle.probe.proofs.Halves.{room, out-less, into-less}
+use Rattle.bounds.proofs.Halves.{room}
+use Rattle.probe.proofs.Halves.{out-less, into-less}
 use Rattle.probe.proofs.Attempts.{attempt-stopped, attempt-view, attempt-empty, attempt-out, attempt-into}
 use Prim.Native.Nat.{ℕ, _<_}
 use borrow.Fn.Kinds.{In}

@@ -1,6 +1,7 @@
 use borrow.Author.Needs.{needs}
 use native.Mathlib.Omega.{arith}
-use Rattle.probe.proofs.Halves.{room, out-less, into-less, probed-view, probed-empty, probed-out, probed-into}
+use Rattle.bounds.proofs.Halves.{room}
+use Rattle.probe.proofs.Halves.{out-less, into-less, probed-view, probed-empty, probed-out, probed-into}
 use Prim.Native.Nat.{ℕ, _<_}
 use borrow.Fn.Kinds.{In}
 use borrow.Fn.PlainCycle.{Measures, is, falls, and}

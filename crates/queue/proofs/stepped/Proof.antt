@@ -5,10 +5,10 @@ use Rattle.queue.proofs.stepped.Statement.{statement}
 use Rattle.queue.proofs.stepped.Tie as tie
 
 abbrev Inv-loop : tie.InvT-loop
-Inv-loop words n bounds work₀ k₀ work k = k ≤ 256
+Inv-loop words n cut bounds work₀ k₀ work k = k ≤ 256
 
 abbrev μ-loop : tie.MeasureT-loop
-μ-loop words n bounds work₀ k₀ work k = 256 - k
+μ-loop words n cut bounds work₀ k₀ work k = 256 - k
 
 loop-holds : tie.Need-loop-holds Inv-loop μ-loop
 loop-holds c = search needs

@@ -3,6 +3,9 @@ use borrow.Author.Needs.{needs}
 use Rattle.queue.proofs.turn.Statement.{statement}
 use Rattle.queue.proofs.turn.Tie as tie
 
+element-copy-out-stepped : tie.Need-element-copy-out-stepped
+element-copy-out-stepped c = search needs
+
 stepped-requires : tie.Need-stepped-requires
 stepped-requires c κs = search needs
 
@@ -20,4 +23,5 @@ returns-2 c = keeps-then (c .before .before .before .stepped .ensures) (c .answe
 
 pub turn-spec : {M : Type 1} → statement M
 turn-spec =
-    tie.close (tie.spec stepped-requires unchanged-requires returns answered-requires returns-2)
+    tie.close
+    (tie.spec element-copy-out-stepped stepped-requires unchanged-requires returns answered-requires returns-2)

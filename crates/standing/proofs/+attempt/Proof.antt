@@ -3,7 +3,7 @@ use native.Mathlib.Omega.{arith}
 use borrow.Author.Needs.{needs}
 use Rattle.standing.proofs.Attempting.{says-nothing, tried-view, tried-fallen, tried-empty, tried-void, tried-out, tried-into}
 use Rattle.standing.proofs.Halving.{less-out, less-into, opened-anew}
-use Rattle.probe.proofs.Halves.{room}
+use Rattle.bounds.proofs.Halves.{room}
 use Prim.Native.Nat.{ℕ, _<_}
 use borrow.Fn.Kinds.{In}
 use borrow.Fn.PlainCycle.{Measures, is, falls, and}

@@ -2,7 +2,7 @@ use mathlib.Core.Path.{refl}
 use native.Mathlib.Omega.{arith}
 use borrow.Author.Needs.{needs}
 use Rattle.standing.proofs.Halving.{told-view, told-empty, told-void, told-out, told-into, less-out, less-into, opened-anew}
-use Rattle.probe.proofs.Halves.{room}
+use Rattle.bounds.proofs.Halves.{room}
 use Prim.Native.Nat.{ℕ, _<_}
 use borrow.Fn.Kinds.{In}
 use borrow.Fn.PlainCycle.{Measures, is, falls, and}

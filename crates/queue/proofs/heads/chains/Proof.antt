@@ -1,73 +1,52 @@
-use mathlib.Core.Path.{sym, _∙_}
-use lib.ListN.{length-set}
-use borrow.Author.Needs.{needs}
-use mathlib.Core.Path.{_≡_}
+use mathlib.Core.Path.{_∙_}
 use native.Mathlib.Omega.{arith}
-use lib.ListN.{length}
-use Prim.Native.Nat.{_≤_}
-use Rattle.queue.specs.Places.{wholePlace, indexLength}
-use Rattle.queue.specs.Chains.{ChainsFrom}
-use Rattle.queue.proofs.Chains.{chains-none, chains-turn, chains-done}
+use lib.ListN.{length-set}
+use Rattle.queue.proofs.Chains.{chains-are}
+use borrow.Author.Needs.{needs}
 use Rattle.queue.proofs.heads.chains.Statement.{statement}
 use Rattle.queue.proofs.heads.chains.Tie as tie
+use Rattle.queue.proofs.heads.chains.Reads as reads
+use Rattle.queue.proofs.heads.chains.Lts as lts
+use Rattle.queue.proofs.heads.chained.Reads as chained-reads
+use Rattle.queue.proofs.heads.rows.Reads as rows-reads
+use Rattle.queue.proofs.heads.simple.Reads as simple-reads
 
-abbrev Inv-loop : tie.InvT-loop
-Inv-loop words n index₀ whole₀ k₀ index whole k = (k ≤ n) × (length index ≡ indexLength) × (whole ≡ 1 → ChainsFrom words n index k)
+-- src/heads.rt:162:9
+simple-requires : tie.Need-simple-requires
+simple-requires c κs = search needs
 
-abbrev μ-loop : tie.MeasureT-loop
-μ-loop words n index₀ whole₀ k₀ index whole k = k
+-- src/heads.rt:163:9
+chained-requires : tie.Need-chained-requires
+chained-requires c κs = search needs
 
-clear-requires : tie.Need-clear-requires Inv-loop μ-loop
-clear-requires c κs = search needs
+-- src/heads.rt:164:5
+rows-requires : tie.Need-rows-requires
+rows-requires c κs = search needs
 
-loop-holds : tie.Need-loop-holds Inv-loop μ-loop
-loop-holds c = (omega arith, search needs, λ e. chains-none _ _ _)
-
-sub-k : tie.Need-sub-k Inv-loop μ-loop
-sub-k c = search needs
-
-masks-at-requires : tie.Need-masks-at-requires Inv-loop μ-loop
-masks-at-requires c κs = search needs
-
-chain-requires : tie.Need-chain-requires Inv-loop μ-loop
-chain-requires c κs = (omega (arith, c .before .before .before .before .before .before .before .before .before .before .pre .1), c .before .before .before .loop .inv .1)
-
-loop-less : tie.Need-loop-less Inv-loop μ-loop
-loop-less c = search needs
-
-loop-again : tie.Need-loop-again Inv-loop μ-loop
-loop-again c = (omega arith, search needs, λ e. absurd (omega arith))
-
-loop-less-2 : tie.Need-loop-less-2 Inv-loop μ-loop
-loop-less-2 c = search needs
-
-loop-again-2 : tie.Need-loop-again-2 Inv-loop μ-loop
-loop-again-2 c = (omega arith, search needs, chains-turn _ _ _ _ (c .before .before .before .before .before .before .before .loop .inv .1) _ _ _ (search needs) (search needs) (c .before .before .before .before .before .before .before .loop .inv .0) (c .before .before .before .before .before .before .before .before .before .before .before .before .before .before .pre .1) (c .before .before .before .before .before .before .before .loop .inv .2) _ (c .before .before .before .before .masks-at .ensures) _ (c .before .before .before .chain .ensures) (search needs))
-
-slice-write-index : tie.Need-slice-write-index Inv-loop μ-loop
+-- src/heads.rt:165:5
+slice-write-index : tie.Need-slice-write-index
 slice-write-index c = search needs
 
-same-length : tie.Need-same-length Inv-loop μ-loop
-same-length c = length-set (c .before .loop .index) wholePlace (c .before .loop .whole) ∙ c .before .loop .inv .1 ∙ sym (c .before .before .before .before .before .before .before .before .pre .2)
+-- src/heads.rt:166:5
+slice-write-index-2 : tie.Need-slice-write-index-2
+slice-write-index-2 c = rw (length-set _ _ _, c .before .before .rows .kept .1 .1 .1 .0 ∙ (c .before .before .before .before .before .before .chained .kept .1 .1 .0 ∙ c .before .before .before .before .before .before .before .before .before .before .before .pre .2)) (omega arith)
 
-returns : tie.Need-returns Inv-loop μ-loop
-returns c = chains-done _ _ _ (c .before .loop .inv .1) _ _ (search needs) (c .before .before .before .before .before .before .before .before .pre .1) (c .before .loop .inv .2)
+-- src/heads.rt:158:1
+same-length : tie.Need-same-length
+same-length c = rw (length-set _ _ _, length-set _ _ _) (c .before .before .rows .kept .1 .1 .1 .0 ∙ c .before .before .before .before .before .before .chained .kept .1 .1 .0)
+
+-- src/heads.rt:158:1
+returns : tie.Need-returns
+returns c = chains-are _ _ _ _ _ _ (c .before .before .rows .kept .1 .1 .1 .0 ∙ (c .before .before .before .before .before .before .chained .kept .1 .1 .0 ∙ c .before .before .before .before .before .before .before .before .before .before .before .pre .2)) (c .before .before .before .before .before .before .before .before .before .before .before .pre .1) (c .before .before .before .before .before .before .before .before .simple .ensures) (c .before .before .before .before .before .before .chained .ensures) (c .before .before .rows .ensures)
 
 pub chains-spec : {M : Type 1} → statement M
 chains-spec =
     tie.close
     (tie.spec
-    Inv-loop
-    μ-loop
-    clear-requires
-    loop-holds
-    sub-k
-    masks-at-requires
-    chain-requires
-    loop-less
-    loop-again
-    loop-less-2
-    loop-again-2
+    simple-requires
+    chained-requires
+    rows-requires
     slice-write-index
+    slice-write-index-2
     same-length
     returns)

@@ -39,7 +39,7 @@ element-copy-out-k : tie.Need-element-copy-out-k Inv-loop μ-loop
 element-copy-out-k c = search needs
 
 loop-holds : tie.Need-loop-holds Inv-loop μ-loop
-loop-holds c = let ch = c .before .before .before .before .before .pre .1 .whole (search needs) in (omega arith, seen-first _ _ _ _ _ (λ k h y. ch .first _ _ k (c .before .before .before .before .before .pre .2) (c .before .before .before .before .before .pre .3) (omega arith) h y), ch)
+loop-holds c = let ch = c .before .before .before .before .before .pre .2 (search needs) in (omega arith, seen-first _ _ _ _ _ (λ k h y. ch .first _ _ k (c .before .before .before .before .before .pre .3) (c .before .before .before .before .before .pre .4) (omega arith) h y), ch)
 
 returns-2 : tie.Need-returns-2 Inv-loop μ-loop
 returns-2 c = seen-all _ _ _ _ _ _ (search needs) (c .before .before .loop .inv .1)
@@ -69,7 +69,7 @@ mul-k-3 : tie.Need-mul-k-3 Inv-loop μ-loop
 mul-k-3 c = search needs
 
 element-copy-out-k-2 : tie.Need-element-copy-out-k-2 Inv-loop μ-loop
-element-copy-out-k-2 c = omega (arith, c .before .before .before .before .before .before .before .before .before .before .before .before .before .pre .1 .few)
+element-copy-out-k-2 c = omega (arith, c .before .before .before .before .before .before .before .before .before .before .before .before .before .pre .1)
 
 add-turn : tie.Need-add-turn Inv-loop μ-loop
 add-turn c = search needs
@@ -78,7 +78,7 @@ loop-less : tie.Need-loop-less Inv-loop μ-loop
 loop-less c = search needs
 
 loop-again : tie.Need-loop-again Inv-loop μ-loop
-loop-again c = let ch = c .before .before .before .before .before .before .before .before .loop .inv .2 in (omega arith, seen-next _ _ _ _ _ _ _ _ _ (c .before .before .before .before .before .before .before .before .loop .inv .1) (search needs) (c .before .before .before .before .before .masks-at .ensures) (c .before .before .with-rule .ensures) (λ k l h y. ch .next _ _ _ k (c .before .before .before .before .before .before .before .before .before .before .before .before .before .before .pre .2) (c .before .before .before .before .before .before .before .before .before .before .before .before .before .before .pre .3) (omega arith) l h (gives-is _ _ _ _ _ _ _ (c .before .before .before .before .before .before .before .before .before .before .one .ensures) (c .before .before .before .before .before .masks-at .ensures) (c .before .before .before .before .within .ensures) (search needs)) y), ch)
+loop-again c = let ch = c .before .before .before .before .before .before .before .before .loop .inv .2 in (omega arith, seen-next _ _ _ _ _ _ _ _ _ (c .before .before .before .before .before .before .before .before .loop .inv .1) (search needs) (c .before .before .before .before .before .masks-at .ensures) (c .before .before .with-rule .ensures) (λ k l h y. ch .next _ _ _ k (c .before .before .before .before .before .before .before .before .before .before .before .before .before .before .pre .3) (c .before .before .before .before .before .before .before .before .before .before .before .before .before .before .pre .4) (omega arith) l h (gives-is _ _ _ _ _ _ _ (c .before .before .before .before .before .before .before .before .before .before .one .ensures) (c .before .before .before .before .before .masks-at .ensures) (c .before .before .before .before .within .ensures) (search needs)) y), ch)
 
 returns-5 : tie.Need-returns-5 Inv-loop μ-loop
 returns-5 c = seen-several _ _ _ _ _ _ refl

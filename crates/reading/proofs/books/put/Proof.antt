@@ -6,7 +6,7 @@ use Rattle.reading.proofs.books.put.Statement.{statement}
 use Rattle.reading.proofs.books.put.Tie as tie
 
 abbrev Inv-loop : tie.InvT-loop
-Inv-loop buf₀ at line to₀ i₀ buf to i = (to ≤ 10100) × (i ≤ length line)
+Inv-loop buf₀ at line to₀ i₀ buf to i = (to ≤ 11900) × (i ≤ length line)
 
 abbrev μ-loop : tie.MeasureT-loop
 μ-loop buf₀ at line to₀ i₀ buf to i = length line - i

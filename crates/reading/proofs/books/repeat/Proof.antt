@@ -4,7 +4,7 @@ use Rattle.reading.proofs.books.repeat.Statement.{statement}
 use Rattle.reading.proofs.books.repeat.Tie as tie
 
 abbrev Inv-loop : tie.InvT-loop
-Inv-loop buf₀ at line k to₀ i₀ buf to i = (to ≤ 10100) × (i ≤ k)
+Inv-loop buf₀ at line k to₀ i₀ buf to i = (to ≤ 11900) × (i ≤ k)
 
 abbrev μ-loop : tie.MeasureT-loop
 μ-loop buf₀ at line k to₀ i₀ buf to i = k - i

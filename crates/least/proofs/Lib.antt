@@ -1,0 +1,4 @@
+pub mod Gathering
+pub mod Steps
+pub mod Laws
+pub mod Looks

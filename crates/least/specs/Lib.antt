@@ -1,0 +1,3 @@
+pub mod Founded
+pub mod Rows
+pub mod Search
