@@ -7,7 +7,7 @@
 enum { LINE_FEED = 10, COLUMNS = 4 };
 
 /* The kinds of line, in the order of a text, and none of them. */
-enum { FIRST, PLAIN, EXCEPTION, PREFERENCE, CONDITIONAL, LAST, NONE };
+enum { FIRST, PLAIN, ALTERNATIVES, EXCEPTION, PREFERENCE, CONDITIONAL, LAST, NONE };
 
 /* A kind of line: its letter, its fields, and the number of its count in the table (0: none). */
 typedef struct {
@@ -16,8 +16,9 @@ typedef struct {
     unsigned count;
 } kind;
 
-static const kind KINDS[NONE] = {{'B', 2, 0}, {'R', 9, 1}, {'X', 9, 2}, {'P', 2, 3}, {'Q', 10, 4}, {'Z', 1, 0}};
-static const int32_t LIMITS[READER_FRONT] = {0, READER_PLAIN, READER_EXCEPTIONS, READER_PREFERENCES, READER_CONDITIONALS};
+static const kind KINDS[NONE] = {{'B', 2, 0}, {'R', 9, 1}, {'O', 11, 5}, {'X', 9, 2}, {'P', 2, 3}, {'Q', 10, 4}, {'Z', 1, 0}};
+static const int32_t LIMITS[READER_FRONT] = {
+    0, READER_PLAIN, READER_EXCEPTIONS, READER_PREFERENCES, READER_CONDITIONALS, READER_ALTERNATIVES};
 
 static reader_answer refused(uint32_t number, uint32_t line) {
     reader_answer answer = {number, line, 0};
@@ -90,7 +91,7 @@ static uint32_t test_field(unsigned number, unsigned place, int32_t value, int32
         if (place < 2) low = 1, high = READER_EXCEPTIONS;
         break;
     case LAST:
-        low = 0, high = READER_PLAIN + READER_EXCEPTIONS + READER_PREFERENCES + READER_CONDITIONALS;
+        low = 0, high = READER_ROWS;
         break;
     }
     return value < low || value > high ? 6 : 0;
@@ -101,11 +102,19 @@ static int is_missing(const int32_t *fields, int32_t exceptions) {
     return fields[0] > exceptions || fields[1] > exceptions;
 }
 
-/* The refusal of a line as a whole: 8, 19, 9, 10, 11 or 0. */
+/* Whether fewer than two of three heads are filled. */
+static int lacks_heads(const int32_t *heads) { return (heads[0] != 0) + (heads[1] != 0) + (heads[2] != 0) < 2; }
+
+/* How many lines a table has between B and Z. */
+static int32_t rows_of(const int32_t *table) { return table[1] + table[2] + table[3] + table[4] + table[5]; }
+
+/* The refusal of a line as a whole: 8, 22, 23, 19, 9, 10, 11 or 0. */
 static uint32_t test_line(unsigned number, const int32_t *fields, const int32_t *table) {
     switch (number) {
     case PLAIN:
         return table[1] == READER_PLAIN ? 8 : 0;
+    case ALTERNATIVES:
+        return table[5] == READER_ALTERNATIVES ? 22 : lacks_heads(fields) ? 23 : 0;
     case EXCEPTION:
         return table[2] == READER_EXCEPTIONS ? 8 : fields[0] == 0 ? 9 : 0;
     case PREFERENCE:
@@ -113,14 +122,14 @@ static uint32_t test_line(unsigned number, const int32_t *fields, const int32_t 
     case CONDITIONAL:
         return table[4] == READER_CONDITIONALS ? 19 : is_missing(fields, table[2]) ? 10 : 0;
     case LAST:
-        return fields[0] != table[1] + table[2] + table[3] + table[4] ? 11 : 0;
+        return fields[0] != rows_of(table) ? 11 : 0;
     default:
         return 0;
     }
 }
 
 reader_answer reader_read(const uint8_t *text, size_t text_length, int32_t *table, size_t table_length) {
-    int32_t own[READER_TABLE + 10];
+    int32_t own[READER_TABLE + 11];
     size_t length = READER_FRONT, at = 0;
     uint32_t line = 0;
     unsigned above = NONE;
@@ -179,13 +188,21 @@ static reader_answer test_table(const int32_t *table, size_t length) {
     for (unsigned place = 1; place < READER_FRONT; place++) {
         if (table[place] < 0 || table[place] > LIMITS[place]) return refused(8, 1);
     }
-    size_t rules = (size_t)(table[1] + table[2]), orders = (size_t)table[3], lines = (size_t)table[4];
-    if (length != READER_FRONT + 9 * rules + 2 * orders + 10 * lines) return refused(16, 0);
+    size_t plain = (size_t)table[1], exceptions = (size_t)table[2], orders = (size_t)table[3];
+    size_t lines = (size_t)table[4], heads = (size_t)table[5];
+    if (length != READER_FRONT + 9 * (plain + exceptions) + 2 * orders + 10 * lines + 11 * heads) return refused(16, 0);
     const int32_t *row = table + READER_FRONT;
     uint32_t line = 2;
-    for (size_t number = 0; number < rules; number++, line++, row += 9) {
+    for (size_t number = 0; number < plain; number++, line++, row += 9) {
         if (test_entries(row, 9, table[0])) return refused(6, line);
-        if (number >= (size_t)table[1] && row[0] == 0) return refused(9, line);
+    }
+    for (size_t number = 0; number < heads; number++, line++, row += 11) {
+        if (test_entries(row, 11, table[0])) return refused(6, line);
+        if (lacks_heads(row)) return refused(23, line);
+    }
+    for (size_t number = 0; number < exceptions; number++, line++, row += 9) {
+        if (test_entries(row, 9, table[0])) return refused(6, line);
+        if (row[0] == 0) return refused(9, line);
     }
     for (size_t number = 0; number < orders; number++, line++, row += 2) {
         if (test_order(row)) return refused(6, line);
@@ -221,12 +238,14 @@ static uint8_t *put_line(uint8_t *text, uint8_t letter, const int32_t *fields, u
 reader_answer reader_write(const int32_t *table, size_t table_length, uint8_t *text, size_t text_length) {
     reader_answer answer = test_table(table, table_length);
     if (answer.refusal != 0) return answer;
-    int32_t first[2] = {1, table[0]}, last = table[1] + table[2] + table[3] + table[4];
-    size_t length = 16 + 38 * (size_t)(table[1] + table[2]) + 10 * (size_t)table[3] + 42 * (size_t)table[4];
+    int32_t first[2] = {1, table[0]}, last = rows_of(table);
+    size_t length = 16 + 38 * (size_t)(table[1] + table[2]) + 10 * (size_t)table[3] + 42 * (size_t)table[4] +
+        46 * (size_t)table[5];
     const int32_t *row = table + READER_FRONT;
     if (text_length < length) return refused(15, 0);
     text = put_line(text, 'B', first, 2);
     for (int32_t number = 0; number < table[1]; number++, row += 9) text = put_line(text, 'R', row, 9);
+    for (int32_t number = 0; number < table[5]; number++, row += 11) text = put_line(text, 'O', row, 11);
     for (int32_t number = 0; number < table[2]; number++, row += 9) text = put_line(text, 'X', row, 9);
     for (int32_t number = 0; number < table[3]; number++, row += 2) text = put_line(text, 'P', row, 2);
     for (int32_t number = 0; number < table[4]; number++, row += 10) text = put_line(text, 'Q', row, 10);

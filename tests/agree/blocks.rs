@@ -2,6 +2,7 @@
 //! the parts share no statement and no exception, so the views, and with them the resolutions, are the products. A view
 //! of the whole is dominated just where one of its parts is.
 
+use crate::alternatives::{self, alternative_book};
 use crate::book::*;
 use crate::conditions::{self, conditional_book};
 use crate::kinds::{small_book, KINDS};
@@ -90,10 +91,19 @@ fn any_conditional(random: &mut Random) -> Book {
     conditional_book(random, kind)
 }
 
+/// A small book of any kind, most often with O lines.
+fn any_alternative(random: &mut Random) -> Book {
+    if random.one_in(5) {
+        return any_conditional(random);
+    }
+    let kind = random.below(alternatives::KINDS.len() as u64) as usize;
+    alternative_book(random, kind)
+}
+
 /// Small books whose sizes together stay within the limits.
 fn draw_parts(random: &mut Random, draw: fn(&mut Random) -> Book) -> Vec<Book> {
     let mut parts: Vec<Book> = Vec::new();
-    let (mut statements, mut counts, mut product) = (0, [0; 4], 1);
+    let (mut statements, mut counts, mut product) = (0, [0; 5], 1);
     for _ in 0..2 + random.below(14) {
         let book = draw(random);
         if book.statements > 5 || book.exceptions.len() > 5 {
@@ -101,10 +111,10 @@ fn draw_parts(random: &mut Random, draw: fn(&mut Random) -> Book) -> Vec<Book> {
         }
         let count = Meaning::of(&book).resolutions().len();
         let keep_none = count > 0 || random.one_in(30);
-        let together: [usize; 4] = std::array::from_fn(|kind| counts[kind] + book.counts()[kind]);
-        let limits = [PLAIN, EXCEPTIONS, PREFERENCES, CONDITIONALS];
+        let together: [usize; 5] = std::array::from_fn(|kind| counts[kind] + book.counts()[kind]);
+        let limits = [PLAIN, EXCEPTIONS, PREFERENCES, CONDITIONALS, ALTERNATIVES];
         let fits = statements + book.statements <= STATEMENTS
-            && (0..4).all(|kind| together[kind] <= limits[kind])
+            && (0..5).all(|kind| together[kind] <= limits[kind])
             && product * count <= MOST;
         if fits && keep_none {
             statements += book.statements;
@@ -126,6 +136,14 @@ impl Blocks {
     pub fn draw_conditional(random: &mut Random) -> Blocks {
         let mut blocks = Blocks::draw_of(random, any_conditional);
         add_idle(random, &mut blocks.book);
+        blocks
+    }
+
+    /// A random book of parts, most of them with O lines.
+    pub fn draw_alternative(random: &mut Random) -> Blocks {
+        let mut blocks = Blocks::draw_of(random, any_alternative);
+        add_idle(random, &mut blocks.book);
+        add_given(random, &mut blocks.book);
         blocks
     }
 
@@ -187,6 +205,11 @@ impl Blocks {
 /// Adds a part's lines to the whole book.
 fn put_part(whole: &mut Book, book: &Book, part: &Part) {
     whole.plain.extend(book.plain.iter().map(|rule| part.rule(rule)));
+    for line in &book.alternatives {
+        let [needed, barred] = [line.needed, line.barred].map(|entries| entries.map(|entry| part.entry(entry)));
+        let heads = line.heads.map(|head| part.entry(head));
+        whole.alternatives.push(Alternatives { heads, needed, barred });
+    }
     for (own, rule) in book.exceptions.iter().enumerate() {
         whole.exceptions[part.exceptions[own]] = part.rule(rule);
     }
@@ -253,6 +276,21 @@ fn add_idle(random: &mut Random, book: &mut Book) {
         book.conditionals.push(line);
     }
     random.shuffle(&mut book.conditionals);
+}
+
+/// Sometimes fills the O lines up to the limit with some that change nothing: repeats, and lines that need one of their
+/// heads. Then puts them into a random order.
+fn add_given(random: &mut Random, book: &mut Book) {
+    let count = book.alternatives.len();
+    while count > 0 && book.alternatives.len() < ALTERNATIVES && !random.one_in(20) {
+        let mut line = book.alternatives[random.below(count as u64) as usize];
+        if random.one_in(2) {
+            let own = line.heads.into_iter().find(|head| *head != 0).unwrap_or(0);
+            line.needed[random.below(4) as usize] = own;
+        }
+        book.alternatives.push(line);
+    }
+    random.shuffle(&mut book.alternatives);
 }
 
 /// All combinations of the parts' resolutions, in the order of pairs.

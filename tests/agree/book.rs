@@ -1,17 +1,18 @@
-//! A book, a pair and a refusal, as document 01 names them, and of document 02 the Q lines (e).
+//! A book, a pair and a refusal, as document 01 names them, and of document 02 the Q lines (e) and the O lines (g).
 
-/// The most statements, plain rules, exceptions, preferences and preferences under a condition of a book, and the most
-/// bytes of its text.
+/// The most statements, plain rules, exceptions, preferences, preferences under a condition and rules with alternatives
+/// of a book, and the most bytes of its text.
 pub const STATEMENTS: i32 = 48;
 pub const PLAIN: usize = 200;
 pub const EXCEPTIONS: usize = 16;
 pub const PREFERENCES: usize = 32;
 pub const CONDITIONALS: usize = 32;
-pub const TEXT: usize = 9_888;
+pub const ALTERNATIVES: usize = 40;
+pub const TEXT: usize = 11_728;
 
 /// The numbers before the rows of a number table, the most numbers that it can have, and the most bytes of an A line.
-pub const FRONT: usize = 5;
-pub const TABLE: usize = FRONT + 9 * (PLAIN + EXCEPTIONS) + 2 * PREFERENCES + 10 * CONDITIONALS;
+pub const FRONT: usize = 6;
+pub const TABLE: usize = FRONT + 9 * (PLAIN + EXCEPTIONS) + 11 * ALTERNATIVES + 2 * PREFERENCES + 10 * CONDITIONALS;
 pub const LINE: usize = 70 + STATEMENTS as usize;
 
 /// The most exceptions of a book whose A lines have 12 fields for them. In a longer book they have 16.
@@ -40,6 +41,39 @@ impl Rule {
         rule.needed.copy_from_slice(&row[1..5]);
         rule.barred.copy_from_slice(&row[5..9]);
         rule
+    }
+}
+
+/// A plain rule with alternatives, of an O line: at least one of its heads, where its body is satisfied. An unused head
+/// is 0.
+#[derive(Clone, Copy, PartialEq, Eq, Debug)]
+pub struct Alternatives {
+    pub heads: [i32; 3],
+    pub needed: [i32; 4],
+    pub barred: [i32; 4],
+}
+
+impl Alternatives {
+    /// The eleven numbers of the line's row.
+    pub fn row(&self) -> [i32; 11] {
+        let mut row = [0; 11];
+        row[..3].copy_from_slice(&self.heads);
+        row[3..7].copy_from_slice(&self.needed);
+        row[7..].copy_from_slice(&self.barred);
+        row
+    }
+
+    /// The line of a row of eleven numbers.
+    pub fn of_row(row: &[i32]) -> Alternatives {
+        let mut line = Alternatives { heads: [row[0], row[1], row[2]], needed: [0; 4], barred: [0; 4] };
+        line.needed.copy_from_slice(&row[3..7]);
+        line.barred.copy_from_slice(&row[7..11]);
+        line
+    }
+
+    /// How many of its heads are filled.
+    pub fn filled(&self) -> usize {
+        self.heads.iter().filter(|head| **head != 0).count()
     }
 }
 
@@ -75,6 +109,7 @@ impl Conditional {
 pub struct Book {
     pub statements: i32,
     pub plain: Vec<Rule>,
+    pub alternatives: Vec<Alternatives>,
     pub exceptions: Vec<Rule>,
     pub preferences: Vec<[i32; 2]>,
     pub conditionals: Vec<Conditional>,
@@ -86,15 +121,22 @@ impl Book {
         Book {
             statements,
             plain: Vec::new(),
+            alternatives: Vec::new(),
             exceptions: Vec::new(),
             preferences: Vec::new(),
             conditionals: Vec::new(),
         }
     }
 
-    /// How many R, X, P and Q lines the book has.
-    pub fn counts(&self) -> [usize; 4] {
-        [self.plain.len(), self.exceptions.len(), self.preferences.len(), self.conditionals.len()]
+    /// How many R, X, P, Q and O lines the book has, in the order of a table's counts.
+    pub fn counts(&self) -> [usize; 5] {
+        [
+            self.plain.len(),
+            self.exceptions.len(),
+            self.preferences.len(),
+            self.conditionals.len(),
+            self.alternatives.len(),
+        ]
     }
 
     /// How many lines the book has between its first and its last.
@@ -123,9 +165,10 @@ pub struct Pair {
     pub denied: u64,
 }
 
-/// The highest number of a refusal. 20 to 23 are kept for requests to come, and nothing is refused by them.
+/// The highest number of a refusal. 20 and 21 are kept for a request to come, and nothing is refused by them.
 pub const LAST_REFUSAL: usize = 26;
 pub const OF_BOOKS: std::ops::RangeInclusive<usize> = 1..=19;
+pub const OF_ALTERNATIVES: std::ops::RangeInclusive<usize> = 22..=23;
 pub const OF_STORES: std::ops::RangeInclusive<usize> = 24..=26;
 
 /// A refusal of document 01 or 02, by number and line.

@@ -13,6 +13,13 @@ const LISTING: &str = include_str!("../listing.lp");
 const SHOW_PAIR: &str = "#show taken/1. #show held/1. #show -held/1.\n";
 const SHOW_ASPECT: &str = "#show taken/1. #show step/2.\n";
 
+/// What is shown of models is listed once each.
+const PROJECT: &str = "--project=show";
+
+/// By this clingo leaves the rules as they are. Without it, clingo 5.4.1 now and then answers a set that is not founded in
+/// programs with disjunctions; with it, it may answer a set twice. ENCODING.md shows how.
+const UNCHANGED: [&str; 2] = ["--eq=0", PROJECT];
+
 /// The exit status of clingo: as many models as wanted, all models, or none. Any other means that it did not finish.
 const FOUND: i32 = 10;
 const FOUND_ALL: i32 = 30;
@@ -61,6 +68,14 @@ pub fn facts_of(book: &Book) -> String {
     let mut facts = String::new();
     for (place, rule) in book.plain.iter().enumerate() {
         rule_facts(&mut facts, &format!("r({})", place + 1), rule);
+    }
+    for (place, line) in book.alternatives.iter().enumerate() {
+        let name = format!("o({})", place + 1);
+        let _ = write!(facts, "rule({name}).");
+        for head in line.heads.iter().filter(|head| **head != 0) {
+            let _ = write!(facts, " head({name}, {}).", signed(*head));
+        }
+        body_facts(&mut facts, &name, &line.needed, &line.barred);
     }
     for (place, rule) in book.exceptions.iter().enumerate() {
         rule_facts(&mut facts, &format!("x({})", place + 1), rule);
@@ -119,6 +134,15 @@ fn aspect_of(model: &str) -> Result<Aspect, String> {
     Ok(aspect)
 }
 
+/// What clingo is told besides, for a book.
+fn options_for(book: &Book) -> &'static [&'static str] {
+    if book.alternatives.is_empty() {
+        &[]
+    } else {
+        &UNCHANGED
+    }
+}
+
 impl Clingo {
     /// All models, or as many as are wanted (0: all), of a program, read from what is shown of them.
     fn models<T>(
@@ -140,21 +164,22 @@ impl Clingo {
         }
     }
 
-    /// All models, or as many as are wanted (0: all), of a program that shows pairs.
-    fn pairs(&self, program: &str, wanted: usize) -> Result<Vec<Pair>, String> {
-        self.models(program, wanted, &[], pair_of)
+    /// All models, or as many as are wanted (0: all), of a program about a book that shows pairs.
+    fn pairs(&self, book: &Book, program: &str, wanted: usize) -> Result<Vec<Pair>, String> {
+        self.models(program, wanted, options_for(book), pair_of)
     }
 
     /// All views, in the order of pairs.
     pub fn views(&self, book: &Book) -> Result<Vec<Pair>, String> {
-        let mut views = self.pairs(&[VIEWS, SHOW_PAIR, &facts_of(book)].concat(), 0)?;
+        let mut views = self.pairs(book, &[VIEWS, SHOW_PAIR, &facts_of(book)].concat(), 0)?;
         views.sort_by(compare_pairs);
         Ok(views)
     }
 
     /// The aspects of all views, each once.
     pub fn viewed(&self, book: &Book) -> Result<Vec<Aspect>, String> {
-        self.models(&[VIEWS, SHOW_ASPECT, &facts_of(book)].concat(), 0, &["--project=show"], aspect_of)
+        let more = if book.alternatives.is_empty() { &[PROJECT] } else { options_for(book) };
+        self.models(&[VIEWS, SHOW_ASPECT, &facts_of(book)].concat(), 0, more, aspect_of)
     }
 
     /// Views with one of the aspects, which stand by the order of their sets, within a bound, in the order of pairs; no
@@ -166,14 +191,14 @@ impl Clingo {
         let mut sets: Vec<u64> = best.iter().map(|aspect| aspect.taken).collect();
         sets.dedup();
         let given = [facts_of(book), facts_of_aspects(best, &sets), facts_of_bound(book, &sets, bound)].concat();
-        let mut list = self.pairs(&[VIEWS, LISTING, SHOW_PAIR, &given].concat(), wanted)?;
+        let mut list = self.pairs(book, &[VIEWS, LISTING, SHOW_PAIR, &given].concat(), wanted)?;
         list.sort_by(compare_pairs);
         Ok(list)
     }
 
     /// A few views, whichever clingo comes to first.
     pub fn some_views(&self, book: &Book, wanted: usize) -> Result<Vec<Pair>, String> {
-        self.pairs(&[VIEWS, SHOW_PAIR, &facts_of(book)].concat(), wanted)
+        self.pairs(book, &[VIEWS, SHOW_PAIR, &facts_of(book)].concat(), wanted)
     }
 
     /// All resolutions, in the order of pairs.

@@ -10,16 +10,19 @@ use crate::random::Random;
 use crate::text::{line_of, read_table, read_text, table_of, text_of};
 
 /// The bytes that are put in the place of others.
-const BYTES: [u8; 23] = [
-    0, 9, 10, 13, b' ', b'+', b'-', b'.', b'0', b'1', b'4', b'8', b'9', b'B', b'P', b'Q', b'R', b'X', b'Z', b'a', 127,
-    128, 255,
+const BYTES: [u8; 24] = [
+    0, 9, 10, 13, b' ', b'+', b'-', b'.', b'0', b'1', b'4', b'8', b'9', b'B', b'O', b'P', b'Q', b'R', b'X', b'Z', b'a',
+    127, 128, 255,
 ];
 
-/// A book at every limit: 48 statements, 200 R, 16 X, 32 P and 32 Q lines, 9,888 bytes.
+/// A book at every limit: 48 statements, 200 R, 40 O, 16 X, 32 P and 32 Q lines, 11,728 bytes.
 pub fn full_book(random: &mut Random) -> Book {
     let mut maker = Maker::new(random, STATEMENTS, EXCEPTIONS);
     while maker.book.plain.len() < PLAIN {
         maker.random_plain(4, 4);
+    }
+    while maker.book.alternatives.len() < ALTERNATIVES {
+        maker.random_either(4, 4);
     }
     while maker.book.exceptions.len() < EXCEPTIONS {
         maker.random_exception(4, 4);
@@ -135,17 +138,18 @@ pub fn move_lines(checker: &mut Checker, random: &mut Random, text: &[u8]) -> Ou
 /// The last line's number replaced by every other.
 pub fn wrong_counts(checker: &mut Checker, random: &mut Random, text: &[u8]) -> Outcome {
     let rest = &text[..text.len() - 6];
-    for count in -20..300 {
+    for count in -20..340 {
         let changed = [rest, &line_of(b'Z', &[count])].concat();
         compare_text(checker, random, &changed, true)?;
     }
     Ok(())
 }
 
-/// The text of a small book with one R, two X, one P and one Q line.
+/// The text of a small book with one R, one O, two X, one P and one Q line.
 fn short_text(random: &mut Random) -> Vec<u8> {
     let mut maker = Maker::new(random, STATEMENTS, 2);
     maker.random_plain(2, 2);
+    maker.random_either(2, 2);
     maker.random_exception(2, 2);
     maker.random_exception(2, 2);
     maker.prefer(1, 2);
@@ -157,9 +161,9 @@ fn short_text(random: &mut Random) -> Vec<u8> {
 /// others in the second field of R, elsewhere from fewer.
 pub fn spell_fields(checker: &mut Checker, random: &mut Random) -> Outcome {
     let text = short_text(random);
-    // The fields of B, the first, second and last of R, the first and last of X, both of P, the first three and the last
-    // of Q, and that of Z.
-    for place in [1, 5, 11, 15, 43, 49, 81, 125, 129, 135, 139, 143, 171, 177] {
+    // The fields of B, the first, second and last of R, the first three and the last of O, the first and last of X, both
+    // of P, the first three and the last of Q, and that of Z.
+    for place in [1, 5, 11, 15, 43, 49, 53, 57, 89, 95, 127, 171, 175, 181, 185, 189, 217, 223] {
         let alphabet: &[u8] = if place == 15 { b" -0123456789+x" } else { b" -+0149" };
         let mut damaged = text.clone();
         for code in 0..alphabet.len().pow(4) {
@@ -172,11 +176,11 @@ pub fn spell_fields(checker: &mut Checker, random: &mut Random) -> Outcome {
     Ok(())
 }
 
-/// Each of the fields beside each of them, in the first two places of B, R, X and P and in three of Q: what stands in one
-/// field says nothing about the spelling of the other.
+/// Each of the fields beside each of them, in the first two places of B, R, X and P and in three of O and Q: what stands
+/// in one field says nothing about the spelling of the other.
 pub fn spell_neighbours(checker: &mut Checker, random: &mut Random) -> Outcome {
     let text = short_text(random);
-    for place in [1, 11, 49, 125, 135, 139] {
+    for place in [1, 11, 49, 53, 95, 171, 181, 185] {
         let mut damaged = text.clone();
         for first in FIELDS {
             damaged[place..place + 4].copy_from_slice(first);
@@ -222,11 +226,11 @@ pub fn limits(checker: &mut Checker, random: &mut Random) -> Outcome {
 
 /// What a field is replaced by: lawful numbers, numbers out of range, and fields that are refused by 5, by 17 and by
 /// 18, in some of which a later one of these could be found as well.
-pub const FIELDS: [&[u8]; 42] = [
+pub const FIELDS: [&[u8]; 44] = [
     b"   0", b"   1", b"   2", b"   3", b"  12", b"  13", b"  16", b"  17", b"  48", b"  49", b" -48", b" -49",
-    b" 244", b" 245", b" 248", b" 249", b" 280", b" 281", b"9999", b"-999", b"+  1", b"  1\0", b"1 1x", b"01 x",
-    b" - 1", b"-  1", b"  1-", b" --1", b"-   ", b"   -", b"    ", b" 1  ", b"0   ", b"01 1", b"0  0", b"1 -1",
-    b"  01", b" -01", b"0001", b"  00", b" -00", b"  -0",
+    b" 244", b" 245", b" 248", b" 249", b" 280", b" 281", b" 320", b" 321", b"9999", b"-999", b"+  1", b"  1\0",
+    b"1 1x", b"01 x", b" - 1", b"-  1", b"  1-", b" --1", b"-   ", b"   -", b"    ", b" 1  ", b"0   ", b"01 1",
+    b"0  0", b"1 -1", b"  01", b" -01", b"0001", b"  00", b" -00", b"  -0",
 ];
 
 /// Books with so many R, X and P lines, around each limit, each with its last line damaged.
@@ -248,17 +252,19 @@ fn over_limit(checker: &mut Checker, random: &mut Random, full: &Book) -> Outcom
         [0, 0, 1],
     ];
     for [plain, exceptions, preferences] in cases {
-        let lines = lines_at_limit(full, [plain, exceptions, preferences, 0]);
+        let lines = lines_at_limit(full, [plain, exceptions, preferences, 0, 0]);
         damage_last(checker, random, lines, &[b"   0"])?;
     }
     Ok(())
 }
 
-/// The lines of a book with so many R, X, P and Q lines, without its last, from those of a full book.
-pub fn lines_at_limit(full: &Book, [plain, exceptions, preferences, conditionals]: [usize; 4]) -> Vec<Vec<u8>> {
+/// The lines of a book with so many R, X, P, Q and O lines, without its last, from those of a full book.
+pub fn lines_at_limit(full: &Book, counts: [usize; 5]) -> Vec<Vec<u8>> {
+    let [plain, exceptions, preferences, conditionals, alternatives] = counts;
     let between = |place: usize| Conditional { order: [1, 2], ..full.conditionals[place % CONDITIONALS] };
     let mut lines = vec![line_of(b'B', &[1, 48])];
     lines.extend((0..plain).map(|place| line_of(b'R', &full.plain[place % PLAIN].row())));
+    lines.extend((0..alternatives).map(|place| line_of(b'O', &full.alternatives[place % ALTERNATIVES].row())));
     lines.extend((0..exceptions).map(|place| line_of(b'X', &full.exceptions[place % EXCEPTIONS].row())));
     lines.extend((0..preferences).map(|place| line_of(b'P', &[1 + place as i32 % 2, 2])));
     lines.extend((0..conditionals).map(|place| line_of(b'Q', &between(place).row())));
@@ -317,7 +323,7 @@ pub fn damage_line(random: &mut Random, line: &mut Vec<u8>) {
         3 => line[start] = random.pick(&BYTES),
         4 => line.insert(start, b' '),
         5 => drop(line.remove(start)),
-        6 => line[0] = random.pick(b"BRXPQZA"),
+        6 => line[0] = random.pick(b"BROXPQZA"),
         7 | 8 => line[start..start + 4].copy_from_slice(&random_field(random)),
         _ => line[start..start + 4].copy_from_slice(random.pick(&[b"   3", b"  16", b"  -3", b"   2"])),
     }
@@ -394,7 +400,7 @@ pub fn random_bytes(checker: &mut Checker, random: &mut Random) -> Outcome {
 }
 
 /// Numbers that tables get where other numbers were.
-pub const NUMBERS: [i32; 22] = [
+pub const NUMBERS: [i32; 24] = [
     i32::MIN,
     i32::MIN + 1,
     -65_536,
@@ -411,6 +417,8 @@ pub const NUMBERS: [i32; 22] = [
     17,
     32,
     33,
+    40,
+    41,
     48,
     49,
     200,

@@ -6,18 +6,18 @@ use crate::damage::{damage_last, damage_line, fault, full_book, lines_at_limit, 
 use crate::random::Random;
 use crate::text::{line_of, read_text, table_of, text_of};
 
-/// How many R, X, P and Q lines the books have whose last line is damaged.
-const CASES: [[usize; 4]; 10] = [
-    [0, 0, 0, 1],
-    [0, 2, 0, 1],
-    [0, 2, 1, 1],
-    [0, 13, 0, 1],
-    [0, 2, 0, 32],
-    [0, 2, 0, 33],
-    [0, 2, 32, 33],
-    [0, 16, 33, 33],
-    [200, 16, 32, 32],
-    [200, 16, 32, 33],
+/// How many R, X, P, Q and O lines the books have whose last line is damaged.
+const CASES: [[usize; 5]; 10] = [
+    [0, 0, 0, 1, 0],
+    [0, 2, 0, 1, 1],
+    [0, 2, 1, 1, 0],
+    [0, 13, 0, 1, 0],
+    [0, 2, 0, 32, 0],
+    [0, 2, 0, 33, 0],
+    [0, 2, 32, 33, 0],
+    [0, 16, 33, 33, 0],
+    [200, 16, 32, 32, 40],
+    [200, 16, 32, 33, 39],
 ];
 
 /// Texts around the limit of Q lines, each with its last line damaged, also where it names a missing exception; then
@@ -28,15 +28,15 @@ pub fn limits(checker: &mut Checker, random: &mut Random) -> Outcome {
         damage_last(checker, random, lines_at_limit(&full, counts), &[b"   0", b"   3", b"  16"])?;
     }
     short_tables(checker)?;
-    let text = [lines_at_limit(&full, [1, 2, 1, 2]).concat(), line_of(b'Z', &[6])].concat();
+    let text = [lines_at_limit(&full, [1, 2, 1, 2, 1]).concat(), line_of(b'Z', &[7])].concat();
     let book = read_text(&text).expect("the book is accepted");
     damaged_rows(checker, &table_of(&book))
 }
 
-/// Every table of at most six numbers, each of which is one of these.
-fn short_tables(checker: &mut Checker) -> Outcome {
-    const FEW: [i32; 5] = [-1, 0, 1, 33, 49];
-    for length in 0..=6 {
+/// Every table of at most seven numbers, each of which is one of these.
+pub fn short_tables(checker: &mut Checker) -> Outcome {
+    const FEW: [i32; 6] = [-1, 0, 1, 33, 41, 49];
+    for length in 0..=7 {
         for code in 0..FEW.len().pow(length) {
             let number = |place: u32| FEW[code / FEW.len().pow(place) % FEW.len()];
             checker.write(&(0..length).map(number).collect::<Vec<i32>>(), TEXT)?;
@@ -84,7 +84,7 @@ fn fault_of_conditionals(random: &mut Random, lines: &mut Vec<Vec<u8>>) {
     let place = random.pick(&own);
     match random.below(8) {
         0 => lines.insert(random.below(lines.len() as u64) as usize, lines[place].clone()),
-        1 => lines[place][0] = random.pick(b"RXPZq"),
+        1 => lines[place][0] = random.pick(b"ROXPZq"),
         2 => {
             let more = vec![lines[place].clone(); (CONDITIONALS + 1).saturating_sub(own.len())];
             lines.splice(last..last, more);

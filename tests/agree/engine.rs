@@ -13,7 +13,8 @@ struct BookAnswer {
     exceptions: u64,
     preferences: u64,
     conditionals: u64,
-    reserved: [u64; 3],
+    alternatives: u64,
+    reserved: [u64; 2],
 }
 
 #[repr(C)]
@@ -109,8 +110,15 @@ fn found(answer: PairAnswer) -> Result<Option<Pair>, Refusal> {
 /// anything else stops this program.
 pub fn read(text: &[u8], table: &mut [i32]) -> Result<[u64; FRONT], Refusal> {
     let answer = unsafe { bantameasel_read(text.as_ptr(), text.len(), table.as_mut_ptr(), table.len()) };
-    let shape = [answer.statements, answer.plain, answer.exceptions, answer.preferences, answer.conditionals];
-    assert_eq!(answer.reserved, [0; 3], "what is reserved");
+    let shape = [
+        answer.statements,
+        answer.plain,
+        answer.exceptions,
+        answer.preferences,
+        answer.conditionals,
+        answer.alternatives,
+    ];
+    assert_eq!(answer.reserved, [0; 2], "what is reserved");
     let (edition, shape) = unless_refused(answer.refusal, answer.line, (answer.edition, shape))?;
     assert_eq!(edition, 1, "the edition of an accepted book");
     Ok(shape)

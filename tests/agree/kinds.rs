@@ -22,7 +22,7 @@ pub const KINDS: [(&str, Kind); 15] = [
     ("many resolutions", many_resolutions),
     ("stated generator", stated_generator),
     ("sparse orders", sparse_orders),
-    ("alternatives of different sizes", alternatives),
+    ("ways of different sizes to one goal", ways_to_one_goal),
 ];
 
 /// A random small book of the kind with this number: at most 7 statements, and few enough sets to try them all.
@@ -366,7 +366,7 @@ pub fn sparse_orders(maker: &mut Maker) {
 }
 
 /// Several ways to one goal, each by one to three exceptions of its own, so that resolutions differ in how many they take.
-pub fn alternatives(maker: &mut Maker) {
+pub fn ways_to_one_goal(maker: &mut Maker) {
     let goal = maker.n();
     let mut next = 1;
     while next < goal || maker.random.one_in(3) {

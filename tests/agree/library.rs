@@ -21,8 +21,8 @@ pub struct Outcomes {
     /// Books of 13 to 16 exceptions, and those of them of which a resolution takes one past the twelfth.
     pub wide: u64,
     pub past_twelfth: u64,
-    /// The most statements, R, X, P and Q lines.
-    pub largest: [usize; 5],
+    /// The most statements, R, X, P, Q and O lines.
+    pub largest: [usize; 6],
     /// How many answers were compared, where they were counted by kind.
     pub asked: u64,
 }
@@ -39,8 +39,7 @@ impl Outcomes {
         self.most = self.most.max(resolutions.len());
         self.wide += u64::from(book.is_wide());
         self.past_twelfth += u64::from(resolutions.iter().any(|pair| pair.taken >> NARROW != 0));
-        let [plain, exceptions, preferences, conditionals] = book.counts();
-        let shape = [book.statements as usize, plain, exceptions, preferences, conditionals];
+        let shape = [&[book.statements as usize][..], &book.counts()].concat();
         self.largest = std::array::from_fn(|place| self.largest[place].max(shape[place]));
         if resolutions.first().is_some_and(|pair| pair.taken != 0) {
             self.with_exceptions += 1;

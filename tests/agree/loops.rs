@@ -22,6 +22,27 @@ pub fn free_book(random: &mut Random, statements: i32, exceptions: usize) -> Boo
     maker.shuffled()
 }
 
+/// The same where statements are free by O lines, as many as a book may have, some with a head twice; the others are free
+/// by two rules.
+pub fn chosen_book(random: &mut Random, statements: i32) -> Book {
+    let exceptions = random.pick(&[0, 1, 12, 16]);
+    let mut maker = Maker::new(random, statements, exceptions);
+    let mut all: Vec<i32> = (1..=statements).collect();
+    maker.random.shuffle(&mut all);
+    for (place, statement) in all.into_iter().enumerate() {
+        if place < ALTERNATIVES {
+            maker.either(&[statement, -statement], &[], &[]);
+        } else {
+            maker.free(statement);
+        }
+    }
+    for _ in 0..exceptions {
+        maker.random_exception(2, 2);
+    }
+    maker.random_preferences(3);
+    maker.shuffled()
+}
+
 /// The bits of statements 1 to `count`.
 fn all(count: u32) -> u64 {
     (1 << count) - 1

@@ -8,10 +8,14 @@
 //!     agree ways SEED COUNT      `ways`, on so many small and as many larger books
 //!     agree points SEED COUNT    named stopping points alone: so many lists of calls
 //!     agree conditions SEED COUNT   books with Q lines alone, without `ways`
+//!     agree alternatives SEED COUNT   books with O lines alone, without `ways`
+//!     agree encoding SEED COUNT   so many small books with O lines by brute force and by clingo, without the library
 //!
 //! Options: --ways PATH (needed by gate solver, long and ways), --clingo PATH, --save FOLDER.
 //! At the first difference it saves the book or the store, says what differs, and ends with status 1.
 
+mod alternative_sections;
+mod alternatives;
 mod blocks;
 mod book;
 mod clingo;
@@ -19,13 +23,16 @@ mod compare;
 mod conditional_sections;
 mod conditions;
 mod damage;
+mod damaged_alternatives;
 mod damaged_conditions;
 mod damaged_stores;
 mod engine;
 mod going_on;
+mod heads;
 mod kinds;
 mod known;
 mod large;
+mod large_alternatives;
 mod large_conditions;
 mod library;
 mod listing;
@@ -43,6 +50,7 @@ mod readings;
 mod report;
 mod sections;
 mod small_books;
+mod smaller;
 mod solved;
 mod store;
 mod store_examples;
@@ -152,6 +160,10 @@ impl Asked {
     }
 }
 
+/// How this program is used.
+const USE: &str = "use: agree gate library|solver, or \
+    agree long|library|clingo|ways|points|conditions|alternatives|encoding SEED COUNT";
+
 /// The seed of the gate.
 const GATE_SEED: u64 = 1;
 
@@ -167,8 +179,8 @@ fn plan(plain: &[&str]) -> Result<(u64, Counts), String> {
         ["ways", seed, count] => Ok((number(seed)?, Counts::only_ways(number(count)?))),
         ["points", seed, count] => Ok((number(seed)?, Counts::points(number(count)?))),
         ["conditions", seed, count] => Ok((number(seed)?, Counts::conditions(number(count)?))),
-        _ => {
-            Err("use: agree gate library|solver, or agree long|library|clingo|ways|points|conditions SEED COUNT".into())
-        }
+        ["alternatives", seed, count] => Ok((number(seed)?, Counts::alternatives(number(count)?))),
+        ["encoding", seed, count] => Ok((number(seed)?, Counts::encoding(number(count)?))),
+        _ => Err(USE.to_string()),
     }
 }

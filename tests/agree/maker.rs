@@ -73,6 +73,35 @@ impl<'a> Maker<'a> {
         self.plain(0, needed, barred);
     }
 
+    /// Puts at most three heads into three columns: in random places, with gaps, sometimes repeated.
+    fn head_columns(&mut self, heads: &[i32]) -> [i32; 3] {
+        let mut columns = [0; 3];
+        columns[..heads.len()].copy_from_slice(heads);
+        if self.random.one_in(3) {
+            if heads.len() < 3 && self.random.one_in(3) {
+                columns[2] = self.random.pick(heads);
+            }
+            self.random.shuffle(&mut columns);
+        }
+        columns
+    }
+
+    /// Adds a rule with alternatives, of two or three heads.
+    pub fn either(&mut self, heads: &[i32], needed: &[i32], barred: &[i32]) {
+        let heads = self.head_columns(heads);
+        let line = Alternatives { heads, needed: self.columns(needed), barred: self.columns(barred) };
+        if self.book.alternatives.len() < ALTERNATIVES {
+            self.book.alternatives.push(line);
+        }
+    }
+
+    /// Adds a random rule with alternatives with at most so many needed and barred entries.
+    pub fn random_either(&mut self, needed: u64, barred: u64) {
+        let heads: Vec<i32> = (0..self.random.between(2, 3)).map(|_| self.conclusion()).collect();
+        let (needed, barred) = (self.conclusions(needed), self.conclusions(barred));
+        self.either(&heads, &needed, &barred);
+    }
+
     /// Adds an exception.
     pub fn exception(&mut self, head: i32, needed: &[i32], barred: &[i32]) {
         let rule = self.rule(head, needed, barred);
@@ -155,6 +184,7 @@ impl<'a> Maker<'a> {
     /// Puts the lines of each kind into a random order; preferences, under a condition or not, follow their exceptions.
     pub fn shuffled(mut self) -> Book {
         self.random.shuffle(&mut self.book.plain);
+        self.random.shuffle(&mut self.book.alternatives);
         let mut places: Vec<usize> = (0..self.book.exceptions.len()).collect();
         self.random.shuffle(&mut places);
         let old = self.book.exceptions.clone();

@@ -1,14 +1,18 @@
-//! What a small book means. Answer sets, views and ranks are straight from documents 01 and 02 (e), and every set of
+//! What a small book means. Answer sets, views and ranks are straight from documents 01 and 02 (e, g), and every set of
 //! conclusions is tried; but of the exceptions only those are tried that can go with it, and smaller sets and domination
 //! are asked by tables, which rests on reasons given here. plain.rs has none of these, and the two are compared on tiny
 //! books. Nothing here was taken from the engine.
 
 use crate::book::*;
+use crate::smaller;
 use std::cmp::Ordering;
 use std::collections::{BTreeMap, HashSet};
 
 /// The most statements for which every set of conclusions is tried.
 pub const TRIED: i32 = 7;
+
+/// The most conclusions of a set of which every subset is tried.
+const SUBSETS_TRIED: u32 = TRIED as u32;
 
 /// A set of conclusions: statement i is worth 2^(i-1) in each.
 #[derive(Clone, Copy, PartialEq, Eq, Debug)]
@@ -18,29 +22,81 @@ pub struct Conclusions {
 }
 
 impl Conclusions {
-    const NONE: Conclusions = Conclusions { held: 0, denied: 0 };
+    pub const NONE: Conclusions = Conclusions { held: 0, denied: 0 };
 
     /// Whether the conclusion is in the set.
-    fn has(&self, conclusion: i32) -> bool {
+    pub fn has(&self, conclusion: i32) -> bool {
         let side = if conclusion > 0 { self.held } else { self.denied };
         side >> (conclusion.abs() - 1) & 1 == 1
     }
 
     /// Puts the conclusion into the set.
-    fn put(&mut self, conclusion: i32) {
+    pub fn put(&mut self, conclusion: i32) {
         let side = if conclusion > 0 { &mut self.held } else { &mut self.denied };
         *side |= 1 << (conclusion.abs() - 1);
+    }
+
+    /// The conclusions that are in the set.
+    pub fn members(&self) -> Vec<i32> {
+        (1..=STATEMENTS).flat_map(|statement| [statement, -statement]).filter(|own| self.has(*own)).collect()
+    }
+
+    /// All proper subsets.
+    pub fn proper_subsets(&self) -> impl Iterator<Item = Conclusions> {
+        let members = self.members();
+        (0..(1u64 << members.len()) - 1).map(move |chosen| {
+            let mut subset = Conclusions::NONE;
+            members
+                .iter()
+                .enumerate()
+                .filter(|(place, _)| chosen >> place & 1 == 1)
+                .for_each(|(_, own)| subset.put(*own));
+            subset
+        })
     }
 }
 
 /// Every entry that is used is in S.
-fn all_in(entries: &[i32; 4], s: &Conclusions) -> bool {
+pub fn all_in(entries: &[i32; 4], s: &Conclusions) -> bool {
     entries.iter().all(|entry| *entry == 0 || s.has(*entry))
 }
 
 /// No entry that is used is in S.
-fn none_in(entries: &[i32; 4], s: &Conclusions) -> bool {
+pub fn none_in(entries: &[i32; 4], s: &Conclusions) -> bool {
     entries.iter().all(|entry| *entry == 0 || !s.has(*entry))
+}
+
+/// A rule as answer sets see it, of an R, O or X line. A head 0 is none.
+#[derive(Clone, Copy)]
+pub struct Given<'a> {
+    pub heads: &'a [i32],
+    pub needed: &'a [i32; 4],
+    pub barred: &'a [i32; 4],
+}
+
+impl<'a> Given<'a> {
+    fn of_rule(rule: &'a Rule) -> Given<'a> {
+        Given { heads: std::slice::from_ref(&rule.head), needed: &rule.needed, barred: &rule.barred }
+    }
+
+    fn of_alternatives(line: &'a Alternatives) -> Given<'a> {
+        Given { heads: &line.heads, needed: &line.needed, barred: &line.barred }
+    }
+
+    /// Whether the rule is a constraint: it has no head at all.
+    pub fn is_constraint(&self) -> bool {
+        self.heads.iter().all(|head| *head == 0)
+    }
+
+    /// Whether one of its heads is in S.
+    pub fn given_in(&self, s: &Conclusions) -> bool {
+        self.heads.iter().any(|head| *head != 0 && s.has(*head))
+    }
+
+    /// Whether its body is satisfied by S.
+    pub fn satisfied(&self, s: &Conclusions) -> bool {
+        all_in(self.needed, s) && none_in(self.barred, s)
+    }
 }
 
 /// A body is satisfied by S if every needed entry is in S and no barred entry is.
@@ -53,16 +109,24 @@ pub fn counts(line: &Conditional, s: &Conclusions) -> bool {
     all_in(&line.needed, s) && none_in(&line.barred, s)
 }
 
-/// The least set closed under the rules with a head, after the rules with a barred entry in S are dropped
-/// and the other barred entries struck.
-fn least_closed(rules: &[&Rule], s: &Conclusions) -> Conclusions {
-    let kept: Vec<&&Rule> = rules.iter().filter(|rule| rule.head != 0 && none_in(&rule.barred, s)).collect();
+/// The rules with a head, after those with a barred entry in S are dropped; the other barred entries are not looked at.
+pub fn reduct<'a>(rules: &[Given<'a>], s: &Conclusions) -> Vec<Given<'a>> {
+    rules.iter().copied().filter(|rule| !rule.is_constraint() && none_in(rule.barred, s)).collect()
+}
+
+/// At least one head of each rule whose needed entries the set has is in it.
+pub fn closed(reduct: &[Given], set: &Conclusions) -> bool {
+    reduct.iter().all(|rule| !all_in(rule.needed, set) || rule.given_in(set))
+}
+
+/// The least closed set, of rules with one head each.
+fn least_closed(reduct: &[Given]) -> Conclusions {
     let mut closed = Conclusions::NONE;
     loop {
         let before = closed;
-        for rule in &kept {
-            if all_in(&rule.needed, &closed) {
-                closed.put(rule.head);
+        for rule in reduct {
+            if all_in(rule.needed, &closed) {
+                closed.put(rule.heads[0]);
             }
         }
         if closed == before {
@@ -71,16 +135,32 @@ fn least_closed(rules: &[&Rule], s: &Conclusions) -> Conclusions {
     }
 }
 
-/// What follows from the plain rules and those of T step by step, if no barred entry is concluded.
+/// S is closed and no proper subset of S is. Without O lines, S is the least closed set: that is document 01's wording.
+/// Of larger sets, not every subset is tried: smaller.rs looks for one.
+fn is_minimal(reduct: &[Given], s: &Conclusions) -> bool {
+    if reduct.iter().all(|rule| rule.heads.len() == 1) {
+        least_closed(reduct) == *s
+    } else if s.held.count_ones() + s.denied.count_ones() <= SUBSETS_TRIED {
+        closed(reduct, s) && !s.proper_subsets().any(|less| closed(reduct, &less))
+    } else {
+        closed(reduct, s) && !smaller::has_smaller(reduct, s)
+    }
+}
+
+/// What follows from the plain rules and those of T step by step, if no barred entry is concluded and the book has no O
+/// lines.
 pub fn closure(book: &Book, taken: u64) -> Conclusions {
-    least_closed(&rules_with(book, taken), &Conclusions::NONE)
+    least_closed(&reduct(&rules_with(book, taken), &Conclusions::NONE))
+}
+
+/// S satisfies the body of some constraint.
+pub fn breaks(rules: &[Given], s: &Conclusions) -> bool {
+    rules.iter().any(|rule| rule.is_constraint() && rule.satisfied(s))
 }
 
 /// S is an answer set of the rules.
-pub fn is_answer_set(rules: &[&Rule], s: &Conclusions) -> bool {
-    s.held & s.denied == 0
-        && least_closed(rules, s) == *s
-        && !rules.iter().any(|rule| rule.head == 0 && satisfied(rule, s))
+pub fn is_answer_set(rules: &[Given], s: &Conclusions) -> bool {
+    s.held & s.denied == 0 && !breaks(rules, s) && is_minimal(&reduct(rules, s), s)
 }
 
 /// For each exception, counted from 0, the set of those that steps, or chains of steps, lead to from it.
@@ -140,9 +220,11 @@ fn subsets(most: u64) -> impl Iterator<Item = u64> {
     std::iter::successors(Some(most), move |set| set.checked_sub(1).map(|less| less & most))
 }
 
-/// The plain rules with those of T added.
-pub fn rules_with(book: &Book, taken: u64) -> Vec<&Rule> {
-    book.plain.iter().chain(members(taken).map(|number| &book.exceptions[number])).collect()
+/// The plain rules, O lines among them, with those of T added.
+pub fn rules_with(book: &Book, taken: u64) -> Vec<Given<'_>> {
+    let exceptions = members(taken).map(|number| &book.exceptions[number]);
+    let rules = book.plain.iter().chain(exceptions).map(Given::of_rule);
+    rules.chain(book.alternatives.iter().map(Given::of_alternatives)).collect()
 }
 
 /// The order of pairs.
@@ -296,7 +378,8 @@ impl Ranked {
 
     /// All views with these conclusions. Of the exceptions only those are tried whose body they satisfy and whose head
     /// they have: a view satisfies the body of each of its exceptions, and then its answer set has the head. Where all
-    /// of these together do not give the conclusions, fewer do not.
+    /// of these together do not give the conclusions, fewer do not: what fewer rules make minimal, more rules that it is
+    /// closed under make minimal too.
     fn views_with(&self, s: &Conclusions) -> Vec<Pair> {
         let applies = |rule: &Rule| satisfied(rule, s) && s.has(rule.head);
         let places = self.book.exceptions.iter().enumerate();

@@ -1,10 +1,10 @@
 //! Checks of the test program itself: its reading, its order and its meaning against what document 01 states, and
 //! against document 02: the closing line (a), sixteen exceptions (c), misspelt fields (d), preferences under a condition
-//! (e), and named stopping points (h).
+//! (e), heads with alternatives (g), and named stopping points (h).
 
 use crate::book::*;
 use crate::meaning::{compare_pairs, Meaning, Oracle};
-use crate::small_books::{conditional_cases, small_books, SEVENTH_LISTING, SEVENTH_TEXT};
+use crate::small_books::{alternative_cases, conditional_cases, small_books, SEVENTH_LISTING, SEVENTH_TEXT};
 use crate::store_examples;
 use crate::text::*;
 use crate::ways::{listing_of, MOST};
@@ -12,7 +12,7 @@ use crate::ways::{listing_of, MOST};
 /// Every statement of document 01 about its small books, its order and its spelling, on this program's own code.
 pub fn check() -> Result<u64, String> {
     let mut count = 0;
-    for small in small_books().into_iter().chain(conditional_cases()) {
+    for small in small_books().into_iter().chain(conditional_cases()).chain(alternative_cases()) {
         let meaning = Meaning::of(&small.book);
         expect(small.name, meaning.resolutions() == small.resolutions)?;
         for (pair, verdict) in &small.verdicts {
@@ -38,8 +38,10 @@ pub fn check() -> Result<u64, String> {
     check_order_of_fields()?;
     check_conditionals()?;
     check_tables()?;
+    check_alternatives()?;
+    check_tables_of_alternatives()?;
     store_examples::check().or_else(|name| expect(name, false))?;
-    Ok(count + 13)
+    Ok(count + 15)
 }
 
 /// A named expectation.
@@ -83,8 +85,8 @@ fn with_preference(exceptions: usize, order: [i32; 2], last: i32) -> Vec<u8> {
     [line_of(b'B', &[1, 1]), rules, line_of(b'P', &order), line_of(b'Z', &[last])].concat()
 }
 
-/// 16 X are accepted, 17 give 8; P fields up to 16 give 10 where the exception is missing, and 17 gives 6; Z up to 280
-/// is in its range; a text of 9,889 bytes is too long.
+/// 16 X are accepted, 17 give 8; P fields up to 16 give 10 where the exception is missing, and 17 gives 6; Z up to 320
+/// is in its range; a text of 11,729 bytes is too long.
 fn check_exceptions() -> Result<(), String> {
     let read = |exceptions, order, last| read_text(&with_preference(exceptions, order, last));
     let refusal = |number, line| Err(Refusal { number, line });
@@ -92,8 +94,76 @@ fn check_exceptions() -> Result<(), String> {
     expect("17 X", read(17, [1, 1], 18) == refusal(8, 18))?;
     expect("P 13 of 12", read(12, [13, 1], 13) == refusal(10, 14) && read(12, [1, 16], 13) == refusal(10, 14))?;
     expect("P 17", read(16, [17, 1], 17) == refusal(6, 18))?;
-    expect("Z 280", read(1, [1, 1], 280) == refusal(11, 4) && read(1, [1, 1], 281) == refusal(6, 4))?;
-    expect("9,888 bytes", read_text(&[b' '; 9_888]) == Err(refused(2)) && read_text(&[b' '; 9_889]) == Err(refused(1)))
+    expect("Z 320", read(1, [1, 1], 320) == refusal(11, 4) && read(1, [1, 1], 321) == refusal(6, 4))?;
+    let spaces = |bytes: usize| read_text(&vec![b' '; bytes]);
+    expect("11,728 bytes", spaces(11_728) == Err(refused(2)) && spaces(11_729) == Err(refused(1)))
+}
+
+/// The text of a book of three statements and so many R lines, with so many O lines, then these lines, and this number in
+/// its last line.
+fn with_alternatives(plain: usize, count: usize, more: &str, last: i32) -> Vec<u8> {
+    let rules = vec![line_of(b'R', &[0, 1, 0, 0, 0, 0, 0, 0, 0]); plain].concat();
+    let lines = vec![line_of(b'O', &[1, 2, 0, 0, 0, 0, 0, 0, 0, 0, 0]); count].concat();
+    [line_of(b'B', &[1, 3]), rules, lines, more.as_bytes().to_vec(), line_of(b'Z', &[last])].concat()
+}
+
+/// An O line has 46 bytes and stands after the R lines and before the X lines. 40 are accepted; the 41st gives 22, after
+/// its length and its fields and before its 23. Heads lie in -n to n; two of them must be filled, the same one twice too,
+/// with a gap too, +i and -i too.
+fn check_alternatives() -> Result<(), String> {
+    let read = |plain, count, line: &str, last| {
+        let read = read_text(&with_alternatives(plain, count, line, last));
+        read.map(|book| book.alternatives.len()).map_err(|refusal| (refusal.number, refusal.line))
+    };
+    let zeros = "   0".repeat(8);
+    let line = |heads: &str| format!("O{heads}{zeros}\n");
+    let one = |heads: &str| read(0, 0, &line(heads), 1);
+    expect("40 O", read(200, 40, "", 240) == Ok(40))?;
+    expect("41 O", read(0, 40, &line("   1   2   0"), 41) == Err((22, 42)))?;
+    expect("22 before 23", read(0, 40, &line("   0   2   0"), 41) == Err((22, 42)))?;
+    expect("6 before 22", read(0, 40, &line("   1   2   4"), 41) == Err((6, 42)))?;
+    expect("17 before 22", read(0, 40, &line("   1   2    "), 41) == Err((17, 42)))?;
+    expect("4 before 22", read(0, 40, &line("   1   2"), 41) == Err((4, 42)))?;
+    expect("R after O", read(0, 1, &line("   1").replace('O', "R"), 2) == Err((3, 3)))?;
+    expect(
+        "O after X",
+        read(0, 1, &format!("{}{}", line("   1").replace('O', "X"), line("   1   2   0")), 3) == Err((3, 4)),
+    )?;
+    expect("X after O", read(0, 1, &line("   1").replace('O', "X"), 2) == Ok(1))?;
+    expect("no head", one("   0   0   0") == Err((23, 2)))?;
+    expect("one head", one("   0   0  -3") == Err((23, 2)) && one("   2   0   0") == Err((23, 2)))?;
+    expect("two heads with a gap", one("   1   0   2") == Ok(1) && one("   0   1   2") == Ok(1))?;
+    expect("the same head twice", one("   1   1   0") == Ok(1) && one("  -3  -3  -3") == Ok(1))?;
+    expect("both signs", one("   1  -1   0") == Ok(1))?;
+    expect("6 before 23", one("   4   0   0") == Err((6, 2)) && one("   0   0  -4") == Err((6, 2)))?;
+    expect("18 before 23", one("   0   0  -0") == Err((18, 2)))?;
+    expect("23 before a wrong Z", read(0, 0, &line("   1   0   0"), 9) == Err((23, 2)))?;
+    expect("an O line of Z's count", read(1, 1, "", 1) == Err((11, 4)))
+}
+
+/// The number table of a book with an O line: n, five counts of which that of O lines is the last, and the O row behind
+/// the R rows. Under six numbers are 16; a count out of range is 8 and never 22; a row's 6 comes before its 23, and each
+/// carries its line.
+fn check_tables_of_alternatives() -> Result<(), String> {
+    let more = "O   3   0  -1   2   0   0   0   0   0   0  -3\nX   1   0   0   0   0   0   0   0   0\nP   1   1\n";
+    let text = with_alternatives(2, 0, more, 5);
+    let table = table_of(&read_text(&text).expect("the book is accepted"));
+    let read = |places: &[(usize, i32)]| {
+        let mut table = table.clone();
+        places.iter().for_each(|(place, number)| table[*place] = *number);
+        read_table(&table).map_err(|refusal| (refusal.number, refusal.line)).err()
+    };
+    let row = [3, 0, -1, 2, 0, 0, 0, 0, 0, 0, -3];
+    expect("six numbers before the rows", table[..6] == [3, 2, 1, 1, 0, 1] && table.len() == 6 + 18 + 11 + 9 + 2)?;
+    expect("the O row behind the R rows", table[24..35] == row && table[35..44] == [1, 0, 0, 0, 0, 0, 0, 0, 0])?;
+    expect("five numbers", read_table(&[3; 5]) == Err(refused(16)) && read_table(&[3, 0, 0, 0, 0, 0]).is_ok())?;
+    expect("an O count of 41", read(&[(5, 41)]) == Some((8, 1)) && read(&[(5, -1)]) == Some((8, 1)))?;
+    expect("an O count of 2", read(&[(5, 2)]) == Some((16, 0)) && read(&[(5, 0)]) == Some((16, 0)))?;
+    expect("an O row's 23", read(&[(24, 0)]) == Some((23, 4)) && read(&[(26, 0)]) == Some((23, 4)))?;
+    expect("an O row's 6 before its 23", read(&[(24, 0), (34, 4)]) == Some((6, 4)))?;
+    expect("an O row before an X row", read(&[(24, 0), (35, 0)]) == Some((23, 4)) && read(&[(35, 0)]) == Some((9, 5)))?;
+    expect("an R row before an O row", read(&[(6, 4), (24, 0)]) == Some((6, 2)))?;
+    expect("the text again", read_table(&table).map(|book| text_of(&book)) == Ok(text))
 }
 
 /// The text of a book of three statements and two exceptions with so many Q lines, then these lines, and this number in
@@ -131,8 +201,8 @@ fn check_conditionals() -> Result<(), String> {
     expect("a Q line of Z's count", read(1, "", 2) == Err((11, 5)))
 }
 
-/// The number table of a book with a Q line: n, four counts, and the Q row last. Under five numbers are 16; a count out
-/// of range is 8 and never 19; a row's 6 comes before its 10.
+/// The number table of a book with a Q line: n, five counts, and the Q row last. A count out of range is 8 and never 19;
+/// a row's 6 comes before its 10.
 fn check_tables() -> Result<(), String> {
     let text = with_conditionals(0, "P   2   1\nQ   1   2   3  -3   0   0   0   0   0  -1\n", 4);
     let table = table_of(&read_text(&text).expect("the book is accepted"));
@@ -142,13 +212,12 @@ fn check_tables() -> Result<(), String> {
         read_table(&table).map_err(|refusal| (refusal.number, refusal.line)).err()
     };
     let row = [1, 2, 3, -3, 0, 0, 0, 0, 0, -1];
-    expect("five numbers before the rows", table[..5] == [3, 0, 2, 1, 1] && table.len() == 5 + 18 + 2 + 10)?;
-    expect("the Q row last", table[23..25] == [2, 1] && table[25..] == row)?;
-    expect("four numbers", read_table(&[3, 0, 0, 0]) == Err(refused(16)) && read_table(&[3, 0, 0, 0, 0]).is_ok())?;
+    expect("the numbers before the rows", table[..6] == [3, 0, 2, 1, 1, 0] && table.len() == 6 + 18 + 2 + 10)?;
+    expect("the Q row last", table[24..26] == [2, 1] && table[26..] == row)?;
     expect("a Q count of 33", read(4, 33) == Some((8, 1)) && read(4, -1) == Some((8, 1)))?;
     expect("a Q count of 2", read(4, 2) == Some((16, 0)))?;
-    expect("a Q row's 10", read(25, 16) == Some((10, 5)) && read(25, 17) == Some((6, 5)))?;
-    expect("a Q row's 6", read(27, 4) == Some((6, 5)) && read(34, -4) == Some((6, 5)))?;
+    expect("a Q row's 10", read(26, 16) == Some((10, 5)) && read(26, 17) == Some((6, 5)))?;
+    expect("a Q row's 6", read(28, 4) == Some((6, 5)) && read(35, -4) == Some((6, 5)))?;
     expect("the text again", read_table(&table).map(|book| text_of(&book)) == Ok(text))
 }
 

@@ -1,10 +1,14 @@
 //! What a tiny book means, read plainly: every set of exceptions with every set of conclusions, and every pair against
-//! every view, line by line as documents 01 and 02 (e) say it. meaning.rs, which the engine is compared with, is compared
-//! with this.
+//! every view, line by line as documents 01 and 02 (e, g) say it. meaning.rs, which the engine is compared with, is
+//! compared with this.
 
 use crate::book::{Book, Pair};
-use crate::meaning::{compare_pairs, conclusions, consistent_sets, counts, Meaning, Oracle, Ranked};
+use crate::meaning::{
+    breaks, closed, compare_pairs, conclusions, consistent_sets, counts, reduct, rules_with, Conclusions, Meaning,
+    Oracle, Ranked,
+};
 use crate::pairs::all_lawful;
+use crate::smaller;
 
 /// The most statements and exceptions of a tiny book.
 pub const MOST_STATEMENTS: i32 = 3;
@@ -43,6 +47,22 @@ pub fn lead(steps: &[Step], above: u64, below: u64) -> bool {
     reached & below != 0
 }
 
+/// S is an answer set of the plain rules with those of T added, in the words of request (g), for every book: with barred
+/// entries removed, S is closed and no proper subset of S is; and it satisfies no constraint's body.
+fn is_answer(book: &Book, taken: u64, s: &Conclusions) -> bool {
+    let rules = rules_with(book, taken);
+    let reduct = reduct(&rules, s);
+    closed(&reduct, s) && !s.proper_subsets().any(|less| closed(&reduct, &less)) && !breaks(&rules, s)
+}
+
+/// Looking for a smaller closed set says the same as trying all subsets.
+fn same_smaller(book: &Book, pair: &Pair) -> bool {
+    let (rules, s) = (rules_with(book, pair.taken), conclusions(pair));
+    let reduct = reduct(&rules, &s);
+    let tried = s.proper_subsets().any(|less| closed(&reduct, &less));
+    !closed(&reduct, &s) || smaller::has_smaller(&reduct, &s) == tried
+}
+
 impl Plain {
     fn of(book: &Book) -> Plain {
         let mut plain = Plain { ranked: Ranked::of(book), views: Vec::new(), resolutions: Vec::new() };
@@ -62,7 +82,7 @@ impl Plain {
     /// The first of the verdicts 1 to 3 that applies to a lawful pair, else 0: the pair is a view.
     fn verdict_alone(&self, pair: &Pair) -> u32 {
         let s = conclusions(pair);
-        if !self.ranked.is_answer(pair.taken, &s) {
+        if !is_answer(&self.ranked.book, pair.taken, &s) {
             1
         } else if lead(&ranking(&self.ranked.book, pair), pair.taken, pair.taken) {
             2
@@ -111,6 +131,9 @@ pub fn compare(book: &Book) -> Result<(), String> {
     if plain.resolutions() != meaning.resolutions() {
         let (one, other) = (plain.resolutions(), meaning.resolutions());
         return Err(format!("resolutions read plainly {one:?}, otherwise {other:?}"));
+    }
+    if let Some(pair) = all_lawful(book).into_iter().find(|pair| !same_smaller(book, pair)) {
+        return Err(format!("{pair:?}: a smaller closed set is looked for wrongly"));
     }
     match all_lawful(book).into_iter().find(|pair| plain.verdict(pair) != meaning.verdict(pair)) {
         Some(pair) => {

@@ -1,11 +1,15 @@
 //! What a run prints at its end, and what it must have met.
 
-use crate::book::{OF_BOOKS, OF_STORES};
+use crate::alternative_sections as alternative;
+use crate::alternatives;
+use crate::book::{OF_ALTERNATIVES, OF_BOOKS, OF_STORES};
 use crate::compare::OPERATIONS;
 use crate::conditional_sections::Met;
 use crate::conditions;
+use crate::heads;
 use crate::kinds::KINDS;
 use crate::large;
+use crate::large_alternatives;
 use crate::large_conditions;
 use crate::library::Outcomes;
 use crate::points::Stored;
@@ -19,8 +23,10 @@ pub fn print(run: &Run) {
     let calls: Vec<String> =
         OPERATIONS.iter().zip(tally.calls).map(|(name, count)| format!("{name} {count}")).collect();
     println!("compared: {}", calls.join(", "));
-    let [of_books, of_stores] = [OF_BOOKS, OF_STORES].map(|numbers| &tally.refusals[numbers]);
-    println!("refusals 1 to 19: {of_books:?}; 24 to 26: {of_stores:?}; verdicts 0 to 5: {:?}", tally.verdicts);
+    let [of_books, of_alternatives, of_stores] =
+        [OF_BOOKS, OF_ALTERNATIVES, OF_STORES].map(|numbers| &tally.refusals[numbers]);
+    println!("refusals 1 to 19: {of_books:?}; 22 and 23: {of_alternatives:?}; 24 to 26: {of_stores:?}");
+    println!("verdicts 0 to 5: {:?}", tally.verdicts);
     println!("First and After: {} pairs, {} Ends", tally.pairs, tally.ends);
     println!("Line: {} with 12 fields, {} with 16", tally.lines[0], tally.lines[1]);
     let walked = &run.walked;
@@ -35,6 +41,7 @@ pub fn print(run: &Run) {
     }
     print_stored(&run.stored);
     print_told_apart(&run.conditional);
+    print_judged_apart(&run.alternative);
     print_outcomes(run);
 }
 
@@ -47,6 +54,20 @@ fn print_told_apart(met: &Met) {
             "books with Q lines read in other ways: {}, listed otherwise by {}",
             met.read_otherwise,
             told.join(", ")
+        );
+    }
+}
+
+/// Prints in how many books a pair would be judged otherwise by each of the other readings of request (g).
+fn print_judged_apart(met: &alternative::Met) {
+    if met.read_otherwise > 0 {
+        let told: Vec<String> =
+            heads::names().iter().zip(met.told_apart).map(|(name, count)| format!("{name} {count}")).collect();
+        println!(
+            "books with O lines read in other ways: {}, judged otherwise by {}; {} with two heads of a line",
+            met.read_otherwise,
+            told.join(", "),
+            met.two_heads
         );
     }
 }
@@ -73,9 +94,9 @@ fn print_stored(stored: &Stored) {
 fn print_outcomes(run: &Run) {
     println!("books by kind: all, without a resolution, with one, with several (at most), in need of exceptions,");
     println!(
-        "  with exceptions and no need, of 13 to 16 exceptions (taking one past the twelfth), [most n, R, X, P, Q],"
+        "  with exceptions and no need, of 13 to 16 exceptions (taking one past the twelfth), [most n, R, X, P, Q, O],"
     );
-    println!("  and for books with Q lines the answers compared");
+    println!("  and for books with Q or O lines the answers compared");
     let small = KINDS.iter().map(|(name, _)| *name).chain(["many parts", "one statement"]).zip(&run.outcomes);
     let large = large::KINDS.iter().map(|(name, _)| *name).chain(["known views"]).zip(&run.large);
     for (name, seen) in small {
@@ -88,6 +109,21 @@ fn print_outcomes(run: &Run) {
         print_kind("large", name, seen);
     }
     print_conditional(&run.conditional);
+    print_alternative(&run.alternative);
+}
+
+/// Prints what the books with O lines were like, kind by kind.
+fn print_alternative(met: &alternative::Met) {
+    let small = alternatives::KINDS.iter().map(|(name, _)| *name).chain(["one statement", "many parts"]);
+    for (name, seen) in small.zip(&met.small) {
+        print_kind("O small", name, seen);
+    }
+    for ((name, _), seen) in wide::KINDS.iter().zip(&met.wide) {
+        print_kind("O wide", name, seen);
+    }
+    for ((name, _), seen) in large_alternatives::KINDS.iter().zip(&met.large) {
+        print_kind("O large", name, seen);
+    }
 }
 
 /// Prints what the books with Q lines were like, kind by kind.
@@ -130,6 +166,12 @@ pub fn all_met(run: &Run, counts: &Counts) -> Result<(), Failure> {
     }
     if counts.conditional.small >= 500 {
         needed.extend(needed_readings(run));
+    }
+    if counts.alternative.small >= 500 || counts.alternative.by_clingo >= 500 {
+        needed.extend(needed_heads(run));
+    }
+    if counts.alternative.faulty >= 500 {
+        needed.push(("22 or 23", least(&run.checker.tally.refusals[OF_ALTERNATIVES])));
     }
     if counts.lists >= 500 {
         needed.extend(needed_stores(run));
@@ -186,6 +228,19 @@ fn needed_readings(run: &Run) -> [(&'static str, u64); 4] {
         ("a kind of book with Q lines", outcomes.clone().map(|seen| seen.books).min().unwrap_or(0)),
         ("a book with Q lines and several resolutions", outcomes.clone().map(|seen| seen.several).sum()),
         ("a book with Q lines that takes an exception past the twelfth", outcomes.map(|seen| seen.past_twelfth).sum()),
+    ]
+}
+
+/// What books with O lines must have told from other readings, and what they must have had.
+fn needed_heads(run: &Run) -> [(&'static str, u64); 5] {
+    let met = &run.alternative;
+    let outcomes = met.small.iter().chain(&met.wide);
+    [
+        ("a book in which another reading of O lines judges otherwise", least(&met.told_apart)),
+        ("a resolution with two heads of a line", met.two_heads),
+        ("a book with O lines and without a resolution", outcomes.clone().map(|seen| seen.none).sum()),
+        ("a book with O lines and several resolutions", outcomes.clone().map(|seen| seen.several).sum()),
+        ("a book with O lines in need of exceptions", outcomes.map(|seen| seen.with_exceptions).sum()),
     ]
 }
 

@@ -1,5 +1,6 @@
 //! The sections of a run: what is compared, how often, and what is printed about it.
 
+use crate::alternative_sections as alternative;
 use crate::blocks::Blocks;
 use crate::book::{Book, Pair, TEXT};
 use crate::clingo::Clingo;
@@ -55,8 +56,9 @@ pub struct Counts {
     pub moved: u64,
     pub stores: u64,
     pub named: u64,
-    /// The sections on books with Q lines.
+    /// The sections on books with Q lines, and on those with O lines.
     pub conditional: conditional::Counts,
+    pub alternative: alternative::Counts,
 }
 
 impl Counts {
@@ -91,6 +93,20 @@ impl Counts {
                 listings: 700,
                 ..conditional::Counts::default()
             },
+            alternative: alternative::Counts {
+                plain_tiny: 100_000,
+                plain_small: 3_400,
+                tiny: 4_000,
+                small: 6_800,
+                wide: 70,
+                blocks: 300,
+                free: 6,
+                limits: 1,
+                faulty: 17_000,
+                lengths: 34,
+                listings: 850,
+                ..alternative::Counts::default()
+            },
             ..none()
         }
     }
@@ -99,7 +115,8 @@ impl Counts {
     pub fn gate_solver() -> Counts {
         let conditional =
             conditional::Counts { by_clingo: 224, large: 180, known: 12, ways: 224, ..Default::default() };
-        Counts { by_clingo: 300, large: 504, known: 24, ways: 450, conditional, ..none() }
+        let alternative = alternative::Counts { by_clingo: 272, large: 234, ways: 272, ..Default::default() };
+        Counts { by_clingo: 300, large: 504, known: 24, ways: 450, conditional, alternative, ..none() }
     }
 
     /// A long run of so many small books.
@@ -108,7 +125,8 @@ impl Counts {
         let (by_clingo, large, known, ways) = (part(50), part(100), part(1_000), part(50));
         let library = Counts::library(count);
         let conditional = conditional::Counts { by_clingo, large, known, ways, ..library.conditional };
-        Counts { by_clingo, large, known, ways, conditional, ..library }
+        let alternative = alternative::Counts { by_clingo, large, ways, ..library.alternative };
+        Counts { by_clingo, large, known, ways, conditional, alternative, ..library }
     }
 
     /// A run of the library alone.
@@ -139,6 +157,20 @@ impl Counts {
                 listings: part(5),
                 ..conditional::Counts::default()
             },
+            alternative: alternative::Counts {
+                plain_tiny: count,
+                plain_small: count,
+                tiny: count,
+                small: count,
+                wide: part(50).max(30),
+                blocks: part(20),
+                free: part(500),
+                limits: part(50_000),
+                faulty: count,
+                lengths: part(500),
+                listings: part(5),
+                ..alternative::Counts::default()
+            },
             ..Counts::points(count)
         }
     }
@@ -155,16 +187,31 @@ impl Counts {
         Counts { conditional, ..none() }
     }
 
+    /// Books with O lines alone.
+    pub fn alternatives(count: u64) -> Counts {
+        let alternative = alternative::Counts { ways: 0, ..Counts::long(count).alternative };
+        Counts { alternative, ..none() }
+    }
+
+    /// Small books with O lines by brute force and by clingo, without the library.
+    pub fn encoding(count: u64) -> Counts {
+        let alternative =
+            alternative::Counts { plain_tiny: count, plain_small: count, by_clingo: count, ..Default::default() };
+        Counts { alternative, ..none() }
+    }
+
     /// Larger books by clingo alone.
     pub fn clingo(count: u64) -> Counts {
         let conditional = conditional::Counts { by_clingo: count, large: count, ..Default::default() };
-        Counts { by_clingo: count, large: count, conditional, ..none() }
+        let alternative = alternative::Counts { by_clingo: count, large: count, ..Default::default() };
+        Counts { by_clingo: count, large: count, conditional, alternative, ..none() }
     }
 
     /// `ways` alone, on so many small books and as many larger ones.
     pub fn only_ways(count: u64) -> Counts {
         let conditional = conditional::Counts { ways: count, large: count, known: count / 10, ..Default::default() };
-        Counts { ways: count, large: count, known: count / 10, conditional, ..none() }
+        let alternative = alternative::Counts { ways: count, large: count, ..Default::default() };
+        Counts { ways: count, large: count, known: count / 10, conditional, alternative, ..none() }
     }
 }
 
@@ -206,6 +253,7 @@ pub struct Run {
     pub ways_skipped: u64,
     pub stored: Stored,
     pub conditional: Met,
+    pub alternative: alternative::Met,
 }
 
 /// Outcomes of so many kinds of book, before any came up.
@@ -235,6 +283,7 @@ impl Run {
             ways_skipped: 0,
             stored: Stored::default(),
             conditional: Met::nothing(),
+            alternative: alternative::Met::nothing(),
         }
     }
 
@@ -273,6 +322,7 @@ impl Run {
         self.section("ways on K7, long texts and 9,999 lines", counts.ways.min(1), Run::ways_once)?;
         self.section("ways on listings that fill whole parts", counts.ways.min(1), Run::ways_parts)?;
         self.conditional_sections(&counts.conditional)?;
+        self.alternative_sections(&counts.alternative)?;
         report::print(self);
         report::all_met(self, counts)
     }
@@ -296,6 +346,26 @@ impl Run {
         self.section("Q lines: larger books against clingo", counts.large, conditional::large_books)?;
         self.section("Q lines: books whose views are known", counts.known, conditional::known_books)?;
         self.section("Q lines: ways on small books and faulty texts", counts.ways, conditional::ways_small)
+    }
+
+    /// The sections on books with O lines, in order.
+    fn alternative_sections(&mut self, counts: &alternative::Counts) -> Result<(), Failure> {
+        self.section("O lines: cases of request (g)", counts.small.min(1), alternative::cases)?;
+        let [plain_tiny, tiny] = [counts.plain_tiny, counts.tiny].map(|count| count.min(tiny::ALTERNATIVE));
+        self.section("O lines: two readings of books of one statement", plain_tiny, alternative::plain_tiny)?;
+        self.section("O lines: two readings of random small books", counts.plain_small, alternative::plain_small)?;
+        self.section("O lines: books of one statement", tiny, alternative::one_statement)?;
+        self.section("O lines: random small books", counts.small, alternative::small)?;
+        self.section("O lines: small books of 12 to 16 exceptions", counts.wide, alternative::wide_books)?;
+        self.section("O lines: books of many parts, to 48 statements", counts.blocks, alternative::blocks)?;
+        self.section("O lines: choices, pages to 10,000", counts.free, alternative::free)?;
+        self.section("O lines: limits", counts.limits, alternative::limits)?;
+        self.section("O lines: texts and tables with several faults", counts.faulty, alternative::faulty)?;
+        self.section("O lines: every length of lent buffers", counts.lengths, alternative::lengths)?;
+        self.section("O lines: lists of calls, refused ones among them", counts.listings, alternative::listings)?;
+        self.section("O lines: brute force against clingo", counts.by_clingo, alternative::by_clingo)?;
+        self.section("O lines: larger books against clingo", counts.large, alternative::large_books)?;
+        self.section("O lines: ways on small books and faulty texts", counts.ways, alternative::ways_small)
     }
 
     /// Runs one section for each place below the count, and prints what it did and how long it took.
@@ -507,7 +577,7 @@ impl Run {
         self.ways_on(&text, &listing_of(book, meaning.resolutions(), false))?;
         let mut faulty = text.clone();
         let spot = random.below(faulty.len() as u64) as usize;
-        faulty[spot] = random.pick(b"\n\0RXPZ90-+ ");
+        faulty[spot] = random.pick(b"\n\0ROXPZ90-+ ");
         self.ways_refuses(&faulty)
     }
 

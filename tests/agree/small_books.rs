@@ -1,7 +1,8 @@
 //! The small books K1 to K14 of document 01, with the resolutions and verdicts that it names, two worked examples of
-//! source document 000, with the views and the answer sets that it names, and cases of request (e), worked by hand.
+//! source document 000, with the views and the answer sets that it names, and cases of requests (e) and (g), worked by
+//! hand.
 
-use crate::book::{Book, Conditional, Pair, Rule};
+use crate::book::{Alternatives, Book, Conditional, Pair, Rule};
 
 /// A small book: its name, its book, its resolutions in order, verdicts on pairs, and its views where they are named.
 pub struct SmallBook {
@@ -65,12 +66,102 @@ impl SmallBook {
         self
     }
 
+    /// Adds the O line "one of the heads if needed, not barred".
+    fn or(mut self, heads: [i32; 3], needed: &[i32], barred: &[i32]) -> SmallBook {
+        let Rule { needed, barred, .. } = rule(0, needed, barred);
+        self.book.alternatives.push(Alternatives { heads, needed, barred });
+        self
+    }
+
     /// Adds the Q line "a before b if needed, not barred".
     fn under(mut self, order: [i32; 2], needed: &[i32], barred: &[i32]) -> SmallBook {
         let Rule { needed, barred, .. } = rule(0, needed, barred);
         self.book.conditionals.push(Conditional { order, needed, barred });
         self
     }
+}
+
+/// The book of so many statements with O lines of these heads alone.
+fn either(name: &'static str, statements: i32, lines: &[[i32; 3]]) -> SmallBook {
+    lines.iter().fold(small(name, statements, vec![], vec![], &[]), |book, heads| book.or(*heads, &[], &[]))
+}
+
+/// Cases of request (g): what an O line means alone, and one for each sentence of it that can be read in two ways.
+pub fn alternative_cases() -> Vec<SmallBook> {
+    let [one, two, both] = [pair(&[1], &[]), pair(&[2], &[]), pair(&[1, 2], &[])];
+    let given_by_each_other = vec![rule(2, &[1], &[]), rule(1, &[2], &[])];
+    vec![
+        either("one of two", 2, &[[1, 2, 0]]).resolves(&[two, one]).judges(&[1, 2], &[], 1).judges(&[], &[], 1),
+        either("one of two, with a gap", 2, &[[0, 1, 2]]).resolves(&[two, one]),
+        either("one of three", 3, &[[3, 1, 2]]).resolves(&[pair(&[3], &[]), two, one]).judges(&[1, 3], &[], 1),
+        either("held or denied", 1, &[[1, 0, -1]]).resolves(&[one, pair(&[-1], &[])]),
+        either("the same head twice", 1, &[[1, 1, 0]]).resolves(&[one]).judges(&[], &[], 1),
+        either("two lines that share a head", 3, &[[1, 2, 0], [3, 2, 0]])
+            .resolves(&[two, pair(&[1, 3], &[])])
+            .judges(&[1, 2], &[], 1)
+            .judges(&[2, 3], &[], 1),
+        small("two heads that need each other", 2, given_by_each_other, vec![], &[])
+            .or([1, 2, 0], &[], &[])
+            .resolves(&[both])
+            .judges(&[1], &[], 1)
+            .judges(&[], &[], 1),
+        both_by_a_third(),
+        line_of_a_line(),
+        barred_by_its_head(),
+        without_need(),
+        left_over(),
+    ]
+}
+
+/// Whichever of 1 and 2 there is, 3 follows, and from 3 both: all three, though no two heads need each other directly.
+fn both_by_a_third() -> SmallBook {
+    let plain = vec![rule(3, &[1], &[]), rule(3, &[2], &[]), rule(1, &[3], &[]), rule(2, &[3], &[])];
+    small("both, by a third", 3, plain, vec![], &[])
+        .or([1, 2, 0], &[], &[])
+        .resolves(&[pair(&[1, 2, 3], &[])])
+        .judges(&[1, 3], &[], 1)
+        .judges(&[1, 2], &[], 1)
+}
+
+/// The second line needs a head of the first; with -1 there is nothing to choose.
+fn line_of_a_line() -> SmallBook {
+    small("a line that needs a head of another", 3, vec![], vec![], &[])
+        .or([1, -1, 0], &[], &[])
+        .or([2, 3, 1], &[1], &[])
+        .or([2, 3, 0], &[1], &[])
+        .resolves(&[pair(&[1, 3], &[]), pair(&[1, 2], &[]), pair(&[-1], &[])])
+        .judges(&[1], &[], 1)
+        .judges(&[1, 2, 3], &[], 1)
+}
+
+/// A line that bars its own head: with the head there, the line is dropped and nothing gives it.
+fn barred_by_its_head() -> SmallBook {
+    small("a line that bars one of its heads", 2, vec![], vec![], &[])
+        .or([1, 2, 0], &[], &[1])
+        .resolves(&[pair(&[2], &[])])
+        .judges(&[1], &[], 1)
+        .judges(&[1, 2], &[], 1)
+}
+
+/// Example of request (i): the plain rules have answer sets, so no exception is taken, whatever the preferences.
+fn without_need() -> SmallBook {
+    small("alternatives and no need", 2, vec![], vec![rule(-1, &[], &[])], &[[1, 1]])
+        .or([1, 2, 0], &[], &[])
+        .resolves(&[pair(&[2], &[]), pair(&[1], &[])])
+        .judges(&[-1, 2], &[1], 2)
+}
+
+/// Three heads under a barred entry, none of them allowed but the third, and this one only with -4; exception 1 lifts the
+/// line, exception 2 allows the third head, and 1 comes before 2.
+fn left_over() -> SmallBook {
+    let plain = vec![constraint(&[1], &[]), constraint(&[2], &[]), constraint(&[3], &[-4])];
+    small("alternatives, exceptions and a preference", 4, plain, vec![rule(4, &[], &[]), rule(-4, &[], &[])], &[[1, 2]])
+        .or([1, 2, 3], &[], &[4])
+        .resolves(&[pair(&[4], &[1])])
+        .judges(&[3, -4], &[2], 4)
+        .judges(&[3, 4], &[1], 1)
+        .judges(&[1, -4], &[2], 1)
+        .judges(&[3], &[], 1)
 }
 
 /// Cases of request (e): the one that it states, and one for each sentence of it that can be read in two ways.

@@ -1,11 +1,11 @@
 //! Reading and writing of texts, number tables and A lines, straight from document 01, and of document 02 the three
-//! refusals of misspelt fields (d) and the Q lines (e). Nothing here was taken from the engine.
+//! refusals of misspelt fields (d), the Q lines (e) and the O lines (g). Nothing here was taken from the engine.
 
 use crate::book::*;
 
 const LINE_FEED: u8 = 10;
 
-/// Reads a text, or gives the first refusal of 1 to 11 and 17 to 19 that applies.
+/// Reads a text, or gives the first refusal of 1 to 11, 17 to 19, 22 and 23 that applies.
 pub fn read_text(text: &[u8]) -> Result<Book, Refusal> {
     if text.len() > TEXT {
         return Err(refused(1));
@@ -45,7 +45,8 @@ fn read_line(book: &mut Book, above: u8, line: &[u8]) -> Result<u8, u32> {
 fn letters_below(above: u8) -> &'static [u8] {
     match above {
         0 => b"B",
-        b'B' | b'R' => b"RXPQZ",
+        b'B' | b'R' => b"ROXPQZ",
+        b'O' => b"OXPQZ",
         b'X' => b"XPQZ",
         b'P' => b"PQZ",
         b'Q' => b"QZ",
@@ -57,6 +58,7 @@ fn letters_below(above: u8) -> &'static [u8] {
 fn bytes_of_line(letter: u8) -> usize {
     match letter {
         b'B' | b'P' => 10,
+        b'O' => 46,
         b'Q' => 42,
         b'Z' => 6,
         _ => 38,
@@ -65,7 +67,7 @@ fn bytes_of_line(letter: u8) -> usize {
 
 /// Reads the fields from left to right, each tested for its spelling first, then 7, 6.
 fn read_fields(book: &Book, letter: u8, columns: &[u8]) -> Result<Vec<i32>, u32> {
-    let mut fields = Vec::with_capacity(10);
+    let mut fields = Vec::with_capacity(11);
     for (place, field) in columns.chunks(4).enumerate() {
         let value = read_field(field)?;
         test_field(book, letter, place, value)?;
@@ -147,7 +149,7 @@ fn test_field(book: &Book, letter: u8, place: usize, value: i32) -> Result<(), u
         (b'B', 0) => return if value == 1 { Ok(()) } else { Err(7) },
         (b'B', _) => (1, STATEMENTS),
         (b'P', _) | (b'Q', 0 | 1) => (1, EXCEPTIONS as i32),
-        (b'Z', _) => (0, (PLAIN + EXCEPTIONS + PREFERENCES + CONDITIONALS) as i32),
+        (b'Z', _) => (0, (PLAIN + ALTERNATIVES + EXCEPTIONS + PREFERENCES + CONDITIONALS) as i32),
         _ => (-book.statements, book.statements),
     };
     if value < low || value > high {
@@ -157,14 +159,18 @@ fn test_field(book: &Book, letter: u8, place: usize, value: i32) -> Result<(), u
     }
 }
 
-/// Tests the line as a whole, 8 or 19 and then 9 to 11, and takes it into the book.
+/// Tests the line as a whole, 8 or 19 or 22 and then 9 to 11 or 23, and takes it into the book.
 fn take_line(book: &mut Book, letter: u8, fields: &[i32]) -> Result<(), u32> {
-    let [plain, exceptions, preferences, conditionals] = book.counts();
+    let [plain, exceptions, preferences, conditionals, alternatives] = book.counts();
     match letter {
         b'B' => book.statements = fields[1],
         b'R' => {
             within(plain, PLAIN, 8)?;
             book.plain.push(Rule::of_row(fields));
+        }
+        b'O' => {
+            within(alternatives, ALTERNATIVES, 22)?;
+            book.alternatives.push(with_two_heads(Alternatives::of_row(fields))?);
         }
         b'X' => {
             within(exceptions, EXCEPTIONS, 8)?;
@@ -202,6 +208,15 @@ fn with_head(rule: Rule) -> Result<Rule, u32> {
     }
 }
 
+/// 23 if fewer than two of the heads are filled: a head that is not 0 is, be it that of another place again.
+fn with_two_heads(line: Alternatives) -> Result<Alternatives, u32> {
+    if line.filled() < 2 {
+        Err(23)
+    } else {
+        Ok(line)
+    }
+}
+
 /// 10 if a preference, under a condition or not, names a missing exception.
 fn of_exceptions(order: [i32; 2], exceptions: usize) -> Result<[i32; 2], u32> {
     if order.iter().any(|number| *number as usize > exceptions) {
@@ -235,6 +250,9 @@ pub fn text_of(book: &Book) -> Vec<u8> {
     for rule in &book.plain {
         text.extend(line_of(b'R', &rule.row()));
     }
+    for line in &book.alternatives {
+        text.extend(line_of(b'O', &line.row()));
+    }
     for rule in &book.exceptions {
         text.extend(line_of(b'X', &rule.row()));
     }
@@ -252,7 +270,13 @@ pub fn text_of(book: &Book) -> Vec<u8> {
 pub fn table_of(book: &Book) -> Vec<i32> {
     let mut table = vec![book.statements];
     table.extend(book.counts().map(|count| count as i32));
-    for rule in book.plain.iter().chain(&book.exceptions) {
+    for rule in &book.plain {
+        table.extend(rule.row());
+    }
+    for line in &book.alternatives {
+        table.extend(line.row());
+    }
+    for rule in &book.exceptions {
         table.extend(rule.row());
     }
     for order in &book.preferences {
@@ -272,21 +296,20 @@ pub fn read_table(table: &[i32]) -> Result<Book, Refusal> {
     if table[0] < 1 || table[0] > STATEMENTS {
         return Err(Refusal { number: 6, line: 1 });
     }
-    let limits = [PLAIN, EXCEPTIONS, PREFERENCES, CONDITIONALS];
-    if (0..4).any(|place| table[place + 1] < 0 || table[place + 1] > limits[place] as i32) {
+    let limits = [PLAIN, EXCEPTIONS, PREFERENCES, CONDITIONALS, ALTERNATIVES];
+    if (0..5).any(|place| table[place + 1] < 0 || table[place + 1] > limits[place] as i32) {
         return Err(Refusal { number: 8, line: 1 });
     }
-    let [plain, exceptions, preferences, conditionals] = [1, 2, 3, 4].map(|place| table[place] as usize);
-    if table.len() != FRONT + 9 * (plain + exceptions) + 2 * preferences + 10 * conditionals {
+    let [plain, exceptions, preferences, conditionals, alternatives] =
+        [1, 2, 3, 4, 5].map(|place| table[place] as usize);
+    let rules = 9 * plain + 11 * alternatives + 9 * exceptions;
+    if table.len() != FRONT + rules + 2 * preferences + 10 * conditionals {
         return Err(refused(16));
     }
-    let (rules, others) = table[FRONT..].split_at(9 * (plain + exceptions));
+    let (rules, others) = table[FRONT..].split_at(rules);
     let (orders, lines) = others.split_at(2 * preferences);
     let mut book = Book::empty(table[0]);
-    for row in rules.chunks(9) {
-        let exception = book.plain.len() == plain;
-        take_row(&mut book, exception, row)?;
-    }
+    take_rules(&mut book, rules, plain, alternatives)?;
     for row in orders.chunks(2) {
         test_order(&book, row)?;
         book.preferences.push([row[0], row[1]]);
@@ -297,6 +320,24 @@ pub fn read_table(table: &[i32]) -> Result<Book, Refusal> {
         book.conditionals.push(Conditional::of_row(row));
     }
     Ok(book)
+}
+
+/// Takes the rows of so many R and O lines, and then those of X lines.
+fn take_rules(book: &mut Book, rows: &[i32], plain: usize, alternatives: usize) -> Result<(), Refusal> {
+    let (plain, rest) = rows.split_at(9 * plain);
+    let (alternatives, exceptions) = rest.split_at(11 * alternatives);
+    for row in plain.chunks(9) {
+        take_row(book, false, row)?;
+    }
+    for row in alternatives.chunks(11) {
+        test_entries(book, row)?;
+        let line = with_two_heads(Alternatives::of_row(row)).map_err(|number| refused_row(book, number))?;
+        book.alternatives.push(line);
+    }
+    for row in exceptions.chunks(9) {
+        take_row(book, true, row)?;
+    }
+    Ok(())
 }
 
 /// The refusal of the row that would come next in the book's text.

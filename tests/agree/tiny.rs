@@ -1,8 +1,8 @@
 //! Every book of one statement with at most two plain rules, at most one exception and perhaps a preference of it over
-//! itself; and every one with at most one constraint, two exceptions and a Q line. The order of the two rules and of a
-//! rule's entries aside.
+//! itself; every one with at most one constraint, two exceptions and a Q line; and every one with an O line, at most one
+//! plain rule and at most one exception. The order of the two rules and of a rule's entries aside.
 
-use crate::book::{Book, Conditional, Rule};
+use crate::book::{Alternatives, Book, Conditional, Rule};
 use crate::compare::{Checker, Known, Outcome};
 use crate::meaning::{Meaning, Oracle};
 use crate::pairs::all_lawful;
@@ -77,6 +77,32 @@ pub fn conditional_book(mut place: usize) -> Book {
     let plain = rules(&[0]).get(*place).copied();
     let conditionals = vec![Conditional { order, needed, barred }];
     Book { plain: plain.into_iter().collect(), exceptions, conditionals, ..Book::empty(1) }
+}
+
+/// How many books of one statement there are with an O line, at most one plain rule and at most one exception: the choices
+/// of three heads, of which two are filled, of its body, of the plain rule or none, and of the exception or none.
+pub const ALTERNATIVE: u64 = 20 * 16 * (48 + 1) * (32 + 1);
+
+/// Every choice of three heads of which at least two are filled.
+fn three_heads() -> Vec<[i32; 3]> {
+    let all = (0..27).map(|code| [code % 3 - 1, code / 3 % 3 - 1, code / 9 - 1]);
+    all.filter(|heads| heads.iter().filter(|head| **head != 0).count() > 1).collect()
+}
+
+/// The book with this place among them.
+pub fn alternative_book(mut place: usize) -> Book {
+    let place = &mut place;
+    let heads = take(place, &three_heads());
+    let (needed, barred) = (take(place, &ENTRIES), take(place, &ENTRIES));
+    let or_none = |rules: Vec<Rule>| rules.into_iter().map(Some).chain([None]).collect::<Vec<_>>();
+    let plain = take(place, &or_none(rules(&[1, -1, 0])));
+    let exception = take(place, &or_none(rules(&[1, -1])));
+    Book {
+        plain: plain.into_iter().collect(),
+        alternatives: vec![Alternatives { heads, needed, barred }],
+        exceptions: exception.into_iter().collect(),
+        ..Book::empty(1)
+    }
 }
 
 /// Compares First, a page, After from every lawful pair, and Judge on it.

@@ -3,11 +3,13 @@
 #include "conditions.h"
 
 size_t length_of(const int32_t *table) {
-    return FRONT + ROW * (size_t)(table[PLAIN] + table[EXCEPTIONS]) + ORDER * (size_t)table[PREFERENCES] +
-           CONDITIONAL * (size_t)table[CONDITIONALS];
+    return FRONT + ROW * (size_t)(table[PLAIN] + table[EXCEPTIONS]) + ALTERNATIVE * (size_t)table[ALTERNATIVES] +
+           ORDER * (size_t)table[PREFERENCES] + CONDITIONAL * (size_t)table[CONDITIONALS];
 }
 
-int32_t *orders_of(int32_t *table) { return table + FRONT + ROW * (table[PLAIN] + table[EXCEPTIONS]); }
+int32_t *alternatives_of(int32_t *table) { return table + FRONT + ROW * table[PLAIN]; }
+int32_t *exceptions_of(int32_t *table) { return alternatives_of(table) + ALTERNATIVE * table[ALTERNATIVES]; }
+int32_t *orders_of(int32_t *table) { return exceptions_of(table) + ROW * table[EXCEPTIONS]; }
 
 /* ---- meaning: the Q lines that a faulty reader of them would see */
 
@@ -41,9 +43,8 @@ void change_conditionals(int32_t *table) {
 
 /* ---- tables */
 
-/* Puts so many numbers from the front of some behind the rest of them. */
-static void rotate(int32_t *numbers, size_t front, size_t all) {
-    int32_t kept[ORDER * BANTAMEASEL_MOST_PREFERENCES + CONDITIONAL * BANTAMEASEL_MOST_CONDITIONALS];
+void rotate(int32_t *numbers, size_t front, size_t all) {
+    int32_t kept[BANTAMEASEL_MOST_TABLE];
     memcpy(kept, numbers, front * sizeof kept[0]);
     memmove(numbers, numbers + front, (all - front) * sizeof kept[0]);
     memcpy(numbers + all - front, kept, front * sizeof kept[0]);
@@ -57,13 +58,13 @@ void exchange_orders(int32_t *table) {
     rotate(orders_of(table), of_orders(table), of_orders(table) + of_conditionals(table));
 }
 
-/* Whether the fourth count alone is out of its range. */
-static int fourth_is_out(const int32_t *table) {
-    static const int32_t most[] = {0, BANTAMEASEL_MOST_PLAIN, BANTAMEASEL_MOST_EXCEPTIONS, BANTAMEASEL_MOST_PREFERENCES};
-    for (int place = PLAIN; place <= PREFERENCES; place++) {
+int first_out(const int32_t *table, int count) {
+    static const int32_t most[] = {0, BANTAMEASEL_MOST_PLAIN, BANTAMEASEL_MOST_EXCEPTIONS, BANTAMEASEL_MOST_PREFERENCES,
+                                   BANTAMEASEL_MOST_CONDITIONALS, BANTAMEASEL_MOST_ALTERNATIVES};
+    for (int place = PLAIN; place < count; place++) {
         if (table[place] < 0 || table[place] > most[place]) return 0;
     }
-    return 1;
+    return table[count] < 0 || table[count] > most[count];
 }
 
 /* Whether both exceptions that a row names are in their range, and one is missing. */
@@ -74,22 +75,22 @@ static int names_missing(const int32_t *row, int32_t exceptions) {
 
 /* The Q row of a table that would have this line, or NULL. */
 static const int32_t *row_of(int32_t *table, uint64_t line) {
-    int64_t place = (int64_t)line - 2 - table[PLAIN] - table[EXCEPTIONS] - table[PREFERENCES];
+    int64_t place = (int64_t)line - 2 - table[PLAIN] - table[ALTERNATIVES] - table[EXCEPTIONS] - table[PREFERENCES];
     return place < 0 ? NULL : orders_of(table) + of_orders(table) + CONDITIONAL * place;
 }
 
-bantameasel_length write_faulty_table(const int32_t *table, size_t length, uint8_t *text, size_t text_length) {
+bantameasel_length write_faulty_conditionals(const int32_t *table, size_t length, uint8_t *text, size_t text_length) {
     int32_t other[BANTAMEASEL_MOST_TABLE] = {0};
     bantameasel_length answer = true_write(table, length, text, text_length);
     if (length > BANTAMEASEL_MOST_TABLE) return answer;
     memcpy(other, table, length * sizeof other[0]);
-    if (fault("four numbers are enough before the rows") && length == FRONT - 1)
+    if (fault("four numbers are enough before the rows") && length == FRONT - 2)
         return true_write(other, FRONT, text, text_length);
     if (fault("Q rows stand before P rows") && answer.refusal == 0) {
         rotate(orders_of(other), of_conditionals(other), of_orders(other) + of_conditionals(other));
         return true_write(other, length, text, text_length);
     }
-    if (answer.refusal == 8 && fourth_is_out(other)) {
+    if (answer.refusal == 8 && first_out(other, CONDITIONALS)) {
         if (fault("19 comes from a table")) answer.refusal = 19;
         if (fault("the fourth count is not tested")) answer.refusal = 16, answer.line = 0;
     }
@@ -102,14 +103,12 @@ bantameasel_length write_faulty_table(const int32_t *table, size_t length, uint8
 
 /* ---- texts */
 
-/* Where a line, counted from 1, begins. */
-static const uint8_t *line_at(const uint8_t *text, uint64_t line) {
+const uint8_t *line_at(const uint8_t *text, uint64_t line) {
     while (--line > 0) text = (const uint8_t *)strchr((const char *)text, '\n') + 1;
     return text;
 }
 
-/* How many of the lines above one have this letter. */
-static int32_t above(const uint8_t *text, uint64_t line, char letter) {
+int32_t above(const uint8_t *text, uint64_t line, char letter) {
     int32_t count = 0;
     for (uint64_t other = 1; other < line; other++) count += *line_at(text, other) == letter;
     return count;
@@ -138,24 +137,25 @@ void change_refusal_of_conditionals(uint32_t *number, uint64_t line, const uint8
 
 void refuse_conditionals(bantameasel_book *answer, size_t text_length) {
     bantameasel_book refused = {0};
+    uint64_t others = answer->plain + answer->alternatives + answer->exceptions + answer->preferences;
     if (answer->refusal != 0) return;
     if (fault("Z does not count Q lines") && answer->conditionals > 0)
-        refused.refusal = 11,
-        refused.line = 2 + answer->plain + answer->exceptions + answer->preferences + answer->conditionals;
+        refused.refusal = 11, refused.line = 2 + others + answer->conditionals;
     if (fault("a text has at most 8,544 bytes") && text_length > 8544) refused.refusal = 1;
     if (fault("the 32nd Q line is one too many") && answer->conditionals == 32)
-        refused.refusal = 19, refused.line = 1 + answer->plain + answer->exceptions + answer->preferences + 32;
+        refused.refusal = 19, refused.line = 1 + others + 32;
     if (refused.refusal != 0) *answer = refused;
 }
 
-void put_orders_first(uint8_t *text, size_t length) {
-    enum { P_BYTES = 10, Q_BYTES = 42 };
-    for (size_t at = 0; at + P_BYTES + Q_BYTES <= length; at++) {
-        uint8_t *line = text + at, kept[P_BYTES];
-        if ((at > 0 && line[-1] != '\n') || line[0] != 'Q' || line[Q_BYTES - 1] != '\n' || line[Q_BYTES] != 'P') continue;
-        memcpy(kept, line + Q_BYTES, P_BYTES);
-        memmove(line + P_BYTES, line, Q_BYTES);
-        memcpy(line, kept, P_BYTES);
+void put_first(uint8_t *text, size_t length, line_kind behind, line_kind before) {
+    enum { MOST_BYTES = 46 };
+    for (size_t at = 0; at + before.bytes + behind.bytes <= length; at++) {
+        uint8_t *line = text + at, *next = line + before.bytes, kept[MOST_BYTES];
+        if ((at > 0 && line[-1] != '\n') || line[0] != before.letter || next[-1] != '\n') continue;
+        if (next[0] != behind.letter || next[behind.bytes - 1] != '\n') continue;
+        memcpy(kept, next, behind.bytes);
+        memmove(line + behind.bytes, line, before.bytes);
+        memcpy(line, kept, behind.bytes);
         at = 0;
     }
 }

@@ -2,7 +2,7 @@
  * functions here stand in the place of the true ones, and give their answers but for the fault that is asked for. */
 #include <ctype.h>
 
-#include "conditions.h"
+#include "alternatives.h"
 #include "true.h"
 
 enum { MOST_TEXT = BANTAMEASEL_MOST_TEXT, MOST_TABLE = BANTAMEASEL_MOST_TABLE };
@@ -41,15 +41,17 @@ static void lose_preferences(int32_t *table) {
 
 /* Changes the table of a book. */
 static void change_table(int32_t *table) {
-    int32_t rules = table[PLAIN] + table[EXCEPTIONS], *orders = orders_of(table), *last = table + FRONT + ROW * 199;
+    int32_t *orders = orders_of(table), *last = table + FRONT + ROW * 199;
     int ranked = table[PREFERENCES] > 0;
-    for (int32_t number = 0; number < rules; number++) change_row(table + FRONT + ROW * number);
+    for (int32_t number = 0; number < table[PLAIN]; number++) change_row(table + FRONT + ROW * number);
+    for (int32_t number = 0; number < table[EXCEPTIONS]; number++) change_row(exceptions_of(table) + ROW * number);
     if (fault("the rule past the 199th is lost") && table[PLAIN] == 200) last[0] = last[1] = 1;
     if (fault("the twelfth exception is never taken") && table[EXCEPTIONS] == 12 && ranked) orders[0] = orders[1] = 12;
     if (fault("the sixteenth exception is never taken") && table[EXCEPTIONS] == 16 && ranked)
         orders[0] = orders[1] = 16;
     lose_preferences(table);
     change_conditionals(table);
+    change_alternatives(table);
 }
 
 typedef struct {
@@ -170,7 +172,9 @@ static const uint8_t *seen(const uint8_t *text, size_t length) {
         end = memchr(line, '\n', (size_t)(other + length + 1 - line));
         for (uint8_t *field = line + 1; field + FIELD <= end; field += FIELD) see_field(field);
     }
-    if (fault("a P line behind a Q line is seen before it")) put_orders_first(other, length);
+    if (fault("a P line behind a Q line is seen before it"))
+        put_first(other, length, (line_kind){'P', 10}, (line_kind){'Q', 42});
+    see_alternatives(other, length);
     return other;
 }
 
@@ -185,6 +189,7 @@ static void change_refusal(uint32_t *number, uint64_t *line, const uint8_t *text
         highest_of_two(text, *line) > TWELVE)
         *number = 6;
     change_refusal_of_conditionals(number, *line, text);
+    change_refusal_of_alternatives(number, *line, text);
 }
 
 /* What is refused by the limits of twelve exceptions. */
@@ -192,7 +197,8 @@ static void keep_to_twelve(bantameasel_book *answer, size_t length) {
     bantameasel_book refused = {0};
     if (answer->refusal != 0) return;
     if (fault("the thirteenth exception is one too many") && answer->exceptions > TWELVE)
-        refused.refusal = BANTAMEASEL_REFUSED_TOO_MANY, refused.line = 2 + answer->plain + TWELVE;
+        refused.refusal = BANTAMEASEL_REFUSED_TOO_MANY,
+        refused.line = 2 + answer->plain + answer->alternatives + TWELVE;
     if (fault("a text has at most 8,392 bytes") && length > SHORTER_TEXT)
         refused.refusal = BANTAMEASEL_REFUSED_TEXT_TOO_LONG;
     if (refused.refusal != 0) *answer = refused;
@@ -219,13 +225,14 @@ bantameasel_book bantameasel_read(const uint8_t *text, size_t text_length, int32
     if (fault("Read writes past the lent slice") && answer.refusal == 15) table[table_length] ^= 1;
     if (fault("Read miscounts") && answer.plain > 0) answer.plain--;
     if (fault("a count stands beside a refusal") && answer.refusal != 0) answer.plain = 1;
-    if (fault("a reserved field is not 0")) answer.reserved[2] = 1;
+    if (fault("a reserved field is not 0")) answer.reserved[1] = 1;
     if (fault("an accepted book has edition 0")) answer.edition = 0;
     if (fault("Read answers no count of Q lines")) answer.conditionals = 0;
     if (fault("Q rows stand before P rows") && answer.refusal == 0) exchange_orders(table);
     change_refusal(&answer.refusal, &answer.line, text, text_length);
     keep_to_twelve(&answer, text_length);
     refuse_conditionals(&answer, text_length);
+    change_read(&answer, table, text_length);
     return answer;
 }
 

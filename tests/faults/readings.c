@@ -1,7 +1,7 @@
-/* The engine's library with a deliberate fault, to show that the test program can fail: other readings of what Q lines
- * mean, on small books that have some. The pairs that satisfy everything but rankings are taken from the true library,
- * by the same book without P and Q lines; what ranks is worked out here. */
-#include "conditions.h"
+/* The engine's library with a deliberate fault, to show that the test program can fail: other readings of what Q or O
+ * lines mean, on small books that have some. The pairs that satisfy everything but rankings are taken from the true
+ * library, by the same book without P and Q lines, or from heads.c; what ranks is worked out here. */
+#include "alternatives.h"
 
 enum { MOST_PAIRS = 3000, MOST_VIEWS = 400, SIXTEEN = BANTAMEASEL_MOST_EXCEPTIONS };
 
@@ -191,8 +191,17 @@ static bantameasel_pair pair_at(uint64_t number) {
     return pair;
 }
 
+/* Whether the conclusions satisfy the body of each exception taken. */
+static int satisfies_taken(bantameasel_pair pair) {
+    for (int32_t place = 0; place < last.table[EXCEPTIONS]; place++) {
+        if ((pair.taken >> place & 1) && !body_satisfied(exceptions_of(last.table) + ROW * place + 1, pair)) return 0;
+    }
+    return 1;
+}
+
 /* Whether a set of the plain rules and the exceptions taken satisfies all their bodies, by the book without rankings. */
 static int satisfied(const uint8_t *plain, size_t length, bantameasel_pair pair) {
+    if (reads_heads_otherwise()) return answers_otherwise(last.table, pair) && satisfies_taken(pair);
     uint32_t verdict = true_judge(plain, length, pair).verdict;
     return verdict == 0 || verdict == 5;
 }
@@ -230,12 +239,14 @@ static uint64_t pairs_of(void) {
 
 /* Whether the book is one that is read otherwise; then its views are known. */
 static int is_read_otherwise(const uint8_t *text, size_t length) {
-    if (!reads_otherwise() || length > BANTAMEASEL_MOST_TEXT) return 0;
+    int of_heads = reads_heads_otherwise();
+    if ((!of_heads && !reads_otherwise()) || length > BANTAMEASEL_MOST_TEXT) return 0;
     if (length == last.length && memcmp(text, last.text, length) == 0) return last.known;
     memcpy(last.text, text, length);
     last.length = length;
     bantameasel_book read = true_read(text, length, last.table, BANTAMEASEL_MOST_TABLE);
-    last.known = read.refusal == 0 && read.conditionals > 0 && pairs_of() <= MOST_PAIRS && find_views(pairs_of());
+    uint64_t lines = of_heads ? read.alternatives : read.conditionals;
+    last.known = read.refusal == 0 && lines > 0 && pairs_of() <= MOST_PAIRS && find_views(pairs_of());
     return last.known;
 }
 
@@ -243,7 +254,9 @@ static int is_read_otherwise(const uint8_t *text, size_t length) {
 
 bantameasel_verdict judge_otherwise(const uint8_t *text, size_t length, bantameasel_pair pair) {
     bantameasel_verdict answer = true_judge(text, length, pair);
-    if (answer.refusal != 0 || !is_read_otherwise(text, length) || answer.verdict == 1) return answer;
+    if (answer.refusal != 0 || !is_read_otherwise(text, length)) return answer;
+    if (reads_heads_otherwise()) answer.verdict = answers_otherwise(last.table, pair) ? 3 : 1;
+    if (answer.verdict == 1) return answer;
     if (leads(within(pair), pair.taken, pair.taken)) answer.verdict = 2;
     for (int place = 0; place < last.count; place++) {
         view *own = &last.views[place];

@@ -11,22 +11,46 @@ static bantameasel_book read_book(const book *b) {
     return bantameasel_read(b->bytes, b->length, table, BANTAMEASEL_MOST_TABLE);
 }
 
-/* A book with so many lines of each kind is accepted, and one line more of a kind is refused at that line. */
-static void test_counts(int plain, int exceptions, int preferences, int conditionals, uint32_t refusal) {
+/* How many lines of each kind a book has. */
+typedef struct {
+    int plain, alternatives, exceptions, preferences, conditionals;
+} counts;
+
+/* A book of two statements with so many lines of each kind. */
+static void make(book *b, counts c) {
+    begin(b, 2);
+    for (int k = 0; k < c.plain; k++) add(b, 'R', (row){.head = 1});
+    for (int k = 0; k < c.alternatives; k++) either(b, (row){.heads = {2, -2}, .needed = {1}});
+    for (int k = 0; k < c.exceptions; k++) add(b, 'X', (row){.head = 1});
+    for (int k = 0; k < c.preferences; k++) prefer(b, 1, 1);
+    for (int k = 0; k < c.conditionals; k++) prefer_if(b, 1, 1, (row){.needed = {1}, .barred = {-1}});
+    finish(b);
+}
+
+/* A book with so many lines of each kind is accepted, and one line more of a kind, the last of the book, is refused at
+ * that line. */
+static void test_counts(counts c, uint32_t refusal) {
     book b;
-    begin(&b, 1);
-    for (int k = 0; k < plain; k++) add(&b, 'R', (row){.head = 1});
-    for (int k = 0; k < exceptions; k++) add(&b, 'X', (row){.head = 1});
-    for (int k = 0; k < preferences; k++) prefer(&b, 1, 1);
-    for (int k = 0; k < conditionals; k++) prefer_if(&b, 1, 1, (row){.needed = {1}, .barred = {-1}});
-    finish(&b);
+    make(&b, c);
     bantameasel_book answer = read_book(&b);
     expect_refusal("the refusal of a count", answer.refusal, refusal);
     expect("the line of a count", answer.line, refusal == 0 ? 0 : (uint64_t)b.lines + 1);
-    expect("R lines", answer.plain, refusal == 0 ? (uint64_t)plain : 0);
-    expect("X lines", answer.exceptions, refusal == 0 ? (uint64_t)exceptions : 0);
-    expect("P lines", answer.preferences, refusal == 0 ? (uint64_t)preferences : 0);
-    expect("Q lines", answer.conditionals, refusal == 0 ? (uint64_t)conditionals : 0);
+    expect("R lines", answer.plain, refusal == 0 ? (uint64_t)c.plain : 0);
+    expect("O lines", answer.alternatives, refusal == 0 ? (uint64_t)c.alternatives : 0);
+    expect("X lines", answer.exceptions, refusal == 0 ? (uint64_t)c.exceptions : 0);
+    expect("P lines", answer.preferences, refusal == 0 ? (uint64_t)c.preferences : 0);
+    expect("Q lines", answer.conditionals, refusal == 0 ? (uint64_t)c.conditionals : 0);
+}
+
+/* One O line too many that has one head is 22, and 6 if the head is that of no statement. */
+static void test_one_line_too_many(int head, uint32_t refusal) {
+    book b;
+    begin(&b, 2);
+    for (int k = 0; k < BANTAMEASEL_MOST_ALTERNATIVES; k++) either(&b, (row){.heads = {1, 2}});
+    either(&b, (row){.heads = {0, 0, head}});
+    finish(&b);
+    expect_refusal("one O line too many", read_book(&b).refusal, refusal);
+    expect("its line", read_book(&b).line, (uint64_t)b.lines + 1);
 }
 
 /* One Q line too many that names an exception which the book does not have is 19, and 6 if no book can have it. */
@@ -74,23 +98,19 @@ static void test_lengths(const book *b) {
     expect_refusal("one exception more", written.refusal, BANTAMEASEL_REFUSED_PAIR_TAKEN);
 }
 
-/* The room for a table that the header calls always enough is enough, and the table is as long as it says; a fourth of
- * the text's length does only where it is not less. */
-static void test_room(int plain, int exceptions, int conditionals) {
+/* The room for a table that the header calls always enough is enough, and the table is as long as it says; one number
+ * less does only where the book has two lines, and a fourth of the text's length where it has four. */
+static void test_room(counts c) {
     book b;
-    begin(&b, 2);
-    for (int k = 0; k < plain; k++) add(&b, 'R', (row){.head = 1});
-    for (int k = 0; k < exceptions; k++) add(&b, 'X', (row){.head = 1});
-    for (int k = 0; k < conditionals; k++) prefer_if(&b, 1, 1, (row){.needed = {2}});
-    finish(&b);
-    const size_t needed = (size_t)(5 + 9 * (plain + exceptions) + 10 * conditionals), fourth = b.length / 4;
-    expect("the room that is always enough", needed <= fourth + 1, 1);
+    make(&b, c);
+    const int rules = c.plain + c.exceptions, orders = 2 * c.preferences + 10 * c.conditionals;
+    const size_t needed = (size_t)(6 + 9 * rules + 11 * c.alternatives + orders), fourth = b.length / 4;
+    expect("the room that is always enough", needed <= fourth + 2, 1);
     expect("a table", bantameasel_read(b.bytes, b.length, table, needed).refusal, 0);
     expect("no shorter table", bantameasel_read(b.bytes, b.length, table, needed - 1).refusal,
            BANTAMEASEL_REFUSED_BUFFER_SHORT);
-    expect("a fourth of the text", bantameasel_read(b.bytes, b.length, table, fourth).refusal,
-           needed <= fourth ? BANTAMEASEL_NOT_REFUSED : BANTAMEASEL_REFUSED_BUFFER_SHORT);
-    expect("a fourth of the text is enough", needed <= fourth, plain + exceptions + conditionals > 1);
+    expect("one number less is enough", needed <= fourth + 1, b.lines > 1);
+    expect("a fourth of the text is enough", needed <= fourth, b.lines > 3);
 }
 
 /* A line has 54 + n bytes in a book of at most 12 exceptions and 70 + n in a longer one, whether the pair takes none of
@@ -112,24 +132,31 @@ static void test_line_lengths(void) {
 
 void test_limits(void) {
     const int r = BANTAMEASEL_MOST_PLAIN, x = BANTAMEASEL_MOST_EXCEPTIONS, p = BANTAMEASEL_MOST_PREFERENCES;
-    const int q = BANTAMEASEL_MOST_CONDITIONALS;
+    const int q = BANTAMEASEL_MOST_CONDITIONALS, o = BANTAMEASEL_MOST_ALTERNATIVES;
     book b;
     test_statements();
-    test_counts(r, x, p, q, BANTAMEASEL_NOT_REFUSED);
-    test_counts(r, x, p, 0, BANTAMEASEL_NOT_REFUSED);
-    test_counts(0, 1, 0, q, BANTAMEASEL_NOT_REFUSED);
-    test_counts(r + 1, 0, 0, 0, BANTAMEASEL_REFUSED_TOO_MANY);
-    test_counts(0, x + 1, 0, 0, BANTAMEASEL_REFUSED_TOO_MANY);
-    test_counts(0, 1, p + 1, 0, BANTAMEASEL_REFUSED_TOO_MANY);
-    test_counts(0, 1, 0, q + 1, BANTAMEASEL_REFUSED_TOO_MANY_CONDITIONALS);
-    test_counts(0, 1, p, q + 1, BANTAMEASEL_REFUSED_TOO_MANY_CONDITIONALS);
+    test_counts((counts){r, o, x, p, q}, BANTAMEASEL_NOT_REFUSED);
+    test_counts((counts){r, 0, x, p, 0}, BANTAMEASEL_NOT_REFUSED);
+    test_counts((counts){0, 0, 1, 0, q}, BANTAMEASEL_NOT_REFUSED);
+    test_counts((counts){0, o, 0, 0, 0}, BANTAMEASEL_NOT_REFUSED);
+    test_counts((counts){.plain = r + 1}, BANTAMEASEL_REFUSED_TOO_MANY);
+    test_counts((counts){.exceptions = x + 1}, BANTAMEASEL_REFUSED_TOO_MANY);
+    test_counts((counts){.exceptions = 1, .preferences = p + 1}, BANTAMEASEL_REFUSED_TOO_MANY);
+    test_counts((counts){.exceptions = 1, .conditionals = q + 1}, BANTAMEASEL_REFUSED_TOO_MANY_CONDITIONALS);
+    test_counts((counts){0, o, 1, p, q + 1}, BANTAMEASEL_REFUSED_TOO_MANY_CONDITIONALS);
+    test_counts((counts){.alternatives = o + 1}, BANTAMEASEL_REFUSED_TOO_MANY_ALTERNATIVES);
+    test_counts((counts){.plain = r, .alternatives = o + 1}, BANTAMEASEL_REFUSED_TOO_MANY_ALTERNATIVES);
     test_one_too_many(2, BANTAMEASEL_REFUSED_TOO_MANY_CONDITIONALS);
     test_one_too_many(17, BANTAMEASEL_REFUSED_OUT_OF_RANGE);
-    test_room(0, 0, 0);
-    test_room(1, 0, 0);
-    test_room(0, 1, 0);
-    test_room(0, 1, 1);
-    test_room(2, 0, 0);
+    test_one_line_too_many(2, BANTAMEASEL_REFUSED_TOO_MANY_ALTERNATIVES);
+    test_one_line_too_many(3, BANTAMEASEL_REFUSED_OUT_OF_RANGE);
+    test_room((counts){0});
+    test_room((counts){.plain = 1});
+    test_room((counts){.alternatives = 1});
+    test_room((counts){.exceptions = 1});
+    test_room((counts){.plain = 2});
+    test_room((counts){.exceptions = 1, .preferences = 1, .conditionals = 1});
+    test_room((counts){.plain = 1, .alternatives = 1, .exceptions = 1, .conditionals = 1});
     test_line_lengths();
     full(&b);
     test_lengths(&b);
@@ -147,7 +174,8 @@ void test_layout(void) {
     expect("its statements", offsetof(bantameasel_book, statements), 16);
     expect("its preferences", offsetof(bantameasel_book, preferences), 40);
     expect("its conditionals", offsetof(bantameasel_book, conditionals), 48);
-    expect("what is reserved", offsetof(bantameasel_book, reserved), 56);
+    expect("its alternatives", offsetof(bantameasel_book, alternatives), 56);
+    expect("what is reserved", offsetof(bantameasel_book, reserved), 64);
     expect("the size of Write's answer", sizeof(bantameasel_length), 24);
     expect("its length", offsetof(bantameasel_length, length), 16);
     expect("the size of Judge's answer", sizeof(bantameasel_verdict), 16);
@@ -160,13 +188,9 @@ void test_layout(void) {
     expect("the size of Set's answer", sizeof(bantameasel_done), 16);
     expect("its line", offsetof(bantameasel_done, line), 8);
     book b;
-    begin(&b, 3);
-    add(&b, 'X', (row){.head = 1});
-    prefer(&b, 1, 1);
-    prefer_if(&b, 1, 1, (row){.needed = {3}});
-    prefer_if(&b, 1, 1, (row){.barred = {-3}});
-    finish(&b);
-    bantameasel_book wanted = {.edition = 1, .statements = 3, .exceptions = 1, .preferences = 1, .conditionals = 2};
+    make(&b, (counts){.alternatives = 3, .exceptions = 1, .preferences = 1, .conditionals = 2});
+    bantameasel_book wanted = {
+        .edition = 1, .statements = 2, .exceptions = 1, .preferences = 1, .conditionals = 2, .alternatives = 3};
     bantameasel_book answer = read_book(&b);
     expect("Read's answer, what is reserved too", memcmp(&answer, &wanted, sizeof wanted) != 0, 0);
 }

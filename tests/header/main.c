@@ -1,7 +1,7 @@
-/* Tests what the C header says against the library: names, limits, words, layout, preferences under a condition, NULL,
- * its listings, stores, stack, threads.
+/* Tests what the C header says against the library: names, limits, words, layout, preferences under a condition,
+ * alternatives, NULL, its listings, stores, stack, threads.
  *
- *     header VERSION    all of it; VERSION is that of people.mk, as 2.4
+ *     header VERSION    all of it; VERSION is that of people.mk, as 2.5
  *     header null       only NULL with length 0, to be run under valgrind */
 #include <stdio.h>
 #include <string.h>
@@ -26,6 +26,7 @@ int main(int count, char **arguments) {
     test_limits();
     test_layout();
     test_conditions();
+    test_alternatives();
     test_listings();
     test_stores();
     for (uint32_t number = 0; number <= BANTAMEASEL_LAST_REFUSAL; number++)

@@ -39,8 +39,25 @@ static const faulty TEXTS[] = {
     {"B   1   1\nP  16   1\n", BANTAMEASEL_REFUSED_PREFERENCE, 2},
     {"B   1   1\nP  17   1\n", BANTAMEASEL_REFUSED_OUT_OF_RANGE, 2},
     {"B   1   1\nZ   1\n", BANTAMEASEL_REFUSED_TOTAL, 2},
-    {"B   1   1\nZ 280\n", BANTAMEASEL_REFUSED_TOTAL, 2},
-    {"B   1   1\nZ 281\n", BANTAMEASEL_REFUSED_OUT_OF_RANGE, 2},
+    {"B   1   1\nZ 320\n", BANTAMEASEL_REFUSED_TOTAL, 2},
+    {"B   1   1\nZ 321\n", BANTAMEASEL_REFUSED_OUT_OF_RANGE, 2},
+    {"O   1  -1   0   0   0   0   0   0   0   0   0\n", BANTAMEASEL_REFUSED_LINE_PLACE, 1},
+    {"B   1   1\no\n", BANTAMEASEL_REFUSED_LINE_PLACE, 2},
+    {"B   1   1\nO   1  -1   0   0   0   0   0   0   0   0\n", BANTAMEASEL_REFUSED_LINE_LENGTH, 2},
+    {"B   1   1\nO   1  -1   0   0   0   0   0   0   0   0   x\n", BANTAMEASEL_REFUSED_FIELD_CHARACTER, 2},
+    {"B   1   1\nO   1  -1       0   0   0   0   0   0   0   0\n", BANTAMEASEL_REFUSED_FIELD_GAP, 2},
+    {"B   1   1\nO   1  -1  -0   0   0   0   0   0   0   0   0\n", BANTAMEASEL_REFUSED_FIELD_ZERO, 2},
+    {"B   1   1\nO   1  -1   2   0   0   0   0   0   0   0   0\n", BANTAMEASEL_REFUSED_OUT_OF_RANGE, 2},
+    {"B   1   1\nO   1   0   0   0   0   0   0   0   0   0  -2\n", BANTAMEASEL_REFUSED_OUT_OF_RANGE, 2},
+    {"B   1   1\nO   1   0   0   0   0   0   0   0   0   0  -1\n", BANTAMEASEL_REFUSED_TOO_FEW_HEADS, 2},
+    {"B   1   1\nO   0   0   0   1  -1   0   0   0   0   0   0\n", BANTAMEASEL_REFUSED_TOO_FEW_HEADS, 2},
+    {"B   1   1\nO   0   1   1   0   0   0   0   0   0   0   0\nO   0   0  -1   0   0   0   0   0   0   0   0\n",
+     BANTAMEASEL_REFUSED_TOO_FEW_HEADS, 3},
+    {"B   1   1\nO   0   1   1   0   0   0   0   0   0   0   0\nR   0   0   0   0   0   0   0   0   0\n",
+     BANTAMEASEL_REFUSED_LINE_PLACE, 3},
+    {"B   1   1\nX   1   0   0   0   0   0   0   0   0\nO   0   1   1   0   0   0   0   0   0   0   0\n",
+     BANTAMEASEL_REFUSED_LINE_PLACE, 3},
+    {"B   1   1\nO   1   0  -1   0   0   0   0   0   0   0   0\nZ   0\n", BANTAMEASEL_REFUSED_TOTAL, 3},
     {"Q   1   1   0   0   0   0   0   0   0   0\n", BANTAMEASEL_REFUSED_LINE_PLACE, 1},
     {"B   1   1\nq\n", BANTAMEASEL_REFUSED_LINE_PLACE, 2},
     {"B   1   1\nQ   1   1   0   0   0   0   0   0   0\n", BANTAMEASEL_REFUSED_LINE_LENGTH, 2},
@@ -120,31 +137,43 @@ static void test_pairs(void) {
 
 /* A number table of so many numbers, and what Write refuses it with. */
 typedef struct {
-    int32_t numbers[16];
+    int32_t numbers[20];
     size_t length;
     uint32_t refusal;
     uint64_t line;
 } faulty_table;
 
-/* The three before the last are tables for a version before 2.4, which did not count Q lines: one without a row, and
- * two with an R row, of head 1 and of head -1. The last one is right, but there is no room for its text. */
+/* The seven before the last are tables for versions before 2.5, which did not count O lines, or neither Q nor O lines:
+ * without a row, and with an R row of head 1 and of head -1. The last one is right, but there is no room for its text. */
 static const faulty_table TABLES[] = {
     {{1, 0, 0}, 3, BANTAMEASEL_REFUSED_TABLE_LENGTH, 0},
-    {{1, 0, 0, 0, 0, 0}, 6, BANTAMEASEL_REFUSED_TABLE_LENGTH, 0},
-    {{0, 0, 0, 0, 33}, 5, BANTAMEASEL_REFUSED_OUT_OF_RANGE, 1},
-    {{1, 201, 0, 0, 0}, 5, BANTAMEASEL_REFUSED_TOO_MANY, 1},
-    {{1, 0, 17, 0, 0}, 5, BANTAMEASEL_REFUSED_TOO_MANY, 1},
-    {{1, 0, 0, 33, 0}, 5, BANTAMEASEL_REFUSED_TOO_MANY, 1},
-    {{1, 0, 0, 0, 33}, 5, BANTAMEASEL_REFUSED_TOO_MANY, 1},
-    {{1, 0, 0, 0, -1}, 5, BANTAMEASEL_REFUSED_TOO_MANY, 1},
-    {{1, 0, 0, 0, 1, 1, 1, 0, 0, 0, 0, 0, 0, 0}, 14, BANTAMEASEL_REFUSED_TABLE_LENGTH, 0},
-    {{1, 0, 0, 0, 1, 1, 1, 0, 0, 0, 0, 0, 0, 0, 0}, 15, BANTAMEASEL_REFUSED_PREFERENCE, 2},
-    {{1, 0, 0, 0, 1, 1, 1, 0, 0, 0, 0, 0, 0, 0, 2}, 15, BANTAMEASEL_REFUSED_OUT_OF_RANGE, 2},
-    {{1, 0, 0, 0, 1, 1, 0, 0, 0, 0, 0, 0, 0, 0, 0}, 15, BANTAMEASEL_REFUSED_OUT_OF_RANGE, 2},
+    {{1, 0, 0, 0, 0, 0, 0}, 7, BANTAMEASEL_REFUSED_TABLE_LENGTH, 0},
+    {{0, 0, 0, 0, 0, 41}, 6, BANTAMEASEL_REFUSED_OUT_OF_RANGE, 1},
+    {{1, 201, 0, 0, 0, 0}, 6, BANTAMEASEL_REFUSED_TOO_MANY, 1},
+    {{1, 0, 17, 0, 0, 0}, 6, BANTAMEASEL_REFUSED_TOO_MANY, 1},
+    {{1, 0, 0, 33, 0, 0}, 6, BANTAMEASEL_REFUSED_TOO_MANY, 1},
+    {{1, 0, 0, 0, 33, 0}, 6, BANTAMEASEL_REFUSED_TOO_MANY, 1},
+    {{1, 0, 0, 0, -1, 0}, 6, BANTAMEASEL_REFUSED_TOO_MANY, 1},
+    {{1, 0, 0, 0, 0, 41}, 6, BANTAMEASEL_REFUSED_TOO_MANY, 1},
+    {{1, 0, 0, 0, 0, -1}, 6, BANTAMEASEL_REFUSED_TOO_MANY, 1},
+    {{1, 0, 0, 0, 1, 0, 1, 1, 0, 0, 0, 0, 0, 0, 0}, 15, BANTAMEASEL_REFUSED_TABLE_LENGTH, 0},
+    {{1, 0, 0, 0, 1, 0, 1, 1, 0, 0, 0, 0, 0, 0, 0, 0}, 16, BANTAMEASEL_REFUSED_PREFERENCE, 2},
+    {{1, 0, 0, 0, 1, 0, 1, 1, 0, 0, 0, 0, 0, 0, 0, 2}, 16, BANTAMEASEL_REFUSED_OUT_OF_RANGE, 2},
+    {{1, 0, 0, 0, 1, 0, 1, 0, 0, 0, 0, 0, 0, 0, 0, 0}, 16, BANTAMEASEL_REFUSED_OUT_OF_RANGE, 2},
+    {{1, 0, 0, 0, 0, 1, 1, -1, 0, 0, 0, 0, 0, 0, 0, 0}, 16, BANTAMEASEL_REFUSED_TABLE_LENGTH, 0},
+    {{1, 0, 0, 0, 0, 1, 1, 0, 0, 0, 0, 0, 0, 0, 0, 0, 0}, 17, BANTAMEASEL_REFUSED_TOO_FEW_HEADS, 2},
+    {{1, 0, 0, 0, 0, 1, 0, 0, 0, 1, 0, 0, 0, 0, 0, 0, 0}, 17, BANTAMEASEL_REFUSED_TOO_FEW_HEADS, 2},
+    {{1, 0, 0, 0, 0, 1, 2, 0, 0, 0, 0, 0, 0, 0, 0, 0, 0}, 17, BANTAMEASEL_REFUSED_OUT_OF_RANGE, 2},
+    {{1, 0, 0, 0, 0, 1, 1, 0, 0, 0, 0, 0, 0, 0, 0, 0, -2}, 17, BANTAMEASEL_REFUSED_OUT_OF_RANGE, 2},
+    {{1, 0, 0, 0, 0, 1, 1, 0, 1, 0, 0, 0, 0, 0, 0, 0, -1}, 17, BANTAMEASEL_REFUSED_BUFFER_SHORT, 0},
+    {{1, 0, 0, 0, 0}, 5, BANTAMEASEL_REFUSED_TABLE_LENGTH, 0},
+    {{1, 1, 0, 0, 0, 1, 0, 0, 0, 0, 0, 0, 0, 0}, 14, BANTAMEASEL_REFUSED_TABLE_LENGTH, 0},
+    {{1, 1, 0, 0, 0, 0, 0, 0, 0, 0, 0, 0, 0, 0}, 14, BANTAMEASEL_REFUSED_TABLE_LENGTH, 0},
+    {{1, 1, 0, 0, 0, -1, 0, 0, 0, 0, 0, 0, 0, 0}, 14, BANTAMEASEL_REFUSED_TOO_MANY, 1},
     {{1, 0, 0, 0}, 4, BANTAMEASEL_REFUSED_TABLE_LENGTH, 0},
     {{1, 1, 0, 0, 1, 0, 0, 0, 0, 0, 0, 0, 0}, 13, BANTAMEASEL_REFUSED_TABLE_LENGTH, 0},
     {{1, 1, 0, 0, -1, 0, 0, 0, 0, 0, 0, 0, 0}, 13, BANTAMEASEL_REFUSED_TOO_MANY, 1},
-    {{1, 0, 0, 0, 0}, 5, BANTAMEASEL_REFUSED_BUFFER_SHORT, 0},
+    {{1, 0, 0, 0, 0, 0}, 6, BANTAMEASEL_REFUSED_BUFFER_SHORT, 0},
 };
 
 static void test_tables(void) {
@@ -220,6 +249,8 @@ void test_words(void) {
     expect("the words of 18", strstr(bantameasel_refusal_words(18), "leading zero") != NULL, 1);
     expect("the words of 11", strstr(bantameasel_refusal_words(11), "Z line") != NULL, 1);
     expect("the words of 19", strstr(bantameasel_refusal_words(19), "Q lines") != NULL, 1);
+    expect("the words of 22", strstr(bantameasel_refusal_words(22), "O lines") != NULL, 1);
+    expect("the words of 23", strstr(bantameasel_refusal_words(23), "two heads") != NULL, 1);
     expect("the words of verdict 4", strstr(bantameasel_verdict_words(4), "outranks one taken here") != NULL, 1);
     expect("the words of verdict 5", strstr(bantameasel_verdict_words(5), "some undominated view") != NULL, 1);
 }

@@ -20,9 +20,9 @@ static void test_no_text(bantameasel_pair pair) {
 /* Every function with a text of its own, on the heap so that nothing past it can be read unseen, and no room. */
 static void test_no_room(const uint8_t *text, size_t length, bantameasel_pair pair) {
     const uint32_t no_room = BANTAMEASEL_REFUSED_BUFFER_SHORT;
-    const int32_t table[5] = {1, 0, 0, 0, 0};
+    const int32_t table[6] = {1, 0, 0, 0, 0, 0};
     expect_refusal("Read", bantameasel_read(text, length, NULL, 0).refusal, no_room);
-    expect_refusal("Write", bantameasel_write(table, 5, NULL, 0).refusal, no_room);
+    expect_refusal("Write", bantameasel_write(table, 6, NULL, 0).refusal, no_room);
     expect_refusal("Line", bantameasel_line(text, length, pair, NULL, 0).refusal, no_room);
     bantameasel_page page = bantameasel_first_page(text, length, NULL, 0);
     expect_refusal("the first page", page.refusal, BANTAMEASEL_NOT_REFUSED);

@@ -252,6 +252,46 @@ static size_t test_held_chain(book *b) { return test_chain(b, 1); }
 
 static size_t test_denied_chain(book *b) { return test_chain(b, -1); }
 
+/* A choice of 1 to 6, and 20 pairs of which both follow where a term holds. So the pairs are all there or none, and of a
+ * set that is found it must be shown that no part of it is closed, which takes many dead ends. */
+static size_t test_terms(book *b) {
+    const int free = 6, pairs = 20, last = free + 2 * pairs + 1;
+    const uint64_t all = ((UINT64_C(1) << (2 * pairs + 1)) - 1) << free;
+    begin(b, BANTAMEASEL_MOST_STATEMENTS);
+    for (int k = 0; k < 2 * pairs; k++) add(b, 'R', (row){.head = free + 1 + k, .needed = {last}});
+    for (int k = 0; k < 60; k++) {
+        int chosen = k % 2 ? 1 + k % free : -1 - k % free;
+        int one = free + 1 + 2 * (k % pairs) + k % 2, other = free + 2 + 2 * ((k * 7 + 3) % pairs) - k / 20 % 2;
+        add(b, 'R', (row){.head = last, .needed = {chosen, one, other}});
+    }
+    for (int k = 0; k < pairs; k++) {
+        int one = free + 1 + 2 * k, other = free + 2 + 2 * ((k + 1) % pairs);
+        add(b, 'R', (row){.head = last, .needed = {one, other}});
+    }
+    add(b, 'R', (row){.barred = {last}});
+    for (int k = 1; k <= free; k++) either(b, (row){.heads = {k, -k}});
+    for (int k = 0; k < pairs; k++) either(b, (row){.heads = {free + 1 + 2 * k, free + 2 + 2 * k}});
+    add(b, 'X', (row){.head = last, .needed = {1}});
+    return test_deep(b, (bantameasel_pair){1, all | 1, 62});
+}
+
+/* Sets with one of three in each of forty lines, which bring each other about in a circle of all 48. */
+static size_t test_circle_of_heads(book *b) {
+    begin(b, BANTAMEASEL_MOST_STATEMENTS);
+    for (int k = 0; k < 48; k++) add(b, 'R', (row){.head = 1 + (k + 1) % 48, .needed = {1 + k}});
+    for (int k = 0; k < BANTAMEASEL_MOST_ALTERNATIVES; k++)
+        either(b, (row){.heads = {1 + k, 1 + (k + 16) % 48, 1 + (k + 32) % 48}});
+    return test_deep(b, (bantameasel_pair){0, (UINT64_C(1) << 48) - 1, 0});
+}
+
+/* The smallest sets with one of three in each of forty lines. */
+static size_t test_hitting(book *b) {
+    begin(b, BANTAMEASEL_MOST_STATEMENTS);
+    for (int k = 0; k < BANTAMEASEL_MOST_ALTERNATIVES; k++)
+        either(b, (row){.heads = {1 + k, 1 + (k * 5 + 7) % 48, 1 + (k * 11 + 3) % 48}});
+    return test_deep(b, (bantameasel_pair){0, 0, 0});
+}
+
 /* Every statement is a choice. */
 static size_t test_choices(book *b) {
     choices(b, 48, 48);
@@ -292,8 +332,10 @@ static void test_stores_small(void) {
 
 /* A call that takes more stack than this ends the program by a signal. */
 void test_stack(void) {
-    static size_t (*const tests[])(book *) = {test_denied,      test_dead_ends,  test_needed,       test_judged,
-                                              test_conditional, test_held_chain, test_denied_chain, test_choices};
+    static size_t (*const tests[])(book *) = {
+        test_denied,     test_dead_ends,    test_needed,  test_judged, test_conditional,
+        test_held_chain, test_denied_chain, test_choices, test_terms,  test_circle_of_heads,
+        test_hitting};
     size_t most = 0;
     book b;
     printf("stack: the deepest books in threads with %d bytes\n", BANTAMEASEL_MOST_STACK);
