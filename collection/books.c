@@ -55,11 +55,11 @@ static bool load(const char *name, book *b)
     return good || fail(name, "it could not be read");
 }
 
-/* Has the engine read the text, and keeps the numbers of statements and exceptions. Its table has at most one number
+/* Has the engine read the text, and keeps the numbers of statements and exceptions. Its table has at most two numbers
    more than there are fourths in the text's length. */
 static bool measure(book *b)
 {
-    size_t room = b->length / FIELD + 1;
+    size_t room = b->length / FIELD + 2;
     int32_t *table = malloc(room * sizeof *table);
     if (table == NULL) {
         return fail(b->name, "there is no memory for the number table");

@@ -154,7 +154,8 @@ static const char *letter_words(uint8_t byte)
     case ' ': return "a space stands before the letter";
     case '\r': return "the line is empty but for a carriage return";
     case '"': return "a quotation mark, as in a file of separated values; write none";
-    default: return "no line begins so; the letters are B, R, X, P, Q and Z, and there are no comments";
+    case '0': return "this is the digit 0; a rule with alternatives begins with the letter O";
+    default: return "no line begins so; the letters are B, R, O, X, P, Q and Z, and there are no comments";
     }
 }
 
@@ -166,7 +167,7 @@ static void explain_order(const place *p)
     } else if (p->last == LAST) {
         say("Near column 1: nothing may follow the Z line. Keep one book to a file.");
     } else {
-        say("Near column 1: %c may not follow %c. The order is B, R, X, P, Q, Z.", kinds[p->of].letter,
+        say("Near column 1: %c may not follow %c. The order is B, R, O, X, P, Q, Z.", kinds[p->of].letter,
             kinds[p->last].letter);
     }
 }
@@ -213,14 +214,22 @@ static size_t last_spaces(line l)
     return c + 1;
 }
 
-/* A preference of one kind that has the length of the other is likely to be of the other. */
+/* A rule or a preference of one kind that has the length of another is likely to be of the other. */
 static void explain_other_kind(const place *p)
 {
-    size_t past = p->at.length + 1;
-    if (p->of == PREFERENCE && past == column_of(kinds[CONDITIONAL].fields)) {
-        say("A preference under a condition is a Q line.");
-    } else if (p->of == CONDITIONAL && past == column_of(kinds[PREFERENCE].fields)) {
-        say("A preference without a condition is a P line.");
+    static const struct {
+        int of, other;
+        const char *words;
+    } likely[] = {
+        { PREFERENCE, CONDITIONAL, "A preference under a condition is a Q line." },
+        { CONDITIONAL, PREFERENCE, "A preference without a condition is a P line." },
+        { PLAIN, ALTERNATIVES, "A rule with alternatives, three fields for heads, is an O line." },
+        { ALTERNATIVES, PLAIN, "An O line has three fields for heads; a rule with one head is an R line." },
+    };
+    for (size_t k = 0; k < sizeof likely / sizeof likely[0]; k++) {
+        if (p->of == likely[k].of && p->at.length + 1 == column_of(kinds[likely[k].other].fields)) {
+            say("%s", likely[k].words);
+        }
     }
 }
 
@@ -413,7 +422,25 @@ static void explain_number(const place *p, uint32_t refusal)
     explain_right(p, refusal, k, number);
 }
 
-/* ---- 8, 19: too many lines ---- */
+/* ---- 23: too few heads ---- */
+
+/* Points at the three fields for heads, and says how many are filled and what the line could be instead. */
+static void explain_heads(const place *p)
+{
+    int filled = 0, number;
+    for (int k = 0; k < HEADS; k++) {
+        filled += read_columns(p->at, k, &number) && number != 0;
+    }
+    point_at(p->at, column_of(0), HEADS * COLUMNS);
+    if (filled == 0) {
+        say("Near column %zu: all three heads are 0; an O line needs two. A constraint is an R line.", column_of(0));
+    } else {
+        say("Near column %zu: only one of the three heads is not 0; an O line needs two. A rule with one head is an R "
+            "line.", column_of(0));
+    }
+}
+
+/* ---- 8, 19, 22: too many lines ---- */
 
 static void explain_many(const place *p)
 {
@@ -433,7 +460,9 @@ static void explain_line(const place *p, uint32_t refusal)
     case BANTAMEASEL_REFUSED_FIELD_GAP:
     case BANTAMEASEL_REFUSED_FIELD_ZERO: explain_spelling(p, refusal); break;
     case BANTAMEASEL_REFUSED_TOO_MANY:
-    case BANTAMEASEL_REFUSED_TOO_MANY_CONDITIONALS: explain_many(p); break;
+    case BANTAMEASEL_REFUSED_TOO_MANY_CONDITIONALS:
+    case BANTAMEASEL_REFUSED_TOO_MANY_ALTERNATIVES: explain_many(p); break;
+    case BANTAMEASEL_REFUSED_TOO_FEW_HEADS: explain_heads(p); break;
     default: explain_number(p, refusal);
     }
 }

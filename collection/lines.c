@@ -6,13 +6,14 @@
 
 /* The most lines that Z counts. */
 enum {
-    ROWS_MOST = BANTAMEASEL_MOST_PLAIN + BANTAMEASEL_MOST_EXCEPTIONS + BANTAMEASEL_MOST_PREFERENCES
-        + BANTAMEASEL_MOST_CONDITIONALS
+    ROWS_MOST = BANTAMEASEL_MOST_PLAIN + BANTAMEASEL_MOST_ALTERNATIVES + BANTAMEASEL_MOST_EXCEPTIONS
+        + BANTAMEASEL_MOST_PREFERENCES + BANTAMEASEL_MOST_CONDITIONALS
 };
 
 const kind kinds[KINDS] = {
     { 'B', 2, 1 },
     { 'R', 9, BANTAMEASEL_MOST_PLAIN },
+    { 'O', 11, BANTAMEASEL_MOST_ALTERNATIVES },
     { 'X', 9, BANTAMEASEL_MOST_EXCEPTIONS },
     { 'P', 2, BANTAMEASEL_MOST_PREFERENCES },
     { 'Q', 10, BANTAMEASEL_MOST_CONDITIONALS },
@@ -107,13 +108,15 @@ const char *field_words(int of, int k)
         "the first needed entry", "the second needed entry", "the third needed entry", "the fourth needed entry",
         "the first barred entry", "the second barred entry", "the third barred entry", "the fourth barred entry"
     };
+    static const char *const heads[HEADS] = { "the first head", "the second head", "the third head" };
     if (names_exception(of, k)) {
         return k == 0 ? "the exception that outranks" : "the exception that is outranked";
     }
     switch (of) {
     case FIRST: return k == 0 ? "the edition" : "the number of statements";
+    case ALTERNATIVES: return k < HEADS ? heads[k] : entries[k - HEADS];
     case CONDITIONAL: return entries[k - 2];
-    case LAST: return "the number of R, X, P and Q lines";
+    case LAST: return "the number of R, O, X, P and Q lines";
     default: return k == 0 ? "the head" : entries[k - 1];
     }
 }

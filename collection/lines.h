@@ -13,7 +13,11 @@ enum {
 };
 
 /* The kinds of line, in the order in which they stand in a book. */
-enum { FIRST, PLAIN, EXCEPTION, PREFERENCE, CONDITIONAL, LAST, KINDS };
+enum { FIRST, PLAIN, ALTERNATIVES, EXCEPTION, PREFERENCE, CONDITIONAL, LAST, KINDS };
+
+enum {
+    HEADS = 3 /* heads of a rule with alternatives */
+};
 
 /* A kind of line: its letter, how many fields follow it, and how many such lines a book may have. */
 typedef struct {

@@ -437,6 +437,35 @@ printf 'A   1   1   0   0   0%s+...\nA   2   2   3   0   0%s.++.\n' "$z8" "$z8" 
 same "$work/line" "$work/page" "the listing of a book with a preference under a condition"
 echo "judged and listed books with preferences under a condition"
 
+# Rules with alternatives. The shawl of either is of silk (1) or of a mixture (2), at least one of them; both of both
+# bring each other about.
+cat >"$work/either.book" <<'BOOK'
+B   1   2
+O   0   1   2   0   0   0   0   0   0   0   0
+Z   1
+BOOK
+sed '2{h;s/.*/R   2   1   0   0   0   0   0   0   0\nR   1   2   0   0   0   0   0   0   0/;G;};$s/1/3/' \
+    "$work/either.book" >"$work/both.book"
+judged either "A   0   0   0   0   0$z8+." 0
+judged either "A   0   0   0   0   0$z8.+" 0
+judged either "A   0   0   0   0   0$z8++" 1
+judged either "A   0   0   0   0   0$z8.." 1
+judged both "A   0   0   0   0   0$z8++" 0
+judged both "A   0   0   0   0   0$z8+." 1
+judged silk "A   1   2   0   0   0$z8+.-+..++++" 0
+judged silk "A   1   2   0   0   0$z8++-++.++++" 1
+judged silk "A   1   1   0   0   0$z8++-.....+." 1
+judged silk "A   2   1   2   0   0$z8++-....-++" 5
+run 0 "$work/either.book" next
+page_lines "$work/out" >"$work/page"
+printf 'A   0   0   0   0   0%s.+\nA   0   0   0   0   0%s+.\n' "$z8" "$z8" >"$work/line"
+same "$work/line" "$work/page" "the listing of a rule with alternatives"
+run 0 "$work/both.book" next
+page_lines "$work/out" >"$work/page"
+printf 'A   0   0   0   0   0%s++\n' "$z8" >"$work/line"
+same "$work/line" "$work/page" "the listing of alternatives that bring each other about"
+echo "judged and listed books with alternatives"
+
 run 1 "$work/k7.book" judge "A   1   3   0   0   0$z8+.+"
 said 'refusal 12: '
 run 1 "$work/k7.book" judge "A   2   1   0   0   0$z8+.+"
@@ -856,11 +885,12 @@ echo "many runs at once leave a whole store"
 gown=$EXAMPLES/gown.book
 ranked=$EXAMPLES/gown-ranked.book
 lined=$EXAMPLES/lined.book
+silk=$EXAMPLES/silk.book
 refusals=0
 
 # The text as a whole: 1 and 2.
 dd if=/dev/zero of="$work/zeros" bs=1000 count=70 2>/dev/null
-damaged zeros 'refusal 1: ' 'A book has at most 9888 bytes.'
+damaged zeros 'refusal 1: ' 'A book has at most 11728 bytes.'
 printf 'PK\003\004' | cat - "$work/zeros" >"$work/archive"
 damaged archive 'refusal 1: ' "a spreadsheet's or a word processor's own"
 : >"$work/empty"
@@ -895,12 +925,22 @@ damaged quoted 'refusal 3 at line 1: ' 'Near column 1: a quotation mark'
 sed '5s/.*/\r/' "$gown" >"$work/return"
 damaged return 'refusal 3 at line 5: ' 'the line is empty but for a carriage return.'
 sed '18s/X/R/' "$gown" >"$work/order"
-damaged order 'refusal 3 at line 18: ' 'Near column 1: R may not follow X. The order is B, R, X, P, Q, Z.'
+damaged order 'refusal 3 at line 18: ' 'Near column 1: R may not follow X. The order is B, R, O, X, P, Q, Z.'
 sed '29s/.*/P   2   1/' "$lined" >"$work/p-after-q"
 damaged p-after-q 'refusal 3 at line 29: ' 'Near column 1: P may not follow Q.'
 pointed 29 1 1
 sed '26{h;d;};28G' "$lined" >"$work/q-before-p"
 damaged q-before-p 'refusal 3 at line 28: ' 'Near column 1: P may not follow Q.'
+sed '10{h;d;};11G' "$silk" >"$work/r-after-o"
+damaged r-after-o 'refusal 3 at line 11: ' 'Near column 1: R may not follow O.'
+pointed 11 1 1
+sed '11{h;d;};12G' "$silk" >"$work/o-after-x"
+damaged o-after-x 'refusal 3 at line 12: ' 'Near column 1: O may not follow X.'
+sed '11s/O/o/' "$silk" >"$work/small-o"
+damaged small-o 'refusal 3 at line 11: ' 'Near column 1: the letter is small; write a capital.'
+sed '11s/O/0/' "$silk" >"$work/zero-o"
+damaged zero-o 'refusal 3 at line 11: ' 'Near column 1: this is the digit 0; a rule with alternatives begins with the letter O.'
+pointed 11 1 1
 sed '28s/Q/q/' "$lined" >"$work/small-q"
 damaged small-q 'refusal 3 at line 28: ' 'Near column 1: the letter is small; write a capital.'
 cat "$gown" "$gown" >"$work/twice"
@@ -938,6 +978,12 @@ sed '28s/Q/P/' "$lined" >"$work/conditioned"
 damaged conditioned 'refusal 4 at line 28: ' 'A preference under a condition is a Q line.'
 sed '28s/.*/Q   1   2/' "$lined" >"$work/unconditioned"
 damaged unconditioned 'refusal 4 at line 28: ' 'A preference without a condition is a P line.'
+sed '11s/   0$//' "$silk" >"$work/ten"
+damaged ten 'refusal 4 at line 11: ' 'The line has 41 columns; a line with the letter O has 45.'
+sed '11s/O/R/' "$silk" >"$work/three-heads"
+damaged three-heads 'refusal 4 at line 11: ' 'A rule with alternatives, three fields for heads, is an O line.'
+sed '11s/   0   0$//' "$silk" >"$work/nine-o"
+damaged nine-o 'refusal 4 at line 11: ' 'An O line has three fields for heads; a rule with one head is an R line.'
 sed '28s/Q/R/' "$lined" >"$work/ruled"
 damaged ruled 'refusal 3 at line 28: ' 'Near column 1: R may not follow P.'
 sed '27s/.*/P   3/' "$lined" >"$work/single"
@@ -1007,12 +1053,21 @@ sed '28s/.*/Q   1   9  14   0   0   0   0   0   0   0/' "$lined" >"$work/entry-q
 damaged entry-q 'refusal 6 at line 28: ' 'Near column 10: the first needed entry is 14; it has to be from -13 to 13.'
 said 'The number of statements in line 1 is 13.'
 pointed 28 10 4
-sed '$s/ 20/281/' "$gown" >"$work/total"
-damaged total 'refusal 6 at line 22: ' 'Near column 2: the number of R, X, P and Q lines is 281; it has to be from 0 to 280.'
-sed '$s/ 20/280/' "$gown" >"$work/total-280"
-damaged total-280 'refusal 11 at line 22: ' 'Near column 2: the number of R, X, P and Q lines is given as 280; there are 20.'
+sed '11s/   4/  11/' "$silk" >"$work/head-o"
+damaged head-o 'refusal 6 at line 11: ' 'Near column 10: the third head is 11; it has to be from -10 to 10.'
+said 'The number of statements in line 1 is 10.'
+pointed 11 10 4
+sed '11s/   3   4   1/   0   0  11/' "$silk" >"$work/entry-o"
+damaged entry-o 'refusal 6 at line 11: ' 'Near column 14: the first needed entry is 11; it has to be from -10 to 10.'
+sed '$s/ 20/321/' "$gown" >"$work/total"
+damaged total 'refusal 6 at line 22: ' 'Near column 2: the number of R, O, X, P and Q lines is 321; it has to be from 0 to 320.'
+sed '$s/ 20/320/' "$gown" >"$work/total-320"
+damaged total-320 'refusal 11 at line 22: ' 'Near column 2: the number of R, O, X, P and Q lines is given as 320; there are 20.'
+sed '$s/12/11/' "$silk" >"$work/o-not-counted"
+damaged o-not-counted 'refusal 11 at line 14: ' 'the number of R, O, X, P and Q lines is given as 11; there are 12.'
+pointed 14 2 4
 sed '$s/28/26/' "$lined" >"$work/q-not-counted"
-damaged q-not-counted 'refusal 11 at line 30: ' 'the number of R, X, P and Q lines is given as 26; there are 28.'
+damaged q-not-counted 'refusal 11 at line 30: ' 'the number of R, O, X, P and Q lines is given as 26; there are 28.'
 pointed 30 2 4
 sed '1s/1/2/' "$gown" >"$work/edition"
 damaged edition 'refusal 7 at line 1: ' 'Near column 2: the edition is 2; it has to be 1.'
@@ -1024,7 +1079,7 @@ sed '18s/5$/6/' "$ranked" >"$work/missing"
 damaged missing 'refusal 10 at line 18: ' 'Near column 6: the exception that is outranked is 6; the number of X lines is 5.'
 pointed 18 6 4
 sed '$s/20/21/' "$gown" >"$work/count"
-damaged count 'refusal 11 at line 22: ' 'Near column 2: the number of R, X, P and Q lines is given as 21; there are 20.'
+damaged count 'refusal 11 at line 22: ' 'Near column 2: the number of R, O, X, P and Q lines is given as 21; there are 20.'
 pointed 22 2 4
 awk 'NR == 16 { for (k = 0; k < 186; k++) print } { print }' "$gown" >"$work/rules"
 damaged rules 'refusal 8 at line 202: ' 'This is R line 201; a book has at most 200.'
@@ -1032,6 +1087,25 @@ sed '21{p;p;p;p;p;p;p;p;p;p;p;p;}' "$gown" >"$work/many"
 damaged many 'refusal 8 at line 33: ' 'This is X line 17; a book has at most 16.'
 awk 'NR == 15 { for (k = 0; k < 29; k++) print } { print }' "$ranked" >"$work/preferences"
 damaged preferences 'refusal 8 at line 47: ' 'This is P line 33; a book has at most 32.'
+sed '11s/   3   4/   0   0/' "$silk" >"$work/one-head"
+damaged one-head 'refusal 23 at line 11: ' 'Near column 2: only one of the three heads is not 0; an O line needs two.'
+pointed 11 2 12
+sed '11s/   2   3   4/   0   0  -4/' "$silk" >"$work/last-head"
+damaged last-head 'refusal 23 at line 11: ' 'A rule with one head is an R line.'
+sed '11s/   2   3   4/   0   0   0/' "$silk" >"$work/no-heads"
+damaged no-heads 'refusal 23 at line 11: ' 'Near column 2: all three heads are 0; an O line needs two. A constraint is an R line.'
+pointed 11 2 12
+awk 'NR == 11 { for (k = 0; k < 40; k++) print } { print }' "$silk" >"$work/alternatives"
+damaged alternatives 'refusal 22 at line 51: ' 'This is O line 41; a book has at most 40.'
+sed '51s/   2   3   4/   2   0   0/' "$work/alternatives" >"$work/alternatives-23"
+damaged alternatives-23 'refusal 22 at line 51: ' 'This is O line 41; a book has at most 40.'
+sed '51s/   2/  11/' "$work/alternatives" >"$work/alternatives-6"
+damaged alternatives-6 'refusal 6 at line 51: ' 'the first head is 11; it has to be from -10 to 10.'
+sed '51d; $s/12/51/' "$work/alternatives" >"$work/forty.book"
+run 0 "$work/forty.book" next
+page_lines "$work/out" >"$work/page"
+a_lines "$EXAMPLES/silk.out" >"$work/line"
+same "$work/line" "$work/page" "a book with as many O lines as there may be"
 awk 'NR == 29 { for (k = 0; k < 31; k++) print } { print }' "$lined" >"$work/conditionals"
 damaged conditionals 'refusal 19 at line 60: ' 'This is Q line 33; a book has at most 32.'
 sed '60s/   2   1/   2   9/' "$work/conditionals" >"$work/conditionals-10"
@@ -1049,6 +1123,7 @@ each_field gown-ranked 1 2
 each_field gown-ranked 2 9
 each_field gown-ranked 10 9
 each_field gown-ranked 15 2
+each_field silk 11 11
 each_field lined 28 10
 each_field gown-ranked 19 1
 echo "pointed at each field of a line of each kind"
@@ -1090,6 +1165,9 @@ said 'the point was written down for another book'
 watched 0 "$work/k7.book" judge "A   2   1   2   0   0$z8+++"
 printed 'Verdict 5: '
 watched 0 -p "$work/lpoint" "$work/lined.book" next
+watched 0 -p "$work/spoint" "$work/silk.book" next
+watched 0 "$work/both.book" judge "A   0   0   0   0   0$z8++"
+printed 'Verdict 0: '
 watched 0 "$work/worn.book" judge "A   2   2   3   0   0$z8.++."
 printed 'Verdict 0: '
 rm -f "$work/vpoint"

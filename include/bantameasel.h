@@ -1,10 +1,10 @@
 /*
  * bantameasel: a rule engine for museum catalogues, for programs in C.
  *
- * A museum writes a book: statements numbered from 1 to n, plain rules, exceptions, and preferences among the
- * exceptions, some of them under a condition. The engine lists the book's resolutions in a fixed order; the one that a
- * curator picks becomes the catalogue entry. docs/BOOKS.md teaches the text of a book and what a resolution is. Link
- * with -lbantameasel.
+ * A museum writes a book: statements numbered from 1 to n, plain rules, some of them with alternatives, exceptions, and
+ * preferences among the exceptions, some of them under a condition. The engine lists the book's resolutions in a fixed
+ * order; the one that a curator picks becomes the catalogue entry. docs/BOOKS.md teaches the text of a book and what a
+ * resolution is. Link with -lbantameasel.
  *
  * WHAT HOLDS FOR EVERY FUNCTION
  *
@@ -47,21 +47,34 @@
  *   accepts is accepted, and Judge, First, After, Line and the pages answer for it as before, byte for byte; verdict 5
  *   now asks for an undominated view, which makes no difference where there are no Q lines. A text that 2.3 refuses may
  *   be accepted, or refused otherwise, if it has a Q line (3 before), 8,545 to 9,888 bytes (1 before), or 249 to 280 in
- *   its Z line (6 before). The numbers 20 to 23 are kept for later versions, and this one never gives them: the refusals
- *   up to BANTAMEASEL_LAST_REFUSAL have a gap there.
+ *   its Z line (6 before).
  *   A program that was built with the header of 2.3 keeps working as it is, but for number tables. These have one number
  *   more in front, in every book, also in one without Q lines. What a program that uses them must change:
  *   Rows   that Read writes begin at table[5] and no longer at table[4], where the number of Q lines now stands.
  *   Tables for Write need that number too, mostly 0, behind the one of P lines. None of 2.3 is taken for another book's:
  *          Write refuses each of them, by 8 or by 16.
- *   Room   for Read's table: text_length / 4 + 1 numbers. text_length / 4 are one too few for a book that has no line
- *          between B and Z, or a single R or X line; BANTAMEASEL_MOST_TABLE is 2,333 and was 2,012. Read refuses what is
- *          too short by 15.
+ *   Room   for Read's table: text_length / 4 + 1 numbers in 2.4. text_length / 4 are one too few for a book that has no
+ *          line between B and Z, or a single R or X line; BANTAMEASEL_MOST_TABLE was 2,333 in 2.4 and 2,012 before. Read
+ *          refuses what is too short by 15.
+ * - From 2.4 to 2.5: a book may have up to 40 O lines after its R lines, plain rules with alternatives. Read's answer
+ *   has their number in the place of the next reserved one; 22 is the refusal of one too many, and 23 that of one with
+ *   fewer than two heads. Every text that 2.4 accepts is accepted, and Judge, First, After, Line and the pages answer
+ *   for it as before, byte for byte. A text that 2.4 refuses may be accepted, or refused otherwise, if it has an O line
+ *   (3 before), 9,889 to 11,728 bytes (1 before), or 281 to 320 in its Z line (6 before). The numbers 20 and 21 are kept
+ *   for later versions, and this one never gives them: the refusals up to BANTAMEASEL_LAST_REFUSAL have a gap there.
+ *   A program that was built with the header of 2.4 keeps working as it is, but for number tables. These have one number
+ *   more in front, in every book, also in one without O lines. What a program that uses them must change:
+ *   Rows   that Read writes begin at table[6] and no longer at table[5], where the number of O lines now stands. The O
+ *          rows stand behind the R rows, as in the text, though their number stands last.
+ *   Tables for Write need that number too, mostly 0, behind the one of Q lines. None of 2.4 is taken for another book's:
+ *          Write refuses each of them, by 8 or by 16.
+ *   Room   for Read's table: text_length / 4 + 2 numbers. text_length / 4 + 1 are one too few for a book that has no
+ *          line between B and Z, or a single one; BANTAMEASEL_MOST_TABLE is 2,774. Read refuses what is too short by 15.
  *
  * THE REFUSALS, IN THE ORDER IN WHICH THEY ARE LOOKED FOR; the first that applies is given. The names are below.
  *
  * Of a text:
- *    1  the text is longer than 9,888 bytes (line 0)
+ *    1  the text is longer than 11,728 bytes (line 0)
  *    2  the text is empty, or its last byte is not a line feed (line 0)
  *    then line by line, from the top:
  *    3  the line's letter is not allowed here; an empty line; a line after Z; a missing Z, at the line after the last
@@ -76,22 +89,25 @@
  *    6  the number is outside its range
  *    then the line as a whole:
  *    8  this is one R, X or P line more than a book may have (200, 16, 32)
+ *   22  this is one O line more than a book may have (40), in the place of 8
  *   19  this is one Q line more than a book may have (32), in the place of 8
  *    9  an exception has the head 0
+ *   23  an O line has fewer than two heads that are not 0, in the place of 9
  *   10  a preference, in a P or a Q line, names an exception that the book does not have
- *   11  the number in the Z line is not the number of R, X, P and Q lines
+ *   11  the number in the Z line is not the number of R, O, X, P and Q lines
  * Of a pair, once the text is accepted (line 0):
  *   12  taken has a bit for an exception that the book does not have
  *   13  held or denied has a bit for a statement above n
  *   14  held and denied share a bit
  * Of a number table:
- *   16  it has fewer than 5 numbers (line 0)
+ *   16  it has fewer than 6 numbers (line 0)
  *    6  n is not 1 to 48 (line 1)
- *    8  a count is negative or above its limit, that of Q lines too: 19 is never given for a table (line 1)
+ *    8  a count is negative or above its limit, that of Q or O lines too: 19 and 22 are never given for a table (line 1)
  *   16  its length is not the one that the counts ask for (line 0)
  *    then row by row, with the line that the row would have in the text (the first row: 2):
  *    6  a number is outside its range
  *    9  an exception has the head 0
+ *   23  an O row has fewer than two heads that are not 0
  *   10  a preference, in a P or a Q row, names an exception that the book does not have
  * Of a lent buffer, after everything else:
  *   15  it is shorter than the answer (line 0)
@@ -99,7 +115,7 @@
  *   24  the bytes are not a store, or are not 1,024; what a store is stands below
  *   25  the name is misspelt; for Go and Drop also: the store does not have it
  *   26  Set: the store has 32 names, and this is none of them
- * 20 to 23 are not given by this version.
+ * 20 and 21 are not given by this version.
  *
  * A PAIR is three numbers: the exceptions taken, the statements held, the statements denied. Number i is worth 2^(i-1)
  * in each, so exception 1 and statement 1 have the lowest bit. A pair is lawful for a book if none of 12 to 14 applies.
@@ -175,8 +191,8 @@
 extern "C" {
 #endif
 
-/* The version of this header: 100 for each whole version and 1 for each part of one, so that 204 is version 2.4. */
-#define BANTAMEASEL_VERSION 204
+/* The version of this header: 100 for each whole version and 1 for each part of one, so that 205 is version 2.5. */
+#define BANTAMEASEL_VERSION 205
 
 /* The limits of a book, and what follows from them. */
 #define BANTAMEASEL_MOST_STATEMENTS 48   /* statements, n */
@@ -184,8 +200,9 @@ extern "C" {
 #define BANTAMEASEL_MOST_EXCEPTIONS 16   /* X lines */
 #define BANTAMEASEL_MOST_PREFERENCES 32  /* P lines */
 #define BANTAMEASEL_MOST_CONDITIONALS 32 /* Q lines */
-#define BANTAMEASEL_MOST_TEXT 9888       /* bytes of a text */
-#define BANTAMEASEL_MOST_TABLE 2333      /* numbers of a number table */
+#define BANTAMEASEL_MOST_ALTERNATIVES 40 /* O lines */
+#define BANTAMEASEL_MOST_TEXT 11728      /* bytes of a text */
+#define BANTAMEASEL_MOST_TABLE 2774      /* numbers of a number table */
 #define BANTAMEASEL_MOST_LINE 118        /* bytes of an A line, its line feed included */
 
 /* A store of stopping points. */
@@ -218,10 +235,12 @@ enum {
     BANTAMEASEL_REFUSED_FIELD_GAP = 17,
     BANTAMEASEL_REFUSED_FIELD_ZERO = 18,
     BANTAMEASEL_REFUSED_TOO_MANY_CONDITIONALS = 19,
+    BANTAMEASEL_REFUSED_TOO_MANY_ALTERNATIVES = 22,
+    BANTAMEASEL_REFUSED_TOO_FEW_HEADS = 23,
     BANTAMEASEL_REFUSED_STORE = 24,
     BANTAMEASEL_REFUSED_NAME = 25,
     BANTAMEASEL_REFUSED_STORE_FULL = 26,
-    BANTAMEASEL_LAST_REFUSAL = 26 /* the highest number of this version, which does not give 20 to 23 */
+    BANTAMEASEL_LAST_REFUSAL = 26 /* the highest number of this version, which does not give 20 and 21 */
 };
 
 /* The verdicts of Judge. What each one means stands at bantameasel_verdict. */
@@ -252,7 +271,8 @@ typedef struct {
     uint64_t exceptions;   /* how many X lines, 0 to 16 */
     uint64_t preferences;  /* how many P lines, 0 to 32 */
     uint64_t conditionals; /* how many Q lines, 0 to 32; before 2.4 reserved, and 0 */
-    uint64_t reserved[3];  /* each 0 */
+    uint64_t alternatives; /* how many O lines, 0 to 40; before 2.5 reserved, and 0 */
+    uint64_t reserved[2];  /* each 0 */
 } bantameasel_book;
 
 /* What Write and Line answer: the refusal and its line, or how many bytes were written. */
@@ -270,6 +290,9 @@ typedef struct {
  *    4  dominated: some view takes an exception that outranks one taken here
  *    5  some undominated view takes a proper subset of the exceptions taken here
  *    0  none of these: the pair is a resolution
+ * The statements are an answer set if no constraint's body is satisfied and if they are closed, while no part of them
+ * is: with the rules that the pair's statements bar left out, each body that is satisfied has its head among them, and
+ * of an O line at least one of its heads. Without O lines that is the least closed set.
  * A view is a pair to which none of 1 to 3 applies. A P line gives the step from its exception a to its exception b in
  * every pair, a Q line in those whose statements satisfy its body. One exception outranks another if steps lead from it
  * to the other, one or more: for 2 the steps given in the pair itself; for 4 only those given in both, the view and the
@@ -317,13 +340,14 @@ uint32_t bantameasel_version(void);
  * Read: turns the text of a book into its number table.
  *
  * Takes    the text, and a lent table of table_length numbers.
- * Answers  the edition, n and the numbers of R, X, P and Q lines.
- * Writes   the number table, from the table's start on: n, the counts of R, X, P and Q, then 9 numbers for each R and X
- *          (head, 4 needed, 4 barred), 2 for each P (a, b) and 10 for each Q (a, b, 4 needed, 4 barred), in line order:
- *          5 + 9 * (plain + exceptions) + 2 * preferences + 10 * conditionals numbers in all. The rest of the table is
- *          unchanged. text_length / 4 + 1 numbers are always room enough, and no book needs more than
- *          BANTAMEASEL_MOST_TABLE.
- * Refuses  1 to 11 and 17 to 19 for the text; then 15 if the table is too short. The table is then unchanged.
+ * Answers  the edition, n and the numbers of R, X, P, Q and O lines.
+ * Writes   the number table, from the table's start on: n, the counts of R, X, P, Q and O, in this order; then, in line
+ *          order, 9 numbers for each R and X (head, 4 needed, 4 barred), 11 for each O (3 heads, 4 needed, 4 barred), 2
+ *          for each P (a, b) and 10 for each Q (a, b, 4 needed, 4 barred). So the O rows stand between the R and the X
+ *          rows. There are 6 + 9 * (plain + exceptions) + 11 * alternatives + 2 * preferences + 10 * conditionals
+ *          numbers in all. The rest of the table is unchanged. text_length / 4 + 2 numbers are always room enough, and
+ *          no book needs more than BANTAMEASEL_MOST_TABLE.
+ * Refuses  1 to 11, 17 to 19, 22 and 23 for the text; then 15 if the table is too short. The table is then unchanged.
  */
 bantameasel_book bantameasel_read(const uint8_t *text, size_t text_length, int32_t *table, size_t table_length);
 
@@ -334,8 +358,8 @@ bantameasel_book bantameasel_read(const uint8_t *text, size_t text_length, int32
  * Answers  the length of the text.
  * Writes   the text, from the buffer's start on. The bytes past it are unchanged, and no 0 byte is put behind it.
  *          5 * table_length bytes are always room enough, and no book needs more than BANTAMEASEL_MOST_TEXT.
- * Refuses  16, 6, 8, 9 or 10 for the table, in the order given above; then 15 if the buffer is too short. The buffer is
- *          then unchanged.
+ * Refuses  16, 6, 8, 9, 23 or 10 for the table, in the order given above; then 15 if the buffer is too short. The
+ *          buffer is then unchanged.
  */
 bantameasel_length bantameasel_write(const int32_t *table, size_t table_length, uint8_t *text, size_t text_length);
 
@@ -345,7 +369,7 @@ bantameasel_length bantameasel_write(const int32_t *table, size_t table_length, 
  * Takes    the text of a book and a pair.
  * Answers  the verdict, 0 to 5.
  * Writes   nothing; no buffer is lent.
- * Refuses  1 to 11 and 17 to 19 for the text; then 12 to 14 for the pair.
+ * Refuses  1 to 11, 17 to 19, 22 and 23 for the text; then 12 to 14 for the pair.
  */
 bantameasel_verdict bantameasel_judge(const uint8_t *text, size_t text_length, bantameasel_pair pair);
 
@@ -355,7 +379,7 @@ bantameasel_verdict bantameasel_judge(const uint8_t *text, size_t text_length, b
  * Takes    the text of a book.
  * Answers  found 1 and the first resolution in the order of pairs, or found 0 (End) if the book has none.
  * Writes   nothing; no buffer is lent.
- * Refuses  1 to 11 and 17 to 19 for the text.
+ * Refuses  1 to 11, 17 to 19, 22 and 23 for the text.
  */
 bantameasel_answer bantameasel_first(const uint8_t *text, size_t text_length);
 
@@ -367,7 +391,7 @@ bantameasel_answer bantameasel_first(const uint8_t *text, size_t text_length);
  *          with the pair 0, 0, 0: it may be a resolution itself, and After would pass over it. Begin with First.
  * Answers  found 1 and the first resolution later than the pair, or found 0 (End) if there is none.
  * Writes   nothing; no buffer is lent.
- * Refuses  1 to 11 and 17 to 19 for the text; then 12 to 14 for the pair.
+ * Refuses  1 to 11, 17 to 19, 22 and 23 for the text; then 12 to 14 for the pair.
  */
 bantameasel_answer bantameasel_after(const uint8_t *text, size_t text_length, bantameasel_pair pair);
 
@@ -381,8 +405,8 @@ bantameasel_answer bantameasel_after(const uint8_t *text, size_t text_length, ba
  *          or 16 in a book of 13 to 16 exceptions, of 4 columns with the exceptions taken, ascending, then 0; for each
  *          statement '.' (absent), '+' (held) or '-' (denied); a line feed. The bytes past it are unchanged, and no 0
  *          byte is put behind it. BANTAMEASEL_MOST_LINE bytes are room enough for every book.
- * Refuses  1 to 11 and 17 to 19 for the text; then 12 to 14 for the pair; then 15 if the buffer is too short. The buffer
- *          is then unchanged.
+ * Refuses  1 to 11, 17 to 19, 22 and 23 for the text; then 12 to 14 for the pair; then 15 if the buffer is too short.
+ *          The buffer is then unchanged.
  */
 bantameasel_length bantameasel_line(const uint8_t *text, size_t text_length, bantameasel_pair pair, uint8_t *line, size_t line_length);
 
@@ -394,7 +418,7 @@ bantameasel_length bantameasel_line(const uint8_t *text, size_t text_length, ban
  * Answers  how many pairs were written. Fewer than there is room for means that the listing has ended.
  * Writes   the pairs in order, from the slice's start on, three numbers each: taken, held, denied. The rest of the
  *          slice is unchanged. With room for no pair nothing is written and count is 0.
- * Refuses  1 to 11 and 17 to 19 for the text. The slice is then unchanged. A short slice is never refused.
+ * Refuses  1 to 11, 17 to 19, 22 and 23 for the text. The slice is then unchanged. A short slice is never refused.
  */
 bantameasel_page bantameasel_first_page(const uint8_t *text, size_t text_length, uint64_t *pairs, size_t pairs_length);
 
@@ -405,8 +429,8 @@ bantameasel_page bantameasel_first_page(const uint8_t *text, size_t text_length,
  * Answers  how many pairs were written. Fewer than there is room for means that the listing has ended.
  * Writes   the pairs in order, from the slice's start on, three numbers each: taken, held, denied. The rest of the
  *          slice is unchanged. With room for no pair nothing is written and count is 0.
- * Refuses  1 to 11 and 17 to 19 for the text; then 12 to 14 for the pair. The slice is then unchanged. A short slice is
- *          never refused.
+ * Refuses  1 to 11, 17 to 19, 22 and 23 for the text; then 12 to 14 for the pair. The slice is then unchanged. A short
+ *          slice is never refused.
  */
 bantameasel_page bantameasel_page_after(const uint8_t *text, size_t text_length, bantameasel_pair pair, uint64_t *pairs, size_t pairs_length);
 
@@ -507,6 +531,8 @@ static inline const char *bantameasel_refusal_words(uint32_t refusal)
     case BANTAMEASEL_REFUSED_FIELD_GAP: return "a field is blank, or a space stands after a digit";
     case BANTAMEASEL_REFUSED_FIELD_ZERO: return "a number has a leading zero, or is -0";
     case BANTAMEASEL_REFUSED_TOO_MANY_CONDITIONALS: return "there are more Q lines than a book may have";
+    case BANTAMEASEL_REFUSED_TOO_MANY_ALTERNATIVES: return "there are more O lines than a book may have";
+    case BANTAMEASEL_REFUSED_TOO_FEW_HEADS: return "an O line needs two heads or three, and this one has fewer";
     case BANTAMEASEL_REFUSED_STORE: return "this is not a store of named resolutions, or it is damaged";
     case BANTAMEASEL_REFUSED_NAME: return "the name is misspelt, or there is no such name";
     case BANTAMEASEL_REFUSED_STORE_FULL: return "the store is full, and this name would be one more than it may have";
