@@ -1,5 +1,7 @@
 // The answers of the operations as programs in C have them: structs of numbers. Each has the refusal, 0 where there is none, and its line; all
 // else in it is 0 where it was refused.
+#![tactic(auto)]
+
 ghost use Rattle.std.specs.Prelude.{◌≡◌};
 ghost use Rattle.answers.specs.Operations.{answer_of, verdict_of, count_of, length_of};
 ghost use Rattle.across.specs.Across.{book_in, amount_in, verdict_in, answer_in, done_of, gone_of};
@@ -12,7 +14,7 @@ use text::{Reading, Writing};
 // What Read answers: the edition, n and the numbers of R, X, P, Q and O lines. The reserved numbers are 0: room for counts to come. The numbers
 // of Q and O lines have the places of the first two of four, so that the struct keeps its size and every field its place.
 #[repr(C)]
-#[derive(Drop)]
+#[derive(Clone, Copy)]
 pub struct BookAnswer {
     pub refusal: u32,
     pub edition: u32,
@@ -28,7 +30,7 @@ pub struct BookAnswer {
 
 // What Write, Line and a page answer: how many bytes, how many pairs.
 #[repr(C)]
-#[derive(Drop)]
+#[derive(Clone, Copy)]
 pub struct Amount {
     pub refusal: u32,
     pub line: u64,
@@ -37,7 +39,7 @@ pub struct Amount {
 
 // What Judge answers: the verdict, 0 to 5.
 #[repr(C)]
-#[derive(Drop)]
+#[derive(Clone, Copy)]
 pub struct VerdictAnswer {
     pub refusal: u32,
     pub verdict: u32,
@@ -46,7 +48,7 @@ pub struct VerdictAnswer {
 
 // What First and After answer: found 1 and the resolution, or found 0 at the End.
 #[repr(C)]
-#[derive(Drop)]
+#[derive(Clone, Copy)]
 pub struct PairAnswer {
     pub refusal: u32,
     pub found: u32,
@@ -56,7 +58,7 @@ pub struct PairAnswer {
 
 // What Set and Drop answer: done, or the refusal.
 #[repr(C)]
-#[derive(Drop)]
+#[derive(Clone, Copy)]
 pub struct Done {
     pub refusal: u32,
     pub line: u64,

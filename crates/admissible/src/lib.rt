@@ -1,4 +1,6 @@
 // Which sets of exceptions a resolution can have: no view has a proper subset, and no view has a member that outranks one.
+#![tactic(auto)]
+
 ghost use Rattle.std.specs.Prelude.{◌*◌, ◌<◌, ◌≤◌, length};
 ghost use Rattle.logic.specs.Tests.{Decides};
 ghost use Rattle.queue.specs.Chains.{Chains};

@@ -1,4 +1,6 @@
 // The operations for programs in C: only numbers, structs of numbers (crate across) and slices go across the border.
+#![tactic(auto)]
+
 ghost use Rattle.std.specs.Prelude.{◌≡◌, List, ℕ, length};
 ghost use Rattle.text.specs.Reading.{read_answer, read_with, read_into};
 ghost use Rattle.text.specs.Writing.{write_answer, write_with, write_into};

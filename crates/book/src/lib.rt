@@ -1,4 +1,6 @@
 // The book as a type: its limits, its kinds of line, the empty book.
+#![tactic(auto)]
+
 ghost use Rattle.std.specs.Prelude.{◌≡◌, true, false, ◌<◌, ◌≤◌, length, get_or};
 ghost use Rattle.book.specs.Kinds.{kind, none, contents, bytes, row_once};
 ghost use Rattle.book.specs.Counts.{all_counts, front_of, count_at, shape_from, measured as measured_of, sum_to, start_of, row_numbers, text_bytes, total as total_of, InLimits};
@@ -6,7 +8,7 @@ ghost use Rattle.book.specs.declared.Content.TheVariants.{Edition};
 ghost use Rattle.book.specs.Shapes.{limits as limits_of, empty_book};
 
 // The number of statements and how many lines of each kind: the numbers before a number table's rows.
-#[derive(Drop)]
+#[derive(Clone, Copy)]
 pub struct Shape {
     pub statements: usize,
     pub plain: usize,
@@ -24,7 +26,7 @@ pub struct Book {
 }
 
 // The limits of a book and what follows from them.
-#[derive(Drop)]
+#[derive(Clone, Copy)]
 pub struct Limits {
     pub statements: usize,
     pub plain: usize,
@@ -171,7 +173,7 @@ impl Book {
 }
 
 // What a field of a line holds.
-#[derive(Drop)]
+#[derive(Clone, Copy)]
 pub enum Content {
     Edition,
     Statements,
@@ -184,7 +186,7 @@ pub enum Content {
 // numbers of the number table it gives, how many such lines a book may have and the refusal of one over, whether it is a row
 // of the table, how many of its first fields are heads, how many of these must be filled and the refusal where fewer are,
 // and where its count stands in front of the table's rows.
-#[derive(Drop)]
+#[derive(Clone, Copy)]
 pub struct Kind {
     pub letter: u8,
     pub fields: usize,
@@ -437,7 +439,7 @@ pub fn count_of(s: Shape, k: usize) -> usize
 }
 
 // What a line comes to, by its kind: a row of the number table or none, numbers of the table, bytes.
-#[derive(Drop)]
+#[derive(Clone, Copy)]
 pub enum Measure {
     Rows,
     Numbers,

@@ -1,5 +1,7 @@
 // Sound steps on bounds: no view within them is lost. In which order steps are taken, no proof depends on.
 // The letters behind the comments are those of the facts and steps in docs/SEARCH.md.
+#![tactic(auto)]
+
 ghost use Rattle.std.specs.Prelude.{◌≡◌, ◌*◌, ◌<◌, ◌≤◌, length};
 ghost use Rattle.masks.specs.Views.{Meets};
 ghost use Rattle.bounds.specs.Singles.{one_of, Place, Picked};

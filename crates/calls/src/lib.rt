@@ -1,4 +1,6 @@
 // Lists of calls of First and After, made one after the other: the contract of `run` is demand 3.
+#![tactic(auto)]
+
 ghost use Rattle.std.specs.Prelude.{◌≡◌, [], ◌∷◌, ◌+◌, ◌*◌, ◌/◌, ◌≤◌, length};
 ghost use Rattle.std.proofs.lemmas.List.Edits.{sets};
 ghost use Rattle.meaning.specs.Listings.{answered};
@@ -10,21 +12,21 @@ use sets::Pair;
 use text::Refusal;
 
 // Where a listing stands: before the first pair, or at a pair.
-#[derive(Drop)]
+#[derive(Clone, Copy)]
 pub enum Spot {
     Start,
     At(Pair),
 }
 
 // How many pairs a list of calls has handed out, and where it has come to.
-#[derive(Drop)]
+#[derive(Clone, Copy)]
 pub struct Handed {
     pub count: usize,
     pub spot: Spot,
 }
 
 // What making a list of calls answers: what it came to, or the refusal.
-#[derive(Drop)]
+#[derive(Clone, Copy)]
 pub enum Calling {
     Made(Handed),
     Refused(Refusal),

@@ -1,10 +1,12 @@
 // Where the reader of a text stands. The cursor is lent to `advance`, the one function that moves it; whoever reads calls `past`, which
 // takes the cursor and hands it back.
+#![tactic(auto)]
+
 ghost use Rattle.std.specs.Prelude.{◌≡◌, ◌+◌, ◌<◌};
 ghost use Rattle.cursor.specs.Places.{first_cursor, past_line};
 
 // Where the reader stands: the next byte, and its line, counted from 1.
-#[derive(Drop)]
+#[derive(Clone, Copy)]
 pub struct Cursor {
     pub at: usize,
     pub line: usize,

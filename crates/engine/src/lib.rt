@@ -1,4 +1,6 @@
 // A prepared book: the verdict on a pair, and the pages of its resolutions.
+#![tactic(auto)]
+
 ghost use Rattle.std.specs.Prelude.{◌+◌, ◌^◌, ◌<◌, ◌≤◌, length, take, ◌≡◌};
 ghost use Rattle.book.specs.Counts.{InLimits};
 ghost use Rattle.meaning.specs.Order.{start, at as at_pair};

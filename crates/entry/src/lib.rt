@@ -1,4 +1,6 @@
 // An entry of a store of stopping points as bytes: its name, and its pair as three numbers, least byte first.
+#![tactic(auto)]
+
 ghost use Rattle.std.specs.Prelude.{◌≡◌, [], ◌∷◌, ◌+◌, ◌≤◌, length, drop, take};
 ghost use Rattle.std.proofs.lemmas.List.Edits.{sets};
 ghost use Rattle.entry.specs.Names.{letter, follows as follows_in, name_spelt, compare_to};
@@ -10,13 +12,13 @@ use sets::Pair;
 
 // A name: 8 bytes, in a call by value, so that it is never short.
 #[repr(C)]
-#[derive(Drop)]
+#[derive(Clone, Copy)]
 pub struct Name {
     pub bytes: [u8; 8],
 }
 
 // How two names compare, byte by byte.
-#[derive(Drop)]
+#[derive(Clone, Copy)]
 pub enum Order {
     Less,
     Same,

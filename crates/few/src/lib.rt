@@ -1,4 +1,6 @@
 // All views within bounds, where these are few: gathered as the search finds them, then put on the page in the order of pairs.
+#![tactic(auto)]
+
 ghost use Rattle.std.specs.Prelude.{◌≡◌, ◌⊎◌, false, ◌+◌, ◌*◌, ◌<◌, ◌≤◌, length};
 ghost use Rattle.queue.specs.Chains.{Chains};
 ghost use Rattle.masks.specs.Views.{MaskView};
@@ -34,7 +36,7 @@ pub fn limit(room: usize, after: bool) -> usize
 }
 
 // How far the store is filled, and how many nodes may still be visited.
-#[derive(Drop)]
+#[derive(Clone, Copy)]
 pub struct Place {
     pub at: usize,
     pub fuel: u64,
@@ -93,7 +95,7 @@ pub fn gather(
 }
 
 // How many views the store has, and how many nodes were visited for that.
-#[derive(Drop)]
+#[derive(Clone, Copy)]
 pub struct Stored {
     pub count: usize,
     pub visited: u64,

@@ -1,4 +1,6 @@
 // Fields: four columns read and written, and the number of a field against what its content allows.
+#![tactic(auto)]
+
 ghost use Rattle.std.specs.Prelude.{◌≡◌, true, false, [], ◌∷◌, ◌+◌, ◌*◌, ◌<◌, ◌≤◌, pos, length, get_or, drop, take};
 ghost use Rattle.std.proofs.lemmas.List.Edits.{sets};
 ghost use Rattle.std.specs.Int.Signed.{le_z};
@@ -198,7 +200,7 @@ pub fn read_field(text: &[u8], at: usize) -> Field
 // ---- the number of a field
 
 // What a test came to: fine, or the number of the refusal.
-#[derive(Drop)]
+#[derive(Clone, Copy)]
 pub enum Checked {
     Fine,
     Refused(u32),
@@ -267,7 +269,7 @@ pub fn is_count(v: i32, m: usize) -> bool
 }
 
 // What the numbers of a line say beside their ranges: n, an exception that is missing, a wrong number of rows.
-#[derive(Drop)]
+#[derive(Clone, Copy)]
 pub struct Seen {
     pub statements: usize,
     pub missing: bool,

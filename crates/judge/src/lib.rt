@@ -1,4 +1,6 @@
 // The verdict on a lawful pair of a prepared book.
+#![tactic(auto)]
+
 ghost use Rattle.std.specs.Prelude.{◌*◌, ◌≤◌, length};
 ghost use Rattle.logic.specs.Tests.{Decides};
 ghost use Rattle.masks.specs.Views.{Level, Lined, Uncrossed};

@@ -1,4 +1,6 @@
 // The refusal of a pair: 12 to 14 of document 01, or none.
+#![tactic(auto)]
+
 ghost use Rattle.std.specs.Prelude.{◌<◌};
 ghost use Rattle.lawful.specs.Refusals.{Refuses};
 

@@ -1,4 +1,6 @@
 // The exact test of a view: no proper subset of S is closed. A search for a smaller closed set; the same search tells of bounds that no view is in them.
+#![tactic(auto)]
+
 ghost use Rattle.std.specs.Prelude.{◌*◌, ◌≤◌, length};
 ghost use Rattle.logic.specs.Tests.{Decides};
 ghost use Rattle.masks.specs.Views.{MaskView};
@@ -109,7 +111,7 @@ pub fn asking(rows: &[u64], m: usize, c: Pair) -> usize
 }
 
 // What a look at bounds says of the sets in them that answer the rows: all have the whole; one has less; narrower bounds, and a member to split them by.
-#[derive(Drop)]
+#[derive(Clone, Copy)]
 pub enum Look {
     Whole,
     Less,

@@ -10,7 +10,7 @@ use sets::Pair;
 pub const ROOM: usize = 256;
 
 // A row: a set that has all that is needed is to have one of the heads.
-#[derive(Drop)]
+#[derive(Clone, Copy)]
 pub struct Row {
     pub need: Pair,
     pub head: Pair,

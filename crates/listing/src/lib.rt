@@ -1,4 +1,6 @@
 // What `ways` prints, part by part: the first part from a text, each other from the prepared book, the point and the lines that are left.
+#![tactic(auto)]
+
 ghost use Rattle.std.specs.Prelude.{◌≡◌, ◌+◌, ◌*◌, ◌<◌, ◌≤◌, length};
 ghost use Rattle.std.proofs.lemmas.List.Edits.{sets};
 ghost use Rattle.book.specs.Limits as limit;
@@ -59,7 +61,7 @@ pub fn put_closing(out: &mut [u8], at: usize, letter: u8, count: usize)
 }
 
 // A part: how many bytes it has, whether the listing goes on after it, and its last pair then.
-#[derive(Drop)]
+#[derive(Clone, Copy)]
 pub struct Part {
     pub bytes: usize,
     pub full: bool,
@@ -145,7 +147,7 @@ pub fn put_failed(out: &mut [u8], q: Refusal)
 }
 
 // The first part, and the book's shape.
-#[derive(Drop)]
+#[derive(Clone, Copy)]
 pub struct Begun {
     pub part: Part,
     pub shape: Shape,

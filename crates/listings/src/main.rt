@@ -1,6 +1,8 @@
 // Lists of calls, made by `run` from several beginnings with refused calls among them, and lines by the second form of Line. Of each list: a
 // heading; each answer, A and the pair, E, or F with number and line; then the pairs handed out, behind =; then the point reached, behind @.
 // Both slices are lent full of sevens; the last number of each is printed at the end, since it should still be there.
+#![tactic(auto)]
+
 use calls::{Calling, Spot};
 use sets::Pair;
 use text::Refusal;

@@ -1,1 +1,2 @@
 // Words for lists and tests that every definition uses: no code.
+#![tactic(auto)]

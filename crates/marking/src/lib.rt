@@ -1,12 +1,14 @@
 // Which sets of exceptions are marked: known to be those of no resolution. A bit for each set, and before them a word of exceptions that no
 // resolution has, so that one look marks all sets with one of these.
+#![tactic(auto)]
+
 ghost use Rattle.std.specs.Prelude.{◌≡◌, ◌+◌, ◌*◌, ◌<◌, ◌≤◌, length, set, ◌≢◌, bit_or, slice_index, slice_set};
 ghost use Rattle.logic.specs.Tests.{Decides};
 ghost use Rattle.sets.specs.Sets.{Within};
 ghost use Rattle.marking.specs.Marks.{marks_in, IsMarked, InRange, Struck, Marked, Digit, DigitBetween, Selected, Pattern, Spans, Next, Outranked, WithRank, Surpassed};
 
 // Which sets to mark: those that have a member of `any`, and those from lo to hi but one.
-#[derive(Drop)]
+#[derive(Clone, Copy)]
 pub struct Strike {
     pub lo: u64,
     pub hi: u64,

@@ -1,4 +1,6 @@
 // Rules as masks. A mask is a set of conclusions and exceptions in three words.
+#![tactic(auto)]
+
 ghost use Rattle.std.specs.Prelude.{◌≡◌, true, ◌+◌, ◌*◌, ◌<◌, ◌≤◌, length};
 ghost use Rattle.logic.specs.Tests.{Decides};
 ghost use Rattle.sets.specs.Sets.{bit_of, Apart};
@@ -11,7 +13,7 @@ use sets::Pair;
 pub mod lines;
 
 // A rule: its head, its needed entries (the rule's own exception among them), its barred entries.
-#[derive(Drop)]
+#[derive(Clone, Copy)]
 pub struct Masks {
     pub head: Pair,
     pub need: Pair,
@@ -19,7 +21,7 @@ pub struct Masks {
 }
 
 // The pairs between lo and hi.
-#[derive(Drop)]
+#[derive(Clone, Copy)]
 pub struct Bounds {
     pub lo: Pair,
     pub hi: Pair,
@@ -173,7 +175,7 @@ pub fn add_within(r: Masks, v: Pair, f: bool, d: Pair) -> Pair
 }
 
 // What one sweep over the rules tells of a pair: whether it meets them all, and what they add to its exceptions alone.
-#[derive(Drop)]
+#[derive(Clone, Copy)]
 pub struct Outcome {
     pub ok: bool,
     pub reached: Pair,

@@ -1,4 +1,6 @@
 // The resolutions with one set of exceptions.
+#![tactic(auto)]
+
 ghost use Rattle.std.specs.Prelude.{◌≡◌, ◌+◌, ◌*◌, ◌<◌, ◌≤◌, true, false, length};
 ghost use Rattle.masks.specs.Views.{Lined};
 ghost use Rattle.bounds.specs.Sound.{Propagated, with_sets};
@@ -19,7 +21,7 @@ use standing::memory::Memory;
 
 // Whether a view has the set, how much may still be spent on marking sets without a view, how many nodes searches have visited (or a mark: see mark_shaven) for sets
 // without one, and where there is one, bounds at rest for the views that have it, and how many of these the store has.
-#[derive(Drop)]
+#[derive(Clone, Copy)]
 pub struct Gathering {
     pub ok: bool,
     pub credit: u64,
@@ -220,7 +222,7 @@ pub fn tested(
 }
 
 // How far a page is filled, what may still be spent on marking, and how many nodes searches have visited for sets without a view.
-#[derive(Drop)]
+#[derive(Clone, Copy)]
 pub struct Filled {
     pub at: usize,
     pub credit: u64,
@@ -328,7 +330,7 @@ pub fn mark_above(t: u64, marks: &mut [u64])
 
 // Whether a view with the set t stands, what may still be spent on marking, how many nodes searches have visited for sets without a view, and where one
 // stands, bounds at rest for the views that have the set.
-#[derive(Drop)]
+#[derive(Clone, Copy)]
 pub struct Sighting {
     pub ok: bool,
     pub credit: u64,

@@ -1,4 +1,6 @@
 // The operations on texts: Judge, First, After and pages. Each reads the text once and prepares its book.
+#![tactic(auto)]
+
 ghost use Rattle.std.specs.Prelude.{◌≡◌, ◌*◌, length, take};
 ghost use Rattle.book.specs.Counts.{row_numbers};
 ghost use Rattle.text.specs.Accepted.{Accepted as Facts};

@@ -1,4 +1,6 @@
 // The sets of taken exceptions in the order of pairs (document 01), by formula: from how many sets there are of each size. No table, no search for a place.
+#![tactic(auto)]
+
 ghost use Rattle.std.specs.Prelude.{◌≡◌, ◌+◌, ◌-◌, ◌^◌, ◌<◌, ◌≤◌};
 ghost use Rattle.sets.specs.Sets.{size_to};
 ghost use Rattle.order.specs.Formula.{count as count_of, of_size, place_in_size, place_of, set_at, NextSet, widest};
@@ -113,7 +115,7 @@ pub fn place_of(x: usize, t: u64) -> usize
 }
 
 // The lowest run of ones of a set: the place where it begins, the place after it, and the set with the run carried into a one there.
-#[derive(Drop)]
+#[derive(Clone, Copy)]
 pub struct LowestRun {
     pub from: u64,
     pub end: u64,

@@ -1,4 +1,6 @@
 // The views with one set of exceptions, in the order of pairs, from a point on, into a lent slice until it is full.
+#![tactic(auto)]
+
 ghost use Rattle.std.specs.Prelude.{◌≡◌, ◌+◌, ◌-◌, ◌*◌, ◌<◌, ◌≤◌, [], ◌∷◌, length, ◌==◌, nat_lt};
 ghost use Rattle.std.proofs.lemmas.List.Edits.{sets};
 ghost use Rattle.logic.specs.Tests.{both};
@@ -34,7 +36,7 @@ const MANY: u64 = 64;
 const EVERY: u64 = 0xffff_ffff_ffff_ffff;
 
 // What is asked for: how many rules and statements the book has, room for how many pairs the slice has, and the point.
-#[derive(Drop)]
+#[derive(Clone, Copy)]
 pub struct Task {
     pub rules: usize,
     pub statements: u64,
@@ -44,7 +46,7 @@ pub struct Task {
 
 // Where the search stands: the pair as far as settled, whether that is the same as in the point, bounds for the views that come from it,
 // the rules that are live within them, and perhaps a view that was found within them.
-#[derive(Drop)]
+#[derive(Clone, Copy)]
 pub struct Node {
     pub equal: bool,
     pub pair: Pair,
@@ -54,14 +56,14 @@ pub struct Node {
 }
 
 // How far the page is filled, and how many branches were opened since the last find.
-#[derive(Drop)]
+#[derive(Clone, Copy)]
 pub struct Place {
     pub at: usize,
     pub dry: u64,
 }
 
 // What becomes of a value: no view has it, or the search goes on from a node.
-#[derive(Drop)]
+#[derive(Clone, Copy)]
 pub enum Branch {
     Cut,
     Open(Node),
@@ -310,7 +312,7 @@ pub fn finish(
 }
 
 // How far a node has come without a search: its pair with more values, and how many statements are left then.
-#[derive(Drop)]
+#[derive(Clone, Copy)]
 pub struct Stretch {
     pub pair: Pair,
     pub left: u64,

@@ -1,5 +1,7 @@
 // The order of the sets of exceptions as its functions work it out. For each number of exceptions from 0 to 16: how many places there are, and how many
 // of them are sound. Then the entries that the documents name, of 12 and of 16 exceptions, and the whole order of 4.
+#![tactic(auto)]
+
 ghost use Rattle.std.specs.Prelude.{◌^◌, ◌<◌, ◌≤◌};
 ghost use Rattle.order.specs.Formula.{widest};
 

@@ -1,4 +1,6 @@
 // Named stopping points: a lent store of 1,024 bytes with up to 32 names, each with a pair.
+#![tactic(auto)]
+
 ghost use Rattle.std.specs.Prelude.{◌≡◌, ◌++◌, ◌+◌, ◌*◌, ◌-◌, ◌<◌, ◌≤◌, length, drop, take, replicate};
 ghost use Rattle.entry.specs.Bytes.{entry_row};
 ghost use Rattle.points.specs.Points.{OfStore, Goes, Sets, Drops};
@@ -11,7 +13,7 @@ use text::Refusal;
 // ---- what the store's bytes are
 
 // How many entries a store has, or that the bytes are no store.
-#[derive(Drop)]
+#[derive(Clone, Copy)]
 pub enum Occupied {
     Entries(usize),
     NoStore,
@@ -59,7 +61,7 @@ pub fn entries(store: &[u8]) -> Occupied
 // ---- where a name is
 
 // The entry that has the name, or the entry before which it would stand.
-#[derive(Drop)]
+#[derive(Clone, Copy)]
 pub enum Place {
     Here(usize),
     Gap(usize),
@@ -88,7 +90,7 @@ pub fn find(store: &[u8], k: usize, name: &[u8]) -> Place
 }
 
 // Where a name is in a store: at an entry, before entry i of k, or the refusal 24 or 25.
-#[derive(Drop)]
+#[derive(Clone, Copy)]
 pub enum Located {
     At(usize),
     Before(usize, usize),
@@ -145,14 +147,14 @@ pub fn remove(store: &mut [u8], at: usize)
 // ---- the operations
 
 // What Go answers: the pair, or the refusal.
-#[derive(Drop)]
+#[derive(Clone, Copy)]
 pub enum Went {
     Point(Pair),
     Refused(Refusal),
 }
 
 // What Set and Drop answer: done, or the refusal.
-#[derive(Drop)]
+#[derive(Clone, Copy)]
 pub enum Kept {
     Done,
     Refused(Refusal),

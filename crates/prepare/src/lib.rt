@@ -1,5 +1,7 @@
 // From an accepted book's shape and rows to the words that the search reads: its rules and its Q lines as masks,
 // its preferences as sets.
+#![tactic(auto)]
+
 ghost use Rattle.std.specs.Prelude.{◌≡◌, ◌+◌, ◌-◌, ◌*◌, ◌^◌, ◌<◌, ◌≤◌, List, ℤ, nat_abs, length};
 ghost use Rattle.std.proofs.lemmas.List.Edits.{sets as sets_at};
 ghost use Rattle.book.specs.Limits as limit;

@@ -1,4 +1,6 @@
 // Is there a view within given bounds? Propagate, test what is left if it is one pair, else split the bounds by one member.
+#![tactic(auto)]
+
 ghost use Rattle.std.specs.Prelude.{◌*◌, ◌≤◌, length};
 ghost use Rattle.sets.specs.Pairs.{minus_of};
 ghost use Rattle.bounds.specs.Singles.{Picked};
@@ -15,14 +17,14 @@ pub mod shaving;
 pub mod weights;
 
 // A view within the bounds, or that there is none.
-#[derive(Drop)]
+#[derive(Clone, Copy)]
 pub enum Answer {
     Found(Pair),
     Nothing,
 }
 
 // What propagation leaves of bounds: one view; nothing; narrower bounds, with a member to split them by and the rules that are live.
-#[derive(Drop)]
+#[derive(Clone, Copy)]
 pub enum Node {
     View(Pair),
     Empty,
@@ -99,7 +101,7 @@ pub fn probe(words: &[u64], n: usize, ranks: &[u64], index: &Index, w: Work, b: 
 const FUEL: u64 = 1024;
 
 // What a search with so much fuel has to say: a view; that there is none, and the fuel that is left; nothing, where the fuel is used up.
-#[derive(Drop)]
+#[derive(Clone, Copy)]
 pub enum Outcome {
     Has(Pair),
     Lacks(u64),

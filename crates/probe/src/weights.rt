@@ -99,7 +99,7 @@ pub fn add_rule(t: &mut Weights, r: Masks, free: Pair) {
 }
 
 // The heaviest member so far: its place, 192 if there is none, and its weight.
-#[derive(Drop)]
+#[derive(Clone, Copy)]
 pub struct Best {
     pub at: u64,
     pub weight: u64,

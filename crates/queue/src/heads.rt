@@ -163,7 +163,7 @@ pub fn chains(words: &[u64], n: usize, index: &mut [u64])
 }
 
 // The rules that can give a conclusion within bounds: none; one, and which; perhaps more.
-#[derive(Drop)]
+#[derive(Clone, Copy)]
 pub enum Givers {
     Nobody,
     One(usize),

@@ -1,4 +1,6 @@
 // Propagation: sound steps from a queue until nothing changes. Only the rules wait that mention what has changed.
+#![tactic(auto)]
+
 ghost use Rattle.std.specs.Prelude.{◌≡◌, ◌*◌, ◌≤◌, length};
 ghost use Rattle.logic.specs.Tests.{Decides};
 ghost use Rattle.masks.specs.Views.{Fires, Meets, MaskView};
@@ -15,14 +17,14 @@ pub mod index;
 pub mod waiting;
 
 // Bounds, and what is to be done before they are at rest.
-#[derive(Drop)]
+#[derive(Clone, Copy)]
 pub struct State {
     pub bounds: Bounds,
     pub work: Work,
 }
 
 // Bounds at rest, and the rules that are live within them.
-#[derive(Drop)]
+#[derive(Clone, Copy)]
 pub struct Rest {
     pub bounds: Bounds,
     pub live: Waiting,

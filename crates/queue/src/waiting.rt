@@ -5,7 +5,7 @@ ghost use Rattle.sets.specs.Sets.{without as without_of};
 use sets::Pair;
 
 // A bit for each of 256 rules.
-#[derive(Drop)]
+#[derive(Clone, Copy)]
 pub struct Waiting {
     pub a: u64,
     pub b: u64,
@@ -15,7 +15,7 @@ pub struct Waiting {
 
 // What propagation has to do: the rules that wait, the conclusions whose support is asked for, and the rules that are live,
 // whose body has not been seen to fail.
-#[derive(Drop)]
+#[derive(Clone, Copy)]
 pub struct Work {
     pub rules: Waiting,
     pub asked: Pair,

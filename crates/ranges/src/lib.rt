@@ -1,4 +1,6 @@
 // Ranges of sets of exceptions that have no view.
+#![tactic(auto)]
+
 ghost use Rattle.std.specs.Prelude.{◌≡◌, true, ◌*◌, ◌<◌, ◌≤◌, length};
 ghost use Rattle.bounds.specs.Sound.{Propagated, with_sets};
 ghost use Rattle.queue.specs.Chains.{Chains};
@@ -45,7 +47,7 @@ pub fn refuted(
 }
 
 // Sets of exceptions from lo to hi.
-#[derive(Drop)]
+#[derive(Clone, Copy)]
 pub struct Range {
     pub lo: u64,
     pub hi: u64,
@@ -100,7 +102,7 @@ pub fn contrary(b: Bounds, t: u64) -> u64 {
 }
 
 // A decision that is in conflict with those at the places before `before`. The place is 64 if there is none.
-#[derive(Drop)]
+#[derive(Clone, Copy)]
 pub struct Conflict {
     pub place: u64,
     pub before: usize,

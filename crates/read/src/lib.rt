@@ -1,4 +1,6 @@
 // Read: from a text to the number table. One pass finds a line's end, one reads its fields.
+#![tactic(auto)]
+
 ghost use Rattle.std.specs.Prelude.{◌≡◌, [], ◌+◌, ◌*◌, ◌<◌, ◌≤◌, length, get_or, drop, take};
 ghost use Rattle.std.proofs.lemmas.List.Edits.{sets};
 ghost use Rattle.book.specs.Kinds.{none, range_of, contents, fields_of, widest, front, longest, room, exception};
@@ -32,7 +34,7 @@ pub fn kind_for(next: usize, b: u8) -> usize
 }
 
 // A field that was read and tested: its number, or the refusal.
-#[derive(Drop)]
+#[derive(Clone, Copy)]
 pub enum Number {
     Is(i32),
     Not(u32),
@@ -57,7 +59,7 @@ pub fn read_number(text: &[u8], at: usize, content: Content, n: usize) -> Number
 }
 
 // The fields of a line: what its numbers say, or the refusal.
-#[derive(Drop)]
+#[derive(Clone, Copy)]
 pub enum Fields {
     Right(Seen),
     Wrong(u32),
@@ -117,7 +119,7 @@ pub fn line_fault(x: Kind, count: usize, headless: bool, seen: Seen) -> u32
 }
 
 // What a line is: its kind, and n after it; or a refusal.
-#[derive(Drop)]
+#[derive(Clone, Copy)]
 pub enum LineIs {
     Of(usize, usize),
     Bad(u32),
@@ -211,7 +213,7 @@ pub fn refused(number: u32, line: usize) -> Reading
 }
 
 // What stands in front of a text: a book and where the reader is after its Z, or the refusal.
-#[derive(Drop)]
+#[derive(Clone, Copy)]
 pub enum Found {
     Book(Shape, Cursor),
     Refused(Refusal),

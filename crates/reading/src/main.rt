@@ -1,5 +1,7 @@
 // Read and Write on texts and tables, good and bad, a row for each; and each leaves the lent slice as it was where it refuses. What is to
 // come out stands in the file `stdout` and follows from documents 01 and 02.
+#![tactic(auto)]
+
 mod books;
 mod lines;
 mod rows;

@@ -1,6 +1,8 @@
 // Sets of numbers 1 to 64 in a word, and pairs (S, T) in three words. What a book means is said above this crate by members and by numbers
 // below a power of 2. The crates of the search handle bits themselves where no function here fits, in code, definitions (`bit_of`) and
 // proofs (lib.Bits); docs/ARCHITECTURE.md says which crates, and for what.
+#![tactic(auto)]
+
 ghost use Rattle.std.specs.Prelude.{◌≡◌, false, not, ℕ, ◌<◌, ◌≤◌, eqb};
 ghost use Rattle.logic.specs.Tests.{Decides, both, either};
 ghost use Rattle.sets.specs.Sets.{member as member_of, Contained, Separate, size as size_of, Lowest};
@@ -76,7 +78,7 @@ pub fn low(x: u64) -> u64
 
 // A pair (S, T) as document 01 has it: exceptions taken, statements held, statements denied. Programs in C have the same struct.
 #[repr(C)]
-#[derive(Drop)]
+#[derive(Clone, Copy)]
 pub struct Pair {
     pub taken: u64,
     pub held: u64,

@@ -1,5 +1,7 @@
 // The views with one set of exceptions that stand, in the order of pairs. The search in order of `page`, whose bounds are narrowed by what is remembered, so that
 // views which a remembered one dominates are passed over many at a time; a view that is left is asked whether it stands.
+#![tactic(auto)]
+
 ghost use Rattle.std.specs.Prelude.{◌+◌, ◌-◌, ◌*◌, ◌<◌, ◌≤◌, length};
 ghost use Rattle.bounds.specs.Sound.{Keeps};
 ghost use Rattle.queue.specs.Chains.{Chains};

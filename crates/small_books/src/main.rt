@@ -1,5 +1,7 @@
 // The small books of document 01, K1 to K14, through Judge, First and After: each resolution as taken, held, denied, then E; a refusal as F,
 // its number and line; verdicts as V, the pair and the verdict.
+#![tactic(auto)]
+
 use answers::{Found, Judged};
 use sets::Pair;
 

@@ -1,4 +1,6 @@
 // Which pairs stand: those that no view dominates. What was found is remembered, since many pairs fall to one and the same view.
+#![tactic(auto)]
+
 ghost use Rattle.std.specs.Prelude.{◌+◌, ◌*◌, ◌<◌, ◌≤◌, length};
 ghost use Rattle.logic.specs.Tests.{Decides};
 ghost use Rattle.queue.specs.Chains.{Chains};

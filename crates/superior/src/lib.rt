@@ -1,4 +1,6 @@
 // A view that dominates, found by the lines that it may use.
+#![tactic(auto)]
+
 ghost use Rattle.std.specs.Prelude.{◌+◌, ◌*◌, ◌<◌, ◌≤◌, length};
 ghost use Rattle.logic.specs.Tests.{Decides};
 ghost use Rattle.masks.specs.Steps.{Chosen, Choice};

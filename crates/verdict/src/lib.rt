@@ -1,4 +1,6 @@
 // The tests of verdicts 1 and 3, of rules as words; judge::unranked is the test of verdict 2.
+#![tactic(auto)]
+
 ghost use Rattle.std.specs.Prelude.{◌*◌, ◌≤◌, length};
 ghost use Rattle.logic.specs.Tests.{Decides};
 ghost use Rattle.bridge.specs.Answers.{OfAll, Obeys, MaskAnswers, Satisfies, MaskBodies};

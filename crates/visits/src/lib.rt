@@ -1,4 +1,6 @@
 // Lists of calls of Set, Go and Drop, made one after the other (the contract of `keep` is request (h)'s promise), and going on from a name.
+#![tactic(auto)]
+
 ghost use Rattle.std.specs.Prelude.{◌≡◌, ◌+◌, ◌*◌, ◌/◌, ◌≤◌, length};
 ghost use Rattle.std.proofs.lemmas.List.Edits.{sets};
 ghost use Rattle.answers.specs.Operations.{answer_of};

@@ -1,4 +1,6 @@
 // The walk over all sets of exceptions in their order: which of them a resolution can have.
+#![tactic(auto)]
+
 ghost use Rattle.std.specs.Prelude.{◌≡◌, true, false, ◌⊎◌, ◌+◌, ◌*◌, ◌/◌, ◌^◌, ◌<◌, ◌≤◌, length};
 ghost use Rattle.logic.specs.Tests.{Decides};
 ghost use Rattle.book.specs.Limits.{exceptions};
@@ -32,14 +34,14 @@ pub fn ruled_out(root: Bounds, marks: &[u64], t: u64) -> bool
 }
 
 // A place of the order of the sets, and the set there.
-#[derive(Drop)]
+#[derive(Clone, Copy)]
 pub struct Position {
     pub place: usize,
     pub set: u64,
 }
 
 // The places of the sets that stand between the root's sets: from that of the lower one on, up to that of the upper one.
-#[derive(Drop)]
+#[derive(Clone, Copy)]
 pub struct Span {
     pub first: usize,
     pub past: usize,

@@ -1,4 +1,6 @@
 // ways: a book on standard input, its resolutions on standard output. All the work is in the library `listing`.
+#![tactic(auto)]
+
 mod streams;
 
 ghost use Rattle.std.specs.Prelude.{true, false, ◌≡◌};
@@ -13,7 +15,7 @@ use sets::Pair;
 use streams::{Output, Sent};
 
 // Where a listing stands: the output, whether no write failed, whether more is to be printed, and the last pair printed then.
-#[derive(Drop)]
+#[derive(Clone, Copy)]
 pub struct Stand {
     pub to: Output,
     pub whole: bool,

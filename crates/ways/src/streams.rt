@@ -20,7 +20,7 @@ fn is_last(got: isize, patience: u64) -> bool
 }
 
 // Standard output, by how many bytes it has taken. Only the two functions below make one.
-#[derive(Drop)]
+#[derive(Clone, Copy)]
 pub struct Output {
     taken: usize,
 }
@@ -33,7 +33,7 @@ pub fn untouched() -> Output
 }
 
 // What a write answered, how many bytes it took, and the output after it.
-#[derive(Drop)]
+#[derive(Clone, Copy)]
 struct Wrote {
     got: isize,
     put: usize,
@@ -57,7 +57,7 @@ fn write_next(text: &[u8], to: Output, bytes: &[u8]) -> Wrote
 }
 
 // Whether all bytes were written, and the output then.
-#[derive(Drop)]
+#[derive(Clone, Copy)]
 pub struct Sent {
     pub whole: bool,
     pub to: Output,
@@ -94,7 +94,7 @@ pub fn send(text: &[u8], to: Output, bytes: &[u8]) -> Sent
 }
 
 // What was read: how many bytes, and whether no read failed.
-#[derive(Drop)]
+#[derive(Clone, Copy)]
 pub struct Received {
     pub bytes: usize,
     pub whole: bool,

@@ -1,4 +1,6 @@
 // Write: from a number table to its text. The whole table is tested before a byte is written.
+#![tactic(auto)]
+
 ghost use Rattle.std.specs.Prelude.{◌≡◌, true, List, [], ◌∷◌, ◌++◌, ℕ, ◌+◌, ◌*◌, ◌<◌, ◌≤◌, pos, length, get_or, drop, take, replicate};
 ghost use Rattle.std.proofs.lemmas.List.Edits.{sets};
 ghost use Rattle.logic.specs.Tests.{some};
@@ -76,7 +78,7 @@ pub fn test_row(t: &[i32], from: usize, k: usize, n: usize, m: usize) -> Checked
 // ---- the test of a table
 
 // What the test of some rows came to: fine, or the refusal.
-#[derive(Drop)]
+#[derive(Clone, Copy)]
 pub enum Tested {
     Passed,
     Failed(Refusal),

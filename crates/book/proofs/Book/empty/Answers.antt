@@ -1,0 +1,7 @@
+use mathlib.Core.Path.{refl}
+use Rattle.book.specs.Shapes.{empty_shape, empty_book}
+use Rattle.book.proofs.Book.empty.Goals as goal
+
+pub returns : goal.returns
+unfolding empty_book empty_shape longest most bytes kinds
+returns c = refl

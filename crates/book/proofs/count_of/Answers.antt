@@ -1,0 +1,6 @@
+use borrow.Author.Rules.{rules}
+use Rattle.book.proofs.Counts.{count-is}
+use Rattle.book.proofs.count_of.Goals as goal
+
+pub returns : goal.returns
+returns c = count-is _ _ _ c.counts_of-counts.ensures

@@ -1,0 +1,7 @@
+use mathlib.Core.Path.{refl}
+use borrow.Author.Rules.{rules}
+use Rattle.book.proofs.kind_at.Goals as goal
+
+pub returns : goal.returns
+unfolding kind kinds unknown
+returns c = refl

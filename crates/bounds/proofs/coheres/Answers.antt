@@ -1,0 +1,6 @@
+use Rattle.bounds.proofs.Steps.{cohere}
+use borrow.Author.Rules.{rules}
+use Rattle.bounds.proofs.coheres.Goals as goal
+
+pub returns : goal.returns
+returns c = cohere _ _ c.out.ensures

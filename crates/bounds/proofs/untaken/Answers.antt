@@ -1,0 +1,6 @@
+use Rattle.bounds.proofs.Steps.{idle-untaken}
+use borrow.Author.Rules.{rules}
+use Rattle.bounds.proofs.untaken.Goals as goal
+
+pub returns : goal.returns
+returns c = idle-untaken _ _ _ c.out.ensures

@@ -1,0 +1,15 @@
+use native.Mathlib.Omega.{arith}
+use borrow.Author.Rules.{rules}
+use native.Mathlib.Nat.{div-mul-le_self}
+use Prim.Native.Nat.{◌-◌, ◌≤◌}
+use mathlib.Core.Path.{◌≡◌, refl, ◌∙◌}
+use lib.ListN.{length}
+use Rattle.calls.specs.Calls.{as_point, Makes}
+use Rattle.calls.proofs.Calls.{makes_none, makes-more, makes-all, one-most}
+use Rattle.calls.proofs.make_calls.Given as goal
+
+abbrev pub invariant-loop-k : goal.invariant-loop-k
+invariant-loop-k l = (l.k ≤ l.m) × (length l.answers ≡ length l.initial.answers) × (length l.pairs ≡ length l.initial.pairs) × (l.r.count ≤ l.k) × Makes l.text l.calls 0 l.k (as_point l.initial.r.spot) 0 l.initial.answers l.answers l.initial.pairs l.pairs l.r
+
+abbrev pub decreases-loop-k : goal.decreases-loop-k
+decreases-loop-k l = l.m - l.k

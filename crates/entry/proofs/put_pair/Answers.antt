@@ -1,0 +1,6 @@
+use Rattle.entry.proofs.Numbers.{pair_put}
+use borrow.Author.Rules.{rules}
+use Rattle.entry.proofs.put_pair.Goals as goal
+
+pub returns : goal.returns
+returns c = pair_put _ c.put_word.new.0 c.put_word-2.new.0 _ _ _ (search rules) (search rules) (search rules)

@@ -1,0 +1,15 @@
+use Rattle.fields.proofs.Columns.{back-same}
+use native.Mathlib.Omega.{arith}
+use borrow.Author.Rules.{rules}
+use mathlib.Core.Path.{◌∙◌}
+use Prim.Native.Nat.{◌+◌, ◌-◌, ◌*◌}
+use Rattle.logic.proofs.Stores.{Putting, putting-start, putting-next, putting-end}
+use Rattle.text.proofs.Fields.{field-length}
+use Rattle.fields.proofs.Puts.{field_at, fields-are, short_back}
+use Rattle.fields.proofs.put_numbers.Given as goal
+
+abbrev pub invariant-loop-i : goal.invariant-loop-i
+invariant-loop-i l = Putting (field_at l.t l.from) l.w l.initial.buf l.at l.buf (l.at + l.i * 4) l.i
+
+abbrev pub decreases-loop-i : goal.decreases-loop-i
+decreases-loop-i l = l.w - l.i

@@ -1,0 +1,7 @@
+use Rattle.standing.specs.Standing.{memory_length}
+use Rattle.standing.proofs.Domination.{nothing_yet}
+use borrow.Author.Rules.{rules}
+use Rattle.judge.proofs.lined.undominated.Goals as goal
+
+pub returns : goal.returns
+returns c = (c.stands.ensures (nothing_yet _ _ _ _ memory_length)).1

@@ -1,0 +1,6 @@
+use Rattle.least.proofs.Laws.{founded-alone}
+use borrow.Author.Rules.{rules}
+use Rattle.least.proofs.founded.Goals as goal
+
+pub returns : goal.returns
+returns c = founded-alone _ _ _ _ _ _ c.gather-m.ensures c.alone.ensures

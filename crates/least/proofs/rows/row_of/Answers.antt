@@ -1,0 +1,7 @@
+use mathlib.Core.Path.{refl}
+use Rattle.least.specs.Rows.{row_of}
+use Rattle.least.proofs.rows.row_of.Goals as goal
+
+pub returns : goal.returns
+unfolding row_of
+returns c = refl

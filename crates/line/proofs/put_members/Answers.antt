@@ -1,0 +1,56 @@
+use Prim.Native.Nat.{◌+◌, ◌-◌, ◌*◌, ◌≤◌}
+use mathlib.Core.Path.{◌∙◌}
+use mathlib.Core.Logic.{⊎_elim}
+use native.Mathlib.Omega.{arith}
+use borrow.Author.Rules.{rules}
+use Rattle.logic.proofs.Stores.{Putting, putting-start, putting-end}
+use Rattle.line.specs.Parts.{taken_of}
+use Rattle.line.proofs.PutLaws.{member_field, member-put, member-skipped, taken-are, fields-bytes}
+use Rattle.line.proofs.put_members.Goals as goal
+
+pub loop-i-init : goal.loop-i-init
+loop-i-init c = (omega arith, putting-start _ _ _ _ _ (omega arith))
+
+pub overflow_add-i : goal.overflow_add-i
+overflow_add-i c = omega arith
+
+pub member-requires : goal.member-requires
+member-requires c = (omega arith, omega arith)
+
+pub overflow_mul-k : goal.overflow_mul-k
+overflow_mul-k c = omega arith
+
+pub overflow_add-at : goal.overflow_add-at
+overflow_add-at c = omega arith
+
+pub overflow_add-i-then-member : goal.overflow_add-i-then-member
+overflow_add-i-then-member c = omega arith
+
+pub overflow_cast-i : goal.overflow_cast-i
+overflow_cast-i c = omega arith
+
+pub put_columns-requires : goal.put_columns-requires
+put_columns-requires c = (omega arith, omega arith)
+
+pub overflow_add-k : goal.overflow_add-k
+overflow_add-k c = omega arith
+
+pub overflow_add-i-in-loop-i : goal.overflow_add-i-in-loop-i
+overflow_add-i-in-loop-i c = omega arith
+
+pub loop-i-smaller : goal.loop-i-smaller
+loop-i-smaller c = omega arith
+
+pub loop-i-preserved : goal.loop-i-preserved
+loop-i-preserved c =
+    let member = c.member in
+    let loop = c.loop-i in
+    ⊎_elim (λ w. (omega arith, member-put _ _ _ loop.buf _ _ loop.i loop.invariant.1 (omega arith) member.result member.ensures _ _ (search rules) (w.5 ∙ w.2.ensures) (omega (arith, w.6))))
+    (λ w. (omega arith, member-skipped _ _ _ loop.buf _ _ loop.i loop.invariant.1 (omega arith) member.result member.ensures _ _ (search rules) w.1 (omega (arith, w.2)))) c.if-member.branch
+
+pub returns : goal.returns
+returns c =
+    let args = c.args in
+    let loop = c.loop-i in
+    let all = putting-end _ _ _ _ _ _ loop.i _ loop.invariant.1 (omega arith) (taken-are args.taken args.w) in
+    (all.0, omega (arith, all.1, fields-bytes (taken_of args.w args.taken)), omega arith)

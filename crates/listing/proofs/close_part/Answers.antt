@@ -1,0 +1,30 @@
+use Rattle.listing.specs.Parts.{part_lines}
+use Rattle.listing.proofs.Promised.{closes}
+use Rattle.listing.proofs.Listed.{at_most}
+use native.Mathlib.Omega.{arith}
+use borrow.Author.Rules.{rules}
+use Rattle.listing.proofs.close_part.Goals as goal
+
+pub put_lines-at-requires : goal.put_lines-at-requires
+put_lines-at-requires c =
+    let args = c.args in
+    let m = at_most args.k part_lines args.w args.n (search rules) (search rules) (search rules) in
+    (search rules, search rules, search rules, omega arith)
+
+pub put_closing-requires : goal.put_closing-requires
+put_closing-requires c =
+    let put-lines = c.put_lines-at in
+    let args = c.args in
+    (omega (arith, at_most args.k part_lines args.w args.n (search rules) (search rules) (search rules), put-lines.ensures.1, put-lines.auto.0), omega arith)
+
+pub overflow_add-result : goal.overflow_add-result
+overflow_add-result c =
+    let put-lines = c.put_lines-at in
+    let args = c.args in
+    omega (arith, at_most args.k part_lines args.w args.n (search rules) (search rules) (search rules), put-lines.ensures.1)
+
+pub returns : goal.returns
+returns c =
+    let put-lines = c.put_lines-at in
+    let put-closing = c.put_closing in
+    closes _ _ _ _ _ _ _ put-lines.ensures.0 put-lines.ensures.1 (search rules) (search rules) (search rules) (search rules) _ _ _ _ put-closing.ensures (omega (arith, put-lines.auto.0, put-closing.auto.0))

@@ -1,0 +1,10 @@
+use native.Mathlib.Omega.{arith}
+use borrow.Author.Rules.{rules}
+use Rattle.order.proofs.Turns.{Building, built, left-fits, some_left, share-left, sum_fits, built-without, built-with}
+use Rattle.order.proofs.set_of_size.Given as goal
+
+abbrev pub invariant-loop-left : goal.invariant-loop-left
+invariant-loop-left l = Building l.x l.n l.place l.t l.w l.left l.rest l.c
+
+abbrev pub decreases-loop-left : goal.decreases-loop-left
+decreases-loop-left l = l.w

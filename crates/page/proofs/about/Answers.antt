@@ -1,0 +1,6 @@
+use Rattle.std.proofs.Common.{arith, rules}
+use Rattle.page.proofs.Statements.{about-is}
+use Rattle.page.proofs.about.Goals as goal
+
+pub returns : goal.returns
+returns c = about-is _ (omega arith)

@@ -1,0 +1,21 @@
+use Rattle.std.proofs.Common.{arith, rules}
+use Rattle.page.proofs.Branches.{branch-before, branch-barren, branch-clash, branch-open}
+use Rattle.page.proofs.branch_of.Goals as goal
+
+pub returns-then-earlier : goal.returns-then-earlier
+returns-then-earlier c = branch-before _ _ _ _ _ _ c.requires.0 _ c.value_at-own.ensures _ c.earlier.ensures (search rules)
+
+pub returns-then-not-within : goal.returns-then-not-within
+returns-then-not-within c = branch-clash _ _ _ _ _ _ c.requires.0 _ c.value_at-own.ensures _ c.earlier.ensures (search rules) _ c.narrow-rest.ensures _ c.within.ensures (search rules)
+
+pub glimpse-a-requires : goal.glimpse-a-requires
+glimpse-a-requires c = (c.requires.0.suits.rules, c.requires.0.suits.ranked, c.requires.1)
+
+pub given-requires : goal.given-requires
+given-requires c = (omega (arith, c.requires.0.unsettled), omega (arith, c.requires.0.suits.few))
+
+pub returns-in-Nothing : goal.returns-in-Nothing
+returns-in-Nothing c = branch-barren _ _ _ _ _ _ c.requires.0 _ c.value_at-own.ensures _ c.earlier.ensures (search rules) _ c.narrow-rest.ensures (c.glimpse-a.ensures (search rules))
+
+pub returns-in-Found : goal.returns-in-Found
+returns-in-Found c = branch-open _ _ _ _ _ _ c.requires.0 _ c.value_at-own.ensures _ c.earlier.ensures (search rules) _ c.narrow-rest.ensures _ _ _ _ c.still-equal.ensures c.given.ensures

@@ -1,0 +1,13 @@
+use Prim.Native.Nat.{◌+◌, ◌-◌, ◌*◌, ◌≤◌}
+use native.Mathlib.Omega.{arith}
+use borrow.Author.Rules.{rules}
+use Rattle.meaning.specs.Meant.{preferences_at}
+use Rattle.prepare.specs.Ranking.{LinesFrom}
+use Rattle.prepare.proofs.Preferences.{row_in, names-back, names-range, first-named, second-named, lines-turn, lines-last, lines-all}
+use Rattle.prepare.proofs.lines_from.Given as goal
+
+abbrev pub invariant-loop-k : goal.invariant-loop-k
+invariant-loop-k l = (l.k ≤ l.initial.k) × LinesFrom (preferences_at l.rows (l.from + l.k * preference_numbers) (l.initial.k - l.k)) l.a l.set
+
+abbrev pub decreases-loop-k : goal.decreases-loop-k
+decreases-loop-k l = l.k

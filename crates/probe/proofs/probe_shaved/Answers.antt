@@ -1,0 +1,6 @@
+use Rattle.probe.proofs.Attempts.{probed-within}
+use Rattle.std.proofs.Common.{rules}
+use Rattle.probe.proofs.probe_shaved.Goals as goal
+
+pub returns : goal.returns
+returns c = probed-within c.propagate-rest.ensures c.shaved-r.ensures c.probe.ensures

@@ -1,0 +1,17 @@
+use mathlib.Core.Path.{sym, ◌∙◌}
+use lib.ListN.{length-set}
+use borrow.Author.Rules.{rules}
+use mathlib.Core.Path.{◌≡◌}
+use native.Mathlib.Omega.{arith}
+use lib.ListN.{length}
+use Prim.Native.Nat.{◌≤◌}
+use Rattle.queue.specs.Places.{whole_place, index_length}
+use Rattle.queue.specs.Chains.{ChainsFrom}
+use Rattle.queue.proofs.Chains.{chains-none, chains-turn, chains-done}
+use Rattle.queue.proofs.heads.chained.Given as goal
+
+abbrev pub invariant-loop-k : goal.invariant-loop-k
+invariant-loop-k l = (l.k ≤ l.n) × (length l.index ≡ index_length) × (l.whole ≡ 1 → ChainsFrom l.words l.n l.index l.k)
+
+abbrev pub decreases-loop-k : goal.decreases-loop-k
+decreases-loop-k l = l.k

@@ -1,0 +1,7 @@
+use mathlib.Core.Path.{refl}
+use Rattle.ranges.proofs.Ranges.{refuted-none}
+use borrow.Author.Rules.{rules}
+use Rattle.ranges.proofs.refuted.Goals as goal
+
+pub returns : goal.returns
+returns c = refuted-none _ _ _ _ _ _ _ _ _ refl c.narrowed-rest.ensures c.within.ensures

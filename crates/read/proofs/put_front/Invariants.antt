@@ -1,0 +1,14 @@
+use mathlib.Core.List.{map}
+use Prim.Native.Nat.{◌-◌}
+use native.Mathlib.Omega.{arith}
+use lib.IntN.{pos}
+use borrow.Author.Rules.{rules}
+use Rattle.logic.proofs.Stores.{Putting, putting-start, putting-next, putting-end}
+use Rattle.read.proofs.Whole.{each_of, put-each, front_fits, front-number, front-each}
+use Rattle.read.proofs.put_front.Given as goal
+
+abbrev pub invariant-loop-i : goal.invariant-loop-i
+invariant-loop-i l = Putting (each_of (map pos l.numbers)) front l.initial.table 0 l.table l.i l.i
+
+abbrev pub decreases-loop-i : goal.decreases-loop-i
+decreases-loop-i l = front - l.i

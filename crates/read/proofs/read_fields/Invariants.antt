@@ -1,0 +1,14 @@
+use Rattle.read.specs.Storing.{none_seen}
+use Prim.Native.Nat.{◌≤◌, ◌-◌}
+use mathlib.Core.Path.{◌≡◌, refl}
+use native.Mathlib.Omega.{arith}
+use borrow.Author.Rules.{rules}
+use lib.ListN.{length, length-set, get_or}
+use Rattle.read.proofs.FieldLaws.{part, part_at, part-long, Rest, rest-start, rest-wrong, rest-next, rest_end}
+use Rattle.read.proofs.read_fields.Given as goal
+
+abbrev pub invariant-loop-i : goal.invariant-loop-i
+invariant-loop-i l = (l.i ≤ l.w) × (length l.t ≡ length l.initial.t) × Rest l.text l.at (part l.from l.w) l.n (get_or l.counts exception 0) l.rows l.to l.initial.t l.t l.i l.seen
+
+abbrev pub decreases-loop-i : goal.decreases-loop-i
+decreases-loop-i l = l.w - l.i

@@ -1,0 +1,6 @@
+use Rattle.standing.proofs.Below.{beneath}
+use borrow.Author.Rules.{rules}
+use Rattle.standing.proofs.unexceeded.Goals as goal
+
+pub returns : goal.returns
+returns c = beneath _ _ _ _ _ _ _ _ _ _ c.with_sets-b.ensures c.propagate-rest.ensures c.each_needed.ensures

@@ -1,0 +1,16 @@
+use Rattle.visits.proofs.Gone.{listed_at, listed-not}
+use borrow.Author.Rules.{rules}
+use Rattle.visits.proofs.list_on.Goals as goal
+
+pub returns-in-Refused : goal.returns-in-Refused
+returns-in-Refused c =
+    let s = c.args in
+    let g = c.go_to-w in
+    listed-not s.text.now s.store.now s.name.bytes g.result g.ensures.0 _ _ _ _ c.in-Refused.is
+
+pub returns-in-Point : goal.returns-in-Point
+returns-in-Point c =
+    let s = c.args in
+    let g = c.go_to-w in
+    let i = c.before.before.before.before.before.before.before.before.w2.given in
+    listed_at s.text.now s.store.now s.name.bytes g.result g.ensures.0 _ _ _ _ _ i.0.0 _ i.1 c.run.ensures

@@ -1,0 +1,15 @@
+use mathlib.Core.Path.{◌≡◌, refl, ◌∙◌}
+use Prim.Native.Nat.{◌-◌, ◌≤◌}
+use native.Mathlib.Nat.{div-mul-le_self}
+use native.Mathlib.Omega.{arith}
+use lib.ListN.{length}
+use borrow.Author.Rules.{rules}
+use Rattle.visits.specs.Visits.{Visited}
+use Rattle.visits.proofs.Made.{made_none, made_more, made-many}
+use Rattle.visits.proofs.visit_all.Given as goal
+
+abbrev pub invariant-loop-k : goal.invariant-loop-k
+invariant-loop-k l = (l.k ≤ l.m) × (length l.store ≡ length l.initial.store) × (length l.answers ≡ length l.initial.answers) × Visited l.calls 0 l.k l.initial.store l.store l.initial.answers l.answers
+
+abbrev pub decreases-loop-k : goal.decreases-loop-k
+decreases-loop-k l = l.m - l.k

@@ -1,0 +1,23 @@
+use lib.Seq.{length-take-le}
+use mathlib.Core.Path.{sym}
+use Rattle.listing.proofs.Steps.{step}
+use Rattle.ways.proofs.Stands.{place-small, stood}
+use borrow.Author.Rules.{rules}
+use Rattle.ways.proofs.go_on.Goals as goal
+
+pub slice_bounds-send-end : goal.slice_bounds-send-end
+slice_bounds-send-end c = sym (length-take-le _ _ c.go_on-part.ensures.fits)
+
+pub send-sent-requires : goal.send-sent-requires
+send-sent-requires c =
+    let l = c.go_on-part.ensures in
+    let f = c.requires in
+    let s = step _ _ _ _ _ _ _ f _ _ l in
+    (s.next, rw (length-take-le _ _ l.fits) (place-small _ _ _ f.few f.short l.small))
+
+pub returns : goal.returns
+returns c =
+    let l = c.go_on-part.ensures in
+    let f = c.requires in
+    let a = c.after.ensures in
+    stood _ _ _ _ _ _ _ _ _ _ (step _ _ _ _ _ _ _ f _ _ l) l.fits c.send-sent.ensures a.0.0 a.0.1 a.0.2 a.1.0 a.1.1

@@ -1,0 +1,10 @@
+use native.Mathlib.Omega.{arith}
+use Rattle.ways.specs.Stands.{Stood}
+use borrow.Author.Rules.{rules}
+use Rattle.ways.proofs.rest.Given as goal
+
+abbrev pub invariant-loop-stand : goal.invariant-loop-stand
+invariant-loop-stand l = Stood l.text l.words l.ranks l.s l.left l.stand
+
+abbrev pub decreases-loop-stand : goal.decreases-loop-stand
+decreases-loop-stand l = l.left

@@ -1,0 +1,14 @@
+use mathlib.Core.Logic.{⊎_elim}
+use lib.Seq.{length-take-le}
+use Prim.Native.Nat.{◌+◌, ◌-◌, ◌≤◌}
+use mathlib.Core.Path.{◌≡◌, sym}
+use lib.ListN.{length}
+use native.Mathlib.Omega.{arith}
+use borrow.Author.Rules.{rules}
+use Rattle.ways.proofs.streams.receive.Given as goal
+
+abbrev pub invariant-loop-done : goal.invariant-loop-done
+invariant-loop-done l = (length l.room ≡ length l.initial.room) × (l.done ≤ length l.room)
+
+abbrev pub decreases-loop-done : goal.decreases-loop-done
+decreases-loop-done l = (length l.room - l.done) + l.patience

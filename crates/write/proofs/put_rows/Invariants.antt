@@ -1,0 +1,17 @@
+use mathlib.Core.Path.{◌≡◌, ap}
+use Prim.Native.Nat.{◌+◌, ◌-◌, ◌<◌, ◌≤◌}
+use native.Mathlib.Omega.{arith}
+use lib.ListN.{length}
+use borrow.Author.Rules.{rules}
+use Rattle.logic.proofs.Stores.{Putting, putting-start, putting-room, putting-next, putting-end}
+use Rattle.book.specs.declared.Kind.{Kind}
+use Rattle.book.specs.Counts.{start_of}
+use Rattle.write.proofs.TableLaws.{rows_in, start-on, start_first}
+use Rattle.write.proofs.PutLaws.{kind-rows, block_at, rows_are, block_room, block-piece, block-next, next_place}
+use Rattle.write.proofs.put_rows.Given as goal
+
+abbrev pub invariant-loop-k : goal.invariant-loop-k
+invariant-loop-k l = (first < l.k) × (l.k ≤ last) × (l.f ≡ front + start_of l.s l.k) × Putting (block_at l.s l.t) (last - 1) l.initial.buf l.at l.buf l.a (l.k - 1)
+
+abbrev pub decreases-loop-k : goal.decreases-loop-k
+decreases-loop-k l = last - l.k

@@ -1,0 +1,12 @@
+use Prim.Native.Nat.{ℕ, ◌-◌}
+use native.Mathlib.Omega.{arith}
+use lib.ListN.{length-replicate}
+use borrow.Author.Rules.{rules}
+use Rattle.write.proofs.TableLaws.{kind-count, Counting, counting-start, counting-next, shape_is}
+use Rattle.write.proofs.shape_in.Given as goal
+
+abbrev pub invariant-loop-k : goal.invariant-loop-k
+invariant-loop-k l = Counting l.t l.counts l.k
+
+abbrev pub decreases-loop-k : goal.decreases-loop-k
+decreases-loop-k l = none - l.k

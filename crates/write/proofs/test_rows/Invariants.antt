@@ -1,0 +1,12 @@
+use Prim.Native.Nat.{◌-◌}
+use native.Mathlib.Omega.{arith}
+use borrow.Author.Rules.{rules}
+use Rattle.book.proofs.Counts.{exceptions-in}
+use Rattle.write.proofs.TableLaws.{Going, going_start, going-in, going-kind, going-line, going-failed, going_next, going_end}
+use Rattle.write.proofs.test_rows.Given as goal
+
+abbrev pub invariant-loop-k : goal.invariant-loop-k
+invariant-loop-k l = Going l.t l.s l.k l.from l.line
+
+abbrev pub decreases-loop-k : goal.decreases-loop-k
+decreases-loop-k l = last - l.k
