@@ -1,3 +1,4 @@
+use Rattle.book.specs.Kinds.{contents}
 use mathlib.Core.Path.{refl}
 use native.Mathlib.Omega.{arith}
 use Rattle.book.proofs.content_at.Goals as goal

@@ -24,7 +24,7 @@ pub overflow_add-at : goal.overflow_add-at
 overflow_add-at c = omega arith
 
 pub put_number-requires : goal.put_number-requires
-put_number-requires c = (short_back c.args.t.now c.args.from c.args.w c.loop-i.i _ (search rules) (omega arith) c.number_at-v.ensures c.number_at-v.type-inv, omega arith)
+put_number-requires c = (short_back c.args.t.now c.args.from c.args.w c.loop-i.i _ (search rules) (omega arith) c.number_at-v.ensures c.number_at-v.type_inv, omega arith)
 
 pub overflow_add-i : goal.overflow_add-i
 overflow_add-i c = omega arith
@@ -37,7 +37,7 @@ loop-i-preserved c =
     let number = c.number_at-v in
     let put = c.put_number in
     let loop = c.loop-i in
-    let e = back-same _ number.type-inv ∙ number.ensures in
+    let e = back-same _ number.type_inv ∙ number.ensures in
     putting-next _ _ _ _ loop.buf _ loop.i loop.invariant (omega arith) _ _ (rw e at put.ensures) (rw field-length (omega arith))
 
 pub returns : goal.returns

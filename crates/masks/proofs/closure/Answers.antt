@@ -14,7 +14,7 @@ pub returns-then-same : goal.returns-then-same
 returns-then-same c = closure-full _ _ _ _ _ c.same.ensures (search rules) c.loop-b.invariant.0 c.loop-b.invariant.1
 
 pub loop-b-smaller : goal.loop-b-smaller
-loop-b-smaller c = let g = pass-grows _ _ _ _ _ c.pass-d.ensures _ c.same-in-loop-b.ensures (search rules) in omega (arith, c.pass-d.type-inv)
+loop-b-smaller c = let g = pass-grows _ _ _ _ _ c.pass-d.ensures _ c.same-in-loop-b.ensures (search rules) in omega (arith, c.pass-d.type_inv)
 
 pub loop-b-preserved : goal.loop-b-preserved
 loop-b-preserved c = (next_start _ _ _ _ _ c.pass-d.ensures c.loop-b.invariant.0, next-below _ _ _ _ _ c.pass-d.ensures c.loop-b.invariant.1)

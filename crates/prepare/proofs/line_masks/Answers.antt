@@ -1,3 +1,4 @@
+use Rattle.book.specs.Kinds.{entries_each}
 use Rattle.prepare.proofs.Masks.{readable-front, readable-part, line-is}
 use native.Mathlib.Omega.{arith}
 use Prim.Native.Nat.{◌+◌}

@@ -1,3 +1,4 @@
+use Rattle.book.specs.Kinds.{preference_numbers}
 use Prim.Native.Nat.{◌+◌, ◌-◌, ◌*◌, ◌≤◌}
 use native.Mathlib.Omega.{arith}
 use borrow.Author.Rules.{rules}

@@ -1,3 +1,4 @@
+use Rattle.book.specs.Kinds.{entries_each}
 use Prim.Native.Nat.{◌+◌}
 use native.Mathlib.Omega.{arith}
 use Rattle.prepare.proofs.Masks.{readable-front, readable-part, rule-is}

@@ -1,3 +1,4 @@
+use Rattle.book.specs.Kinds.{kinds, none}
 use mathlib.Core.Path.{◌≡◌}
 use Prim.Native.Nat.{◌-◌}
 use native.Mathlib.Omega.{arith}

@@ -1,3 +1,4 @@
+use Rattle.book.specs.Kinds.{kinds, most, bytes, longest}
 use native.Mathlib.Omega.{arith}
 use mathlib.Core.Path.{◌∙◌, sym}
 use Rattle.read.proofs.Whole.{last-is, parsed-long, parsed-empty, parsed-open, parsed-lines}

@@ -1,3 +1,4 @@
+use Rattle.book.specs.Kinds.{front}
 use mathlib.Core.List.{map}
 use Prim.Native.Nat.{◌-◌}
 use native.Mathlib.Omega.{arith}

@@ -26,7 +26,7 @@ pub loop-i-smaller : goal.loop-i-smaller
 loop-i-smaller c = omega arith
 
 pub loop-i-preserved : goal.loop-i-preserved
-loop-i-preserved c = putting-next _ _ _ _ c.loop-i.t _ c.loop-i.i c.loop-i.invariant (omega arith) _ _ (put-each c.args.rows.now c.loop-i.t _ c.loop-i.i (back c.number_at.result) (back-same _ c.number_at.type-inv ∙ c.number_at.ensures)) (omega arith)
+loop-i-preserved c = putting-next _ _ _ _ c.loop-i.t _ c.loop-i.i c.loop-i.invariant (omega arith) _ _ (put-each c.args.rows.now c.loop-i.t _ c.loop-i.i (back c.number_at.result) (back-same _ c.number_at.type_inv ∙ c.number_at.ensures)) (omega arith)
 
 pub shape_of-t : goal.shape_of-t
 shape_of-t c = c.loop-i.invariant.same_size

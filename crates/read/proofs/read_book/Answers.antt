@@ -1,3 +1,4 @@
+use Rattle.book.specs.Kinds.{exception}
 use mathlib.Core.Path.{ap, ◌∙◌}
 use Prim.Native.Nat.{◌-◌}
 use native.Mathlib.Omega.{arith}

@@ -1,3 +1,5 @@
+use Rattle.book.specs.Kinds.{contents, fields_of}
+use Rattle.book.specs.Kinds.{exception}
 use Rattle.read.specs.Storing.{none_seen}
 use Prim.Native.Nat.{◌≤◌, ◌-◌}
 use mathlib.Core.Path.{◌≡◌, refl}

@@ -1,3 +1,4 @@
+use Rattle.book.specs.Kinds.{first, last, front}
 use mathlib.Core.Path.{◌≡◌, ap}
 use Prim.Native.Nat.{◌+◌, ◌-◌, ◌<◌, ◌≤◌}
 use native.Mathlib.Omega.{arith}

@@ -1,3 +1,4 @@
+use Rattle.book.specs.Kinds.{none}
 use Prim.Native.Nat.{ℕ, ◌-◌}
 use native.Mathlib.Omega.{arith}
 use lib.ListN.{length-replicate}
@@ -24,10 +25,10 @@ pub loop-k-smaller : goal.loop-k-smaller
 loop-k-smaller c = omega arith
 
 pub loop-k-preserved : goal.loop-k-preserved
-loop-k-preserved c = counting-next c.args.t.now c.loop-k.counts c.loop-k.k c.loop-k.invariant (omega arith) c.kind_at-x.result c.kind_at-x.ensures c.number_at-v.result c.number_at-v.type-inv c.number_at-v.ensures c.to_nat.result c.to_nat.ensures.0
+loop-k-preserved c = counting-next c.args.t.now c.loop-k.counts c.loop-k.k c.loop-k.invariant (omega arith) c.kind_at-x.result c.kind_at-x.ensures c.number_at-v.result c.number_at-v.type_inv c.number_at-v.ensures c.to_nat.result c.to_nat.ensures.0
 
 pub number_at-n-requires : goal.number_at-n-requires
 number_at-n-requires c = omega arith
 
 pub returns : goal.returns
-returns c = shape_is c.args.t.now c.loop-k.counts c.loop-k.k c.loop-k.invariant (omega arith) c.number_at-n.result c.to_nat-2.result c.number_at-n.type-inv c.number_at-n.ensures c.to_nat-2.ensures.0 _ c.shape_from.ensures
+returns c = shape_is c.args.t.now c.loop-k.counts c.loop-k.k c.loop-k.invariant (omega arith) c.number_at-n.result c.to_nat-2.result c.number_at-n.type_inv c.number_at-n.ensures c.to_nat-2.ensures.0 _ c.shape_from.ensures

@@ -1,3 +1,4 @@
+use Rattle.book.specs.Kinds.{none}
 use Prim.Native.Nat.{ℕ, ◌-◌}
 use native.Mathlib.Omega.{arith}
 use lib.ListN.{length-replicate}

@@ -1,3 +1,4 @@
+use Rattle.book.specs.Kinds.{contents, numbers_of}
 use Prim.Native.Nat.{◌≤◌, ◌-◌}
 use mathlib.Core.Path.{refl}
 use native.Mathlib.Omega.{arith}
@@ -32,7 +33,7 @@ returns-in-Refused c =
     let content-at = c.content_at-content in
     let loop = c.loop-i in
     let args = c.args in
-    rest-wrong args.t.now args.from (part args.x.from args.x.numbers) _ _ loop.i loop.seen (rw (part-long args.x.from args.x.numbers (omega arith)) (omega arith)) (omega arith) (search rules) content-at.result (part_at args.x.from args.x.numbers _ _ (omega arith) (search rules)) number_at.result number_at.ensures number_at.type-inv check-number.result check-number.ensures _ (search rules)
+    rest-wrong args.t.now args.from (part args.x.from args.x.numbers) _ _ loop.i loop.seen (rw (part-long args.x.from args.x.numbers (omega arith)) (omega arith)) (omega arith) (search rules) content-at.result (part_at args.x.from args.x.numbers _ _ (omega arith) (search rules)) number_at.result number_at.ensures number_at.type_inv check-number.result check-number.ensures _ (search rules)
 
 pub overflow_add-i : goal.overflow_add-i
 overflow_add-i c = omega arith
@@ -47,7 +48,7 @@ loop-i-preserved c =
     let content-at = c.content_at-content in
     let loop = c.loop-i in
     let args = c.args in
-    (omega arith, rest-next args.t.now args.from (part args.x.from args.x.numbers) _ _ loop.i loop.seen (rw (part-long args.x.from args.x.numbers (omega arith)) (omega arith)) (omega arith) (search rules) content-at.result (part_at args.x.from args.x.numbers _ _ (omega arith) (search rules)) number_at.result number_at.ensures number_at.type-inv check-number.result check-number.ensures _ (search rules) c.see-seen.ensures)
+    (omega arith, rest-next args.t.now args.from (part args.x.from args.x.numbers) _ _ loop.i loop.seen (rw (part-long args.x.from args.x.numbers (omega arith)) (omega arith)) (omega arith) (search rules) content-at.result (part_at args.x.from args.x.numbers _ _ (omega arith) (search rules)) number_at.result number_at.ensures number_at.type_inv check-number.result check-number.ensures _ (search rules) c.see-seen.ensures)
 
 pub returns : goal.returns
 unfolding numbers_of

@@ -1,3 +1,4 @@
+use Rattle.book.specs.Kinds.{contents, numbers_of}
 use Prim.Native.Nat.{◌≤◌, ◌-◌}
 use mathlib.Core.Path.{refl}
 use native.Mathlib.Omega.{arith}

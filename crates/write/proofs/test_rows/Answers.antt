@@ -1,3 +1,4 @@
+use Rattle.book.specs.Kinds.{last}
 use Prim.Native.Nat.{◌-◌}
 use native.Mathlib.Omega.{arith}
 use borrow.Author.Rules.{rules}

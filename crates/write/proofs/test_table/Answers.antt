@@ -11,7 +11,7 @@ test_counts-requires c =
     let check-number = c.check_number-checked in
     let number_at = c.number_at-n in
     let args = c.args in
-    (omega arith, statements-in args.t.now number_at.result number_at.ensures number_at.type-inv check-number.result check-number.ensures (search rules))
+    (omega arith, statements-in args.t.now number_at.result number_at.ensures number_at.type_inv check-number.result check-number.ensures (search rules))
 
 pub returns-in-Refused : goal.returns-in-Refused
 returns-in-Refused c =
@@ -19,4 +19,4 @@ returns-in-Refused c =
     let check-number = c.check_number-checked in
     let number_at = c.number_at-n in
     let args = c.args in
-    table-n _ (omega arith) _ checked.given.0.0 (statements-out args.t.now number_at.result number_at.ensures number_at.type-inv check-number.result check-number.ensures _ (search rules)) c.refused-in-Refused.ensures
+    table-n _ (omega arith) _ checked.given.0.0 (statements-out args.t.now number_at.result number_at.ensures number_at.type_inv check-number.result check-number.ensures _ (search rules)) c.refused-in-Refused.ensures

@@ -1,3 +1,4 @@
+use Rattle.book.specs.Kinds.{kinds, most, bytes, longest}
 use mathlib.Core.Path.{refl}
 use Rattle.book.specs.Shapes.{empty_shape, empty_book}
 use Rattle.book.proofs.Book.empty.Goals as goal

@@ -1,3 +1,4 @@
+use Rattle.book.specs.Kinds.{kinds, bytes, row_once, most, longest, most_rows, longest_table}
 use mathlib.Core.Path.{refl}
 use Rattle.logic.specs.Tests.{pick}
 use Rattle.book.specs.Shapes.{limits}
