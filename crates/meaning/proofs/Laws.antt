@@ -15,12 +15,12 @@ use Rattle.meaning.specs.Books.{Book, Lawful, conclusions, taken_from}
 use Rattle.meaning.specs.Views.{View}
 use Rattle.meaning.specs.Resolutions.{Dominated, Resolution, Verdict, no_answer_set, ranked_within, body_unsatisfied, dominated, not_minimal, resolution}
 use Rattle.meaning.specs.Published.{Chosen}
-use Rattle.meaning.specs.Twins.Verdicts.{verdict, answers, ranked_within, dominates, bodies, views, dominated_by, exceeded_by}
+use Rattle.meaning.specs.Twins.Verdicts.{verdict, answers, is_ranked_within, dominates, bodies, views, dominated_by, exceeded_by}
 use Rattle.meaning.proofs.Twins.{decides-answers, decides-bodies, decides-dominated, decides-exceeded, verdict-is}
 use Rattle.meaning.proofs.Ranks.{decides-within}
 
 -- ---- verdicts
-passed : (b : Book) (p : Pair) → View b p → (answers b p ≡ true) × (ranked_within b p ≡ false) × (bodies b p ≡ true)
+passed : (b : Book) (p : Pair) → View b p → (answers b p ≡ true) × (is_ranked_within b p ≡ false) × (bodies b p ≡ true)
 passed b p v = (holds (decides-answers b p v.lawful) v.answers, fails (decides-within b p) v.unranked, holds (decides-bodies b p) v.bodies)
 
 -- The verdict from the five tests.
@@ -29,7 +29,7 @@ choose a r s d x =
     elim a [ false ↦ 1 | true ↦ elim r [ true ↦ 2 | false ↦ elim s [ false ↦ 3 | true ↦ elim d [ true ↦ 4 | false ↦ elim x [ true ↦ 5 | false ↦ 0 ] ] ] ] ]
 
 chosen : (b : Book) (p : Pair)
-    → verdict b p ≡ choose (answers b p) (ranked_within b p) (bodies b p) (dominated_by b (views b) p) (exceeded_by b (views b) p)
+    → verdict b p ≡ choose (answers b p) (is_ranked_within b p) (bodies b p) (dominated_by b (views b) p) (exceeded_by b (views b) p)
 unfolding verdict choose
 chosen b p = refl
 

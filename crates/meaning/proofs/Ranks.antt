@@ -19,7 +19,7 @@ use Rattle.meaning.specs.Preferences.{in_both, Outranks, step, chain}
 use Rattle.meaning.specs.Books.{Book}
 use Rattle.meaning.specs.Views.{ranking, Ranked, RankedWithin, Dominates}
 use Rattle.meaning.specs.Twins.Closure.{closure}
-use Rattle.meaning.specs.Twins.Verdicts.{rank_rule, rank_rules, outranks, ranked_in, ranked_within, dominates}
+use Rattle.meaning.specs.Twins.Verdicts.{rank_rule, rank_rules, outranks, ranked_in, is_ranked_within, dominates}
 use Rattle.meaning.proofs.Members.{At}
 use Rattle.meaning.proofs.Closed.{KeptBy, closure-keeps, closure-closed}
 
@@ -99,8 +99,8 @@ decides-ranked ls t u =
     (λ r. let l = some_at _ ls (begins ls r.outranks) in let m = some_at _ ls (ends ls r.outranks) in
     some_of _ l.0 ls (rw l.2 r.upper_in, some_of _ m.0 ls (rw m.2 r.lower_in, rw (l.2, m.2) r.outranks) m.1) l.1)
 
-pub decides-within : (b : Book) (p : Pair) → Decides (ranked_within b p) (RankedWithin b p)
-unfolding ranked_within
+pub decides-within : (b : Book) (p : Pair) → Decides (is_ranked_within b p) (RankedWithin b p)
+unfolding is_ranked_within
 decides-within b p = decides-ranked (ranking b p) p.taken p.taken
 
 pub decides-dominates : (b : Book) (p q : Pair) → Decides (dominates b p q) (Dominates b p q)

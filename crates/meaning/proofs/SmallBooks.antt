@@ -19,7 +19,7 @@ use Rattle.meaning.specs.Books.{taken_from}
 use Rattle.meaning.specs.Meant.{entry, number, entries_at, rule_at, rules_at, preferences_at, condition_at, conditional_at, book_of}
 use Rattle.meaning.specs.Order.{value_of, value}
 use Rattle.meaning.specs.Twins.Closure.{add_to, add, add_heads, keep_back, take_out, close_by, empty, closure}
-use Rattle.meaning.specs.Twins.Verdicts.{breaks, apart, same, given, follows, closed, no_smaller, up_to, minimal, answer_set, rank_rule, rank_rules, outranks, ranked_in, ranked_within, dominates, lawful, answers, bodies, view, below, pairs, views, contained_to, proper_subset, dominated_by, exceeded_by, verdict, unbeaten, resolutions_among, resolutions}
+use Rattle.meaning.specs.Twins.Verdicts.{breaks, apart, same, given, follows, closed, no_smaller, up_to, minimal, answer_set, rank_rule, rank_rules, outranks, ranked_in, is_ranked_within, dominates, lawful, answers, bodies, view, below, pairs, views, contained_to, proper_subset, dominated_by, exceeded_by, verdict, unbeaten, resolutions_among, resolutions}
 use Rattle.meaning.specs.Twins.Tables.{differs_from, before, ascending, same_pair, Example, same_members, right}
 
 -- A rule with these heads; a rule with one head; that with an empty body; a constraint.
@@ -148,7 +148,7 @@ table = k1 ∷ k2 ∷ k3 ∷ k4 ∷ k5 ∷ k6 ∷ k7 ∷ k8 ∷ k9 ∷ k10 ∷ k
 
 -- Every example of the table is right, computed.
 pub all_right : every right table ≡ true
-unfolding table counting same_step in_both size size_to value_of cons_if every right member is_in some_in struck reduct taken_from value some keep concat_map add_to add add_heads keep_back take_out close_by empty closure satisfied breaks apart same given follows closed no_smaller up_to minimal answer_set rank_rule rank_rules outranks ranked_in ranked_within dominates lawful answers bodies view below pairs views contained_to proper_subset dominated_by exceeded_by verdict unbeaten resolutions_among resolutions differs_from before ascending same_pair same_members
+unfolding table counting same_step in_both size size_to value_of cons_if every right member is_in some_in struck reduct taken_from value some keep concat_map add_to add add_heads keep_back take_out close_by empty closure satisfied breaks apart same given follows closed no_smaller up_to minimal answer_set rank_rule rank_rules outranks ranked_in is_ranked_within dominates lawful answers bodies view below pairs views contained_to proper_subset dominated_by exceeded_by verdict unbeaten resolutions_among resolutions differs_from before ascending same_pair same_members
 all_right = refl
 
 -- ---- a number table

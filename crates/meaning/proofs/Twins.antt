@@ -22,7 +22,7 @@ use Rattle.meaning.specs.AnswerSets.{reduct, Given, Closed, Minimal, Breaks, Ans
 use Rattle.meaning.specs.Books.{Book, Lawful, conclusions, applied}
 use Rattle.meaning.specs.Views.{Answers, RankedWithin, Bodies, View, Dominates}
 use Rattle.meaning.specs.Resolutions.{Dominated, Exceeded, Resolution, Verdict, no_answer_set, ranked_within, body_unsatisfied, dominated, not_minimal, resolution}
-use Rattle.meaning.specs.Twins.Verdicts.{breaks, apart, same, given, follows, closed, no_smaller, up_to, minimal, answer_set, ranked_within, dominates, lawful, answers, bodies, view, below, pairs, views, contained_to, proper_subset, dominated_by, exceeded_by, verdict, unbeaten, resolutions_among, resolutions}
+use Rattle.meaning.specs.Twins.Verdicts.{breaks, apart, same, given, follows, closed, no_smaller, up_to, minimal, answer_set, is_ranked_within, dominates, lawful, answers, bodies, view, below, pairs, views, contained_to, proper_subset, dominated_by, exceeded_by, verdict, unbeaten, resolutions_among, resolutions}
 use Rattle.meaning.proofs.Members.{subset-same}
 use Rattle.meaning.proofs.Ranks.{decides-within, decides-dominates}
 
@@ -208,7 +208,7 @@ decides-view b p =
     reworded {P = Lawful b p × (Answers b p × ((RankedWithin b p → ⊥) × Bodies b p))}
     (decides-then (lawful b p) _ (decides-lawful b p) (λ l.
     decides-both (answers b p) _ (decides-answers b p l)
-    (decides-both (not (ranked_within b p)) _ (decides_not (decides-within b p)) (decides-bodies b p))))
+    (decides-both (not (is_ranked_within b p)) _ (decides_not (decides-within b p)) (decides-bodies b p))))
     (λ h. record { lawful = h.0; answers = h.1.0; unranked = h.1.1.0; bodies = h.1.1.1 })
     (λ v. (v.lawful, (v.answers, (v.unranked, v.bodies))))
 
@@ -272,12 +272,12 @@ resolutions-only b p m =
 -- ---- the verdict
 pub verdict-is : (b : Book) (p : Pair) → Lawful b p → Verdict b p (verdict b p)
 unfolding verdict
-verdict-is b p l = go (answers b p) refl (ranked_within b p) refl (bodies b p) refl (dominated_by b (views b) p) refl (exceeded_by b (views b) p) refl
+verdict-is b p l = go (answers b p) refl (is_ranked_within b p) refl (bodies b p) refl (dominated_by b (views b) p) refl (exceeded_by b (views b) p) refl
   where
-    v : answers b p ≡ true → ranked_within b p ≡ false → bodies b p ≡ true → View b p
+    v : answers b p ≡ true → is_ranked_within b p ≡ false → bodies b p ≡ true → View b p
     v a r s = record { lawful = l; answers = (decides-answers b p l).yes a; unranked = (decides-within b p).no r; bodies = (decides-bodies b p).yes s }
 
-    go : (a : Bool) → answers b p ≡ a → (r : Bool) → ranked_within b p ≡ r → (s : Bool) → bodies b p ≡ s
+    go : (a : Bool) → answers b p ≡ a → (r : Bool) → is_ranked_within b p ≡ r → (s : Bool) → bodies b p ≡ s
         → (d : Bool) → dominated_by b (views b) p ≡ d → (x : Bool) → exceeded_by b (views b) p ≡ x
         → Verdict b p (elim a as (λ _. ℕ) [ false ↦ 1 | true ↦ elim r [ true ↦ 2 | false ↦ elim s [ false ↦ 3 | true ↦ elim d [ true ↦ 4 | false ↦ elim x [ true ↦ 5 | false ↦ 0 ] ] ] ] ])
     go false ea r er s es d ed x ex = no_answer_set ((decides-answers b p l).no ea)

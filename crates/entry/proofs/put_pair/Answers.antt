@@ -3,4 +3,4 @@ use borrow.Author.Rules.{rules}
 use Rattle.entry.proofs.put_pair.Goals as goal
 
 pub returns : goal.returns
-returns c = pair_put _ c.put_word.new.0 c.put_word-2.new.0 _ _ _ (search rules) (search rules) (search rules)
+returns c = pair_put _ c.put_word.new.s c.put_word-2.new.s _ _ _ (search rules) (search rules) (search rules)

@@ -79,8 +79,8 @@ ranked_in ls t u =
     some (λ (l : ℕ × ℕ). elim (member l.0 t) [ true ↦ some (λ (m : ℕ × ℕ). elim (member m.1 u) [ true ↦ outranks ls l.0 m.1 | false ↦ false ]) ls | false ↦ false ]) ls
 
 -- T has a member beside one that outranks it.
-unfoldable pub ranked_within : Book → Pair → Bool
-ranked_within b p = ranked_in (ranking b p) p.taken p.taken
+unfoldable pub is_ranked_within : Book → Pair → Bool
+is_ranked_within b p = ranked_in (ranking b p) p.taken p.taken
 
 -- p dominates q.
 unfoldable pub dominates : Book → Pair → Pair → Bool
@@ -109,7 +109,7 @@ bodies b p = every (λ r. satisfied (conclusions p) r.body) (applied b p)
 
 unfoldable pub view : Book → Pair → Bool
 view b p =
-    elim (lawful b p) [ true ↦ elim (answers b p) [ true ↦ elim (not (ranked_within b p)) [ true ↦ bodies b p | false ↦ false ] | false ↦ false ] | false ↦ false ]
+    elim (lawful b p) [ true ↦ elim (answers b p) [ true ↦ elim (not (is_ranked_within b p)) [ true ↦ bodies b p | false ↦ false ] | false ↦ false ] | false ↦ false ]
 
 -- All pairs within the book's numbers.
 unfoldable pub pairs : Book → List Pair
@@ -136,7 +136,7 @@ verdict b p =
     elim (answers b p) [
       | false ↦ 1
       | true ↦
-          elim (ranked_within b p) [
+          elim (is_ranked_within b p) [
             | true ↦ 2
             | false ↦
                 elim (bodies b p) [
