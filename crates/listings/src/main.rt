@@ -174,7 +174,7 @@ fn line_of(text: &[u8], taken: u64, held: u64, denied: u64, short: &mut [u8]) {
 // K7, from the start, from a resolution, from a pair that is none, from the last resolution, and from a pair that is not lawful.
 fn k7() {
     let text =
-        b"B   1   3\n_r   0   0   0   0   0   1   2   0   0\n_r   3   1   0   0   0   0   0   0   0\n_x   1   0   0   0   0   0   0   0   0\n_x   2   0   0   0   0   0   0   0   0\n_z   4\n";
+        b"B   1   3\nR   0   0   0   0   0   1   2   0   0\nR   3   1   0   0   0   0   0   0   0\nX   1   0   0   0   0   0   0   0   0\nX   2   0   0   0   0   0   0   0   0\nZ   4\n";
     let calls = [
         1u64, 4, 0, 0, 0, 0, 0, 0, 1, 0, 8, 0, 0, 9, 9, 9, 1, 0, 1, 1, 0, 0, 0, 0, 1, 4, 8, 8,
     ];
@@ -201,9 +201,9 @@ fn k7() {
 // K4 twice, in two texts with the same book: the second names its barred entries in other columns.
 fn k4() {
     let text =
-        b"B   1   2\n_r   1   0   0   0   0   2   0   0   0\n_r   2   0   0   0   0   1   0   0   0\n_z   2\n";
+        b"B   1   2\nR   1   0   0   0   0   2   0   0   0\nR   2   0   0   0   0   1   0   0   0\nZ   2\n";
     let other =
-        b"B   1   2\n_r   1   0   0   0   0   0   0   2   0\n_r   2   0   0   0   0   0   1   0   0\n_z   2\n";
+        b"B   1   2\nR   1   0   0   0   0   0   0   2   0\nR   2   0   0   0   0   0   1   0   0\nZ   2\n";
     let calls = [0u64, 0, 0, 0, 1, 1, 0, 0, 0, 0, 0, 0, 0, 0, 0, 0];
     word(b"K4\n");
     show(text, &calls, Spot::Start);
@@ -215,7 +215,7 @@ fn k4() {
 
 // K2, which has no resolution; and two texts that are no books.
 fn none() {
-    let text = b"B   1   1\n_r   0   0   0   0   0   0   0   0   0\n_z   1\n";
+    let text = b"B   1   1\nR   0   0   0   0   0   0   0   0   0\nZ   1\n";
     let calls = [0u64, 0, 0, 0, 1, 0, 0, 2, 0, 0, 0, 0];
     word(b"K2\n");
     show(text, &calls, Spot::Start);
@@ -228,7 +228,7 @@ fn none() {
 // which must be held. Each time a pair that takes all of them, one that takes none, and one with a bit past them.
 fn twelve() {
     let text =
-        b"B   1   3\n_r   0   0   0   0   0   1   0   0   0\n_x   2   0   0   0   0   0   0   0   0\n_x   2   0   0   0   0   0   0   0   0\n_x   2   0   0   0   0   0   0   0   0\n_x   2   0   0   0   0   0   0   0   0\n_x   2   0   0   0   0   0   0   0   0\n_x   2   0   0   0   0   0   0   0   0\n_x   2   0   0   0   0   0   0   0   0\n_x   2   0   0   0   0   0   0   0   0\n_x   2   0   0   0   0   0   0   0   0\n_x   2   0   0   0   0   0   0   0   0\n_x   2   0   0   0   0   0   0   0   0\n_x   1   0   0   0   0   0   0   0   0\n_z  13\n";
+        b"B   1   3\nR   0   0   0   0   0   1   0   0   0\nX   2   0   0   0   0   0   0   0   0\nX   2   0   0   0   0   0   0   0   0\nX   2   0   0   0   0   0   0   0   0\nX   2   0   0   0   0   0   0   0   0\nX   2   0   0   0   0   0   0   0   0\nX   2   0   0   0   0   0   0   0   0\nX   2   0   0   0   0   0   0   0   0\nX   2   0   0   0   0   0   0   0   0\nX   2   0   0   0   0   0   0   0   0\nX   2   0   0   0   0   0   0   0   0\nX   2   0   0   0   0   0   0   0   0\nX   1   0   0   0   0   0   0   0   0\nZ  13\n";
     let calls = [0u64, 0, 0, 0, 1, 4096, 0, 0, 0, 0, 0, 0];
     word(b"twelve\n");
     show(text, &calls, Spot::Start);
@@ -240,7 +240,7 @@ fn twelve() {
 
 fn thirteen() {
     let text =
-        b"B   1   3\n_r   0   0   0   0   0   1   0   0   0\n_x   2   0   0   0   0   0   0   0   0\n_x   2   0   0   0   0   0   0   0   0\n_x   2   0   0   0   0   0   0   0   0\n_x   2   0   0   0   0   0   0   0   0\n_x   2   0   0   0   0   0   0   0   0\n_x   2   0   0   0   0   0   0   0   0\n_x   2   0   0   0   0   0   0   0   0\n_x   2   0   0   0   0   0   0   0   0\n_x   2   0   0   0   0   0   0   0   0\n_x   2   0   0   0   0   0   0   0   0\n_x   2   0   0   0   0   0   0   0   0\n_x   1   0   0   0   0   0   0   0   0\n_x   1   0   0   0   0   0   0   0   0\n_z  14\n";
+        b"B   1   3\nR   0   0   0   0   0   1   0   0   0\nX   2   0   0   0   0   0   0   0   0\nX   2   0   0   0   0   0   0   0   0\nX   2   0   0   0   0   0   0   0   0\nX   2   0   0   0   0   0   0   0   0\nX   2   0   0   0   0   0   0   0   0\nX   2   0   0   0   0   0   0   0   0\nX   2   0   0   0   0   0   0   0   0\nX   2   0   0   0   0   0   0   0   0\nX   2   0   0   0   0   0   0   0   0\nX   2   0   0   0   0   0   0   0   0\nX   2   0   0   0   0   0   0   0   0\nX   1   0   0   0   0   0   0   0   0\nX   1   0   0   0   0   0   0   0   0\nZ  14\n";
     let calls = [0u64, 0, 0, 0, 1, 8192, 0, 0, 0, 0, 0, 0, 0, 0, 0, 0];
     word(b"thirteen\n");
     show(text, &calls, Spot::Start);

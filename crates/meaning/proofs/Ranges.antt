@@ -104,15 +104,15 @@ module _ (n : ℕ) where
   cut-some s [] w m = m
   cut-some s (l ∷ ls) w m = ⊎_elim (λ a. inl (cut_keeps s l w.0 a)) (λ a. inr (cut-some s ls w.1 a)) m
 
-  cut-given : (s : Conclusions) (ls : List Literal) → Every (Names n) ls → Given ls (cut s)
-  cut-given s [] w = tt
-  cut-given s (l ∷ ls) w = cut-some s (l ∷ ls) w 𝓛
+  cut-given : (s : Conclusions) (ls : List Literal) → Every (Names n) ls → Given ls s → Given ls (cut s)
+  cut-given s [] w g = tt
+  cut-given s (l ∷ ls) w g = cut-some s (l ∷ ls) w g
 
   answer-within : (rs : List Rule) (s : Conclusions) → Every (HeadsOf n) rs → AnswerSet rs s → (s.held < 2 ^ n) × (s.denied < 2 ^ n)
   unfolding is_in cut
   answer-within rs s e a =
       let c : Closed (reduct s rs) (cut s) =
-      every_two (λ r w k ne. cut-given s r.heads w) (reduct s rs) (every-reduct (Every (Names n)) s rs e) a.minimal.closed in
+      every_two (λ r w k ne. cut-given s r.heads w (k (every-map (cut-sub s) r.body.needed ne))) (reduct s rs) (every-reduct (Every (Names n)) s rs e) a.minimal.closed in
       let all = a.minimal.minimal (cut s) c (cut-sub s) in
       (below-by-members n s.held (λ i m. mod-past s.held i (all (pos i) m)), below-by-members n s.denied (λ i m. mod-past s.denied i (all (neg i) m)))
 

@@ -222,12 +222,12 @@ fn fields(k: usize, f: u8, new: &[u8; 8]) {
 // 1 and 2, the whole text: 1 comes before 2, 2 before 3, 1 before 8, 19 and 22.
 pub fn whole() {
     text(b"");
-    text(b"B   1   1\n_z   0");
-    text(b"B   1   1\n_z   0\n\r");
-    text(b"B   1   1\n_z   0\n\x00");
+    text(b"B   1   1\nZ   0");
+    text(b"B   1   1\nZ   0\n\r");
+    text(b"B   1   1\nZ   0\n\x00");
     with(17, b"Z  15");
     with(17, b"Q");
-    books::over(200, 40, 16, 32, 32, b"Z 320\n_z");
+    books::over(200, 40, 16, 32, 32, b"Z 320\nZ");
     books::over(200, 40, 16, 32, 32, b"Z 320 ");
     books::over(200, 40, 16, 33, 32, b"Z 321\n");
     books::over(200, 40, 16, 32, 33, b"Z 321\n");
@@ -242,7 +242,7 @@ fn first_letters() {
     with(1, b"");
     with(1, b"b   1   3\n");
     with(1, b" B   1   3\n");
-    with(1, b"\n_b   1   3\n");
+    with(1, b"\nB   1   3\n");
 }
 
 // Between.
@@ -521,7 +521,7 @@ pub fn alternative_heads() {
 
 // 11, Z's number wrong.
 pub fn totals() {
-    text(b"B   1   1\n_z   1\n");
+    text(b"B   1   1\nZ   1\n");
     field(17, 1, b"  14");
     field(17, 1, b"  16");
     field(17, 1, b"  12");
@@ -549,15 +549,15 @@ fn text_into(t: &[u8], m: usize) {
 
 // 15, the lent slice: one number short, just enough, one more; after all else.
 pub fn lent() {
-    let k1 = b"B   1   1\n_z   0\n";
+    let k1 = b"B   1   1\nZ   0\n";
     book_into(1, k1, 0);
     book_into(1, k1, 5);
     book_into(1, k1, 6);
     let k7 =
-        b"B   1   3\n_r   0   0   0   0   0   1   2   0   0\n_r   3   1   0   0   0   0   0   0   0\n_x   1   0   0   0   0   0   0   0   0\n_x   2   0   0   0   0   0   0   0   0\n_z   4\n";
+        b"B   1   3\nR   0   0   0   0   0   1   2   0   0\nR   3   1   0   0   0   0   0   0   0\nX   1   0   0   0   0   0   0   0   0\nX   2   0   0   0   0   0   0   0   0\nZ   4\n";
     book_into(7, k7, 41);
     book_into(7, k7, 42);
     book_into(7, k7, 43);
-    text_into(b"B   1   1\n_z   1\n", 3);
+    text_into(b"B   1   1\nZ   1\n", 3);
     text_into(b"", 0);
 }

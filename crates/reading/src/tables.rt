@@ -122,7 +122,7 @@ fn cut(m: usize) {
 // The table is what Read gives of its text, and Write gives the text back. Other good tables.
 pub fn good() {
     let text =
-        b"B   1   3\n_r   0   0   0   0   0   1   2   0   0\n_r   3   1   0   0   0   0   0   0   0\n_r  -1  -2   0   0   0   3   0   0  -3\n_o   1   2   0   0   0   0   0   0   0   0   0\n_o   0  -3   3   1  -2   0   0   0   0   0  -1\n_o   2   2   0   0   0   0   0   3   0   0   0\n_x   1   0   0   0   0   0   0   0   0\n_x   2   0   0   0   0   0   0   0   0\n_x   3   0   0   0   0   0   0   0   0\n_p   1   2\n_p   2   3\n_p   3   3\n_q   1   3   0   0   0   0   2   0   0   0\n_q   3   2  -1   2   0   0   0   0   0  -3\n_q   2   2   0   0   0   0   0   0   0   0\n_z  15\n";
+        b"B   1   3\nR   0   0   0   0   0   1   2   0   0\nR   3   1   0   0   0   0   0   0   0\nR  -1  -2   0   0   0   3   0   0  -3\nO   1   2   0   0   0   0   0   0   0   0   0\nO   0  -3   3   1  -2   0   0   0   0   0  -1\nO   2   2   0   0   0   0   0   3   0   0   0\nX   1   0   0   0   0   0   0   0   0\nX   2   0   0   0   0   0   0   0   0\nX   3   0   0   0   0   0   0   0   0\nP   1   2\nP   2   3\nP   3   3\nQ   1   3   0   0   0   0   2   0   0   0\nQ   3   2  -1   2   0   0   0   0   0  -3\nQ   2   2   0   0   0   0   0   0   0   0\nZ  15\n";
     let t = table();
     rows::letter(b't');
     rows::read_same(text, &t);

@@ -96,41 +96,41 @@ fn judge(text: &[u8], taken: u64, held: u64, denied: u64) {
 }
 
 fn k1() {
-    let text = b"B   1   1\n_z   0\n";
+    let text = b"B   1   1\nZ   0\n";
     show(text);
 }
 
 fn k2() {
-    let text = b"B   1   1\n_r   0   0   0   0   0   0   0   0   0\n_z   1\n";
+    let text = b"B   1   1\nR   0   0   0   0   0   0   0   0   0\nZ   1\n";
     show(text);
 }
 
 fn k3() {
-    let text = b"B   1   2\n_r   2   0   0   0   0  -1   0   0   0\n_z   1\n";
+    let text = b"B   1   2\nR   2   0   0   0   0  -1   0   0   0\nZ   1\n";
     show(text);
 }
 
 fn k4() {
     let text =
-        b"B   1   2\n_r   1   0   0   0   0   2   0   0   0\n_r   2   0   0   0   0   1   0   0   0\n_z   2\n";
+        b"B   1   2\nR   1   0   0   0   0   2   0   0   0\nR   2   0   0   0   0   1   0   0   0\nZ   2\n";
     show(text);
 }
 
 fn k5() {
-    let text = b"B   1   1\n_r   1   1   0   0   0   0   0   0   0\n_z   1\n";
+    let text = b"B   1   1\nR   1   1   0   0   0   0   0   0   0\nZ   1\n";
     show(text);
     judge(text, 0, 1, 0);
 }
 
 fn k6() {
     let text =
-        b"B   1   1\n_r   1   0   0   0   0   0   0   0   0\n_r  -1   0   0   0   0   0   0   0   0\n_z   2\n";
+        b"B   1   1\nR   1   0   0   0   0   0   0   0   0\nR  -1   0   0   0   0   0   0   0   0\nZ   2\n";
     show(text);
 }
 
 fn k7() {
     let text =
-        b"B   1   3\n_r   0   0   0   0   0   1   2   0   0\n_r   3   1   0   0   0   0   0   0   0\n_x   1   0   0   0   0   0   0   0   0\n_x   2   0   0   0   0   0   0   0   0\n_z   4\n";
+        b"B   1   3\nR   0   0   0   0   0   1   2   0   0\nR   3   1   0   0   0   0   0   0   0\nX   1   0   0   0   0   0   0   0   0\nX   2   0   0   0   0   0   0   0   0\nZ   4\n";
     show(text);
     judge(text, 3, 7, 0);
     follow(text, 1, 2, 4);
@@ -147,7 +147,7 @@ fn k7() {
 
 fn k8() {
     let text =
-        b"B   1   3\n_r   0   0   0   0   0   1   2   0   0\n_r   3   1   0   0   0   0   0   0   0\n_x   1   0   0   0   0   0   0   0   0\n_x   2   0   0   0   0   0   0   0   0\n_p   1   2\n_z   5\n";
+        b"B   1   3\nR   0   0   0   0   0   1   2   0   0\nR   3   1   0   0   0   0   0   0   0\nX   1   0   0   0   0   0   0   0   0\nX   2   0   0   0   0   0   0   0   0\nP   1   2\nZ   5\n";
     show(text);
     judge(text, 2, 2, 0);
     judge(text, 3, 7, 0);
@@ -155,7 +155,7 @@ fn k8() {
 
 fn k9() {
     let text =
-        b"B   1   4\n_r   0   0   0   0   0   1   2   0   0\n_r   0   0   0   0   0   3   4   0   0\n_r   0   1   3   0   0   0   0   0   0\n_r   0   2   4   0   0   0   0   0   0\n_x   1   0   0   0   0   0   0   0   0\n_x   2   0   0   0   0   0   0   0   0\n_x   3   0   0   0   0   0   0   0   0\n_x   4   0   0   0   0   0   0   0   0\n_p   1   2\n_p   3   4\n_z  10\n";
+        b"B   1   4\nR   0   0   0   0   0   1   2   0   0\nR   0   0   0   0   0   3   4   0   0\nR   0   1   3   0   0   0   0   0   0\nR   0   2   4   0   0   0   0   0   0\nX   1   0   0   0   0   0   0   0   0\nX   2   0   0   0   0   0   0   0   0\nX   3   0   0   0   0   0   0   0   0\nX   4   0   0   0   0   0   0   0   0\nP   1   2\nP   3   4\nZ  10\n";
     show(text);
     judge(text, 9, 9, 0);
     judge(text, 6, 6, 0);
@@ -163,34 +163,34 @@ fn k9() {
 
 fn k10() {
     let text =
-        b"B   1   1\n_r   0   0   0   0   0   1   0   0   0\n_x   1   0   0   0   0   0   0   0   0\n_p   1   1\n_z   3\n";
+        b"B   1   1\nR   0   0   0   0   0   1   0   0   0\nX   1   0   0   0   0   0   0   0   0\nP   1   1\nZ   3\n";
     show(text);
     judge(text, 1, 1, 0);
 }
 
 fn k11() {
     let text =
-        b"B   1   2\n_r   0   0   0   0   0   1   0   0   0\n_x   1   0   0   0   0   0   0   0   0\n_x   2  -1   0   0   0   0   0   0   0\n_z   3\n";
+        b"B   1   2\nR   0   0   0   0   0   1   0   0   0\nX   1   0   0   0   0   0   0   0   0\nX   2  -1   0   0   0   0   0   0   0\nZ   3\n";
     show(text);
     judge(text, 3, 1, 0);
 }
 
 fn k12() {
     let text =
-        b"B   1   1\n_r   0   0   0   0   0   1   0   0   0\n_x   1   0   0   0   0   0   0   0   0\n_x   1   0   0   0   0   0   0   0   0\n_z   3\n";
+        b"B   1   1\nR   0   0   0   0   0   1   0   0   0\nX   1   0   0   0   0   0   0   0   0\nX   1   0   0   0   0   0   0   0   0\nZ   3\n";
     show(text);
 }
 
 fn k13() {
     let text =
-        b"B   1   3\n_r   0   0   0   0   0   1   3   0   0\n_r   0   2   0   0   0   0   0   0   0\n_x   1   0   0   0   0   0   0   0   0\n_x   2   0   0   0   0   0   0   0   0\n_x   3   0   0   0   0   0   0   0   0\n_p   1   2\n_p   2   3\n_z   7\n";
+        b"B   1   3\nR   0   0   0   0   0   1   3   0   0\nR   0   2   0   0   0   0   0   0   0\nX   1   0   0   0   0   0   0   0   0\nX   2   0   0   0   0   0   0   0   0\nX   3   0   0   0   0   0   0   0   0\nP   1   2\nP   2   3\nZ   7\n";
     show(text);
     judge(text, 4, 4, 0);
 }
 
 fn k14() {
     let text =
-        b"B   1   3\n_r   0   0   0   0   0   1   2   0   0\n_r   0   1   0   0   0   3   0   0   0\n_x   1   0   0   0   0   0   0   0   0\n_x   2   0   0   0   0   0   0   0   0\n_x   3   0   0   0   0   0   0   0   0\n_p   1   2\n_z   6\n";
+        b"B   1   3\nR   0   0   0   0   0   1   2   0   0\nR   0   1   0   0   0   3   0   0   0\nX   1   0   0   0   0   0   0   0   0\nX   2   0   0   0   0   0   0   0   0\nX   3   0   0   0   0   0   0   0   0\nP   1   2\nZ   6\n";
     show(text);
     judge(text, 2, 2, 0);
 }

@@ -71,119 +71,119 @@ unfolding kinds bytes most longest row_once most_rows both pick
 limits-right = tt
 
 pub texts-right : T (texts
-    ((0, 42, "B   1   3\n_r   0   0   0   0   0   1   2   0   0\n_r   3   1   0   0   0   0   0   0   0\n_x   1   0   0   0   0   0   0   0   0\n_x   2   0   0   0   0   0   0   0   0\n_z   4\n") ∷
-    (0, 44, "B   1   3\n_r   0   0   0   0   0   1   2   0   0\n_r   3   1   0   0   0   0   0   0   0\n_x   1   0   0   0   0   0   0   0   0\n_x   2   0   0   0   0   0   0   0   0\n_p   1   2\n_z   5\n") ∷
-    (0, 52, "B   1   3\n_r   0   0   0   0   0   1   3   0   0\n_x   1   0   0   0   0   0   0   0   0\n_x   2   0   0   0   0   0   0   0   0\n_x   3   0   0   0   0   0   0   0   0\n_q   3   1   0   0   0   0   2   0   0   0\n_z   5\n") ∷
-    (0, 6, "B   1   1\n_z   0\n") ∷
-    (0, 6, "B   1  48\n_z   0\n") ∷
+    ((0, 42, "B   1   3\nR   0   0   0   0   0   1   2   0   0\nR   3   1   0   0   0   0   0   0   0\nX   1   0   0   0   0   0   0   0   0\nX   2   0   0   0   0   0   0   0   0\nZ   4\n") ∷
+    (0, 44, "B   1   3\nR   0   0   0   0   0   1   2   0   0\nR   3   1   0   0   0   0   0   0   0\nX   1   0   0   0   0   0   0   0   0\nX   2   0   0   0   0   0   0   0   0\nP   1   2\nZ   5\n") ∷
+    (0, 52, "B   1   3\nR   0   0   0   0   0   1   3   0   0\nX   1   0   0   0   0   0   0   0   0\nX   2   0   0   0   0   0   0   0   0\nX   3   0   0   0   0   0   0   0   0\nQ   3   1   0   0   0   0   2   0   0   0\nZ   5\n") ∷
+    (0, 6, "B   1   1\nZ   0\n") ∷
+    (0, 6, "B   1  48\nZ   0\n") ∷
     (2, 0, "") ∷
     (2, 0, "B   1   1") ∷
     (3, 1, "\n") ∷
     (3, 1, "Z   0\n") ∷
     (3, 2, "B   1   1\n") ∷
-    (3, 2, "B   1   1\n_b   1   1\n_z   0\n") ∷
-    (3, 3, "B   1   1\n_z   0\n\n") ∷
-    (3, 3, "B   1   1\n_x   1   0   0   0   0   0   0   0   0\n_r   0   0   0   0   0   0   0   0   0\n_z   2\n") ∷
-    (4, 1, "B   1   1\r\n_z   0\r\n") ∷
-    (4, 2, "B   1   1\n_r   0\n_z   1\n") ∷
-    (4, 2, "B   1   1\n_z  0\n") ∷
-    (5, 1, "B   1\t  1\n_z   0\n") ∷
-    (18, 2, "B   1   1\n_z  -0\n") ∷
-    (18, 2, "B   1   1\n_z  00\n") ∷
-    (18, 2, "B   1   1\n_z -01\n") ∷
-    (18, 2, "B   1   1\n_z0000\n") ∷
-    (17, 2, "B   1   1\n_z 0  \n") ∷
-    (17, 2, "B   1   1\n_z0  0\n") ∷
-    (17, 2, "B   1   1\n_z01 1\n") ∷
-    (17, 2, "B   1   1\n_z1 -1\n") ∷
-    (5, 2, "B   1   1\n_z1 1x\n") ∷
-    (5, 2, "B   1   1\n_z01 x\n") ∷
-    (5, 2, "B   1   1\n_z-  1\n") ∷
-    (5, 2, "B   1   1\n_z  1-\n") ∷
-    (5, 2, "B   1   1\n_z --1\n") ∷
-    (5, 1, "B   -1  1\n_z   0\n") ∷
-    (5, 1, "B   1\0  1\n_z   0\n") ∷
-    (5, 1, "B   1 ÿ 1\n_z   0\n") ∷
-    (17, 2, "B   1   1\n_r 1 0   0   0   0   0   0   0   0   0\n_z   1\n") ∷
-    (5, 2, "B   1   1\n_z  +0\n") ∷
-    (17, 2, "B   1   1\n_z    \n") ∷
-    (6, 2, "B   1   1\n_r   2       0   0   0   0   0   0   0\n_z   1\n") ∷
-    (7, 1, "B   2  01\n_z   0\n") ∷
-    (18, 1, "B  02   1\n_z   0\n") ∷
-    (7, 1, "B   2   1\n_z   0\n") ∷
-    (7, 1, "B   2  49\n_z   0\n") ∷
-    (6, 1, "B   1  49\n_z   0\n") ∷
-    (6, 1, "B   1   0\n_z   0\n") ∷
-    (6, 2, "B   1   1\n_r   2   0   0   0   0   0   0   0   0\n_z   1\n") ∷
-    (6, 2, "B   1   1\n_r  -2   0   0   0   0   0   0   0   0\n_z   1\n") ∷
-    (6, 2, "B   1   1\n_z 321\n") ∷
-    (6, 2, "B   1   1\n_z  -1\n") ∷
-    (6, 3, "B   1   1\n_x   1   0   0   0   0   0   0   0   0\n_p  17   1\n_z   2\n") ∷
-    (9, 2, "B   1   1\n_x   0   0   0   0   0   0   0   0   0\n_z   1\n") ∷
-    (10, 2, "B   1   1\n_p   1   1\n_z   1\n") ∷
-    (10, 3, "B   1   1\n_x   1   0   0   0   0   0   0   0   0\n_p   1   2\n_z   2\n") ∷
-    (10, 3, "B   1   1\n_x   1   0   0   0   0   0   0   0   0\n_p  16   1\n_z   2\n") ∷
-    (11, 2, "B   1   1\n_z   1\n") ∷
-    (11, 2, "B   1   1\n_z 320\n") ∷
-    (11, 4, "B   1   1\n_r   0   0   0   0   0   0   0   0   0\n_r   0   0   0   0   0   0   0   0   0\n_z   1\n") ∷
-    (0, 27, "B   1   1\n_x   1   0   0   0   0   0   0   0   0\n_p   1   1\n_q   1   1   1  -1   0   0   0   0   0   1\n_z   3\n") ∷
-    (3, 4, "B   1   1\n_x   1   0   0   0   0   0   0   0   0\n_q   1   1   0   0   0   0   0   0   0   0\n_p   1   1\n_z   3\n") ∷
-    (3, 4, "B   1   1\n_x   1   0   0   0   0   0   0   0   0\n_q   1   1   0   0   0   0   0   0   0   0\n_x   1   0   0   0   0   0   0   0   0\n_z   3\n") ∷
-    (4, 3, "B   1   1\n_x   1   0   0   0   0   0   0   0   0\n_q   1   1\n_z   2\n") ∷
-    (4, 3, "B   1   1\n_x   1   0   0   0   0   0   0   0   0\n_q   1   1   0   0   0   0   0   0   0\n_z   2\n") ∷
-    (18, 3, "B   1   1\n_x   1   0   0   0   0   0   0   0   0\n_q   1   1   0   0   0   0   0   0   0  00\n_z   2\n") ∷
-    (6, 3, "B   1   1\n_x   1   0   0   0   0   0   0   0   0\n_q  17   1   0   0   0   0   0   0   0   0\n_z   2\n") ∷
-    (6, 3, "B   1   1\n_x   1   0   0   0   0   0   0   0   0\n_q   1   0   0   0   0   0   0   0   0   0\n_z   2\n") ∷
-    (6, 3, "B   1   1\n_x   1   0   0   0   0   0   0   0   0\n_q   1   1   2   0   0   0   0   0   0   0\n_z   2\n") ∷
-    (6, 3, "B   1   1\n_x   1   0   0   0   0   0   0   0   0\n_q   1   2   0   0   0   0   0   0   0  -2\n_z   2\n") ∷
-    (10, 3, "B   1   1\n_x   1   0   0   0   0   0   0   0   0\n_q   1   2   0   0   0   0   0   0   0   0\n_z   2\n") ∷
-    (10, 2, "B   1   1\n_q   1   1   0   0   0   0   0   0   0   0\n_z   1\n") ∷
-    (11, 4, "B   1   1\n_x   1   0   0   0   0   0   0   0   0\n_q   1   1   0   0   0   0   0   0   0   0\n_z   1\n") ∷
-    (0, 26, "B   1   2\n_r   1   0   0   0   0   0   0   0   0\n_o   1   2   0   0   0   0   0   0   0   0   0\n_z   2\n") ∷
-    (0, 17, "B   1   2\n_o   1   2  -1  -2   1   0   0   0   0   0   2\n_z   1\n") ∷
-    (0, 17, "B   1   2\n_o   0  -1   1   0   0   0   0   0   0   0   0\n_z   1\n") ∷
-    (0, 17, "B   1   2\n_o   2   0   2   0   0   0   0   0   0   0   0\n_z   1\n") ∷
-    (0, 47, "B   1   2\n_r   0   0   0   0   0   1   0   0   0\n_o   1   2   0   0   0   0   0   1   0   0   0\n_x   1   0   0   0   0   0   0   0   0\n_p   1   1\n_q   1   1   1   0   0   0   0   0   0   0\n_z   5\n") ∷
-    (3, 3, "B   1   2\n_o   1   2   0   0   0   0   0   0   0   0   0\n_r   1   0   0   0   0   0   0   0   0\n_z   2\n") ∷
-    (3, 3, "B   1   2\n_x   1   0   0   0   0   0   0   0   0\n_o   1   2   0   0   0   0   0   0   0   0   0\n_z   2\n") ∷
-    (3, 2, "B   1   2\no   1   2   0   0   0   0   0   0   0   0   0\n_z   1\n") ∷
-    (4, 2, "B   1   2\n_o   1   2   0   0   0   0   0   0   0\n_z   1\n") ∷
-    (4, 2, "B   1   2\n_o   1   0   0   0   0   0   0   0   0   0\n_z   1\n") ∷
-    (17, 2, "B   1   2\n_o   1   2       0   0   0   0   0   0   0   0\n_z   1\n") ∷
-    (18, 2, "B   1   2\n_o   1  00   0   0   0   0   0   0   0   0   0\n_z   1\n") ∷
-    (6, 2, "B   1   2\n_o   1   3   0   0   0   0   0   0   0   0   0\n_z   1\n") ∷
-    (6, 2, "B   1   2\n_o   1   0  -3   0   0   0   0   0   0   0   0\n_z   1\n") ∷
-    (6, 2, "B   1   2\n_o   1   0   0   0   0   0   0   0   0   0   3\n_z   1\n") ∷
-    (23, 2, "B   1   2\n_o   1   0   0   0   0   0   0   0   0   0   0\n_z   1\n") ∷
-    (23, 2, "B   1   2\n_o   0   0   2   0   0   0   0   0   0   0   0\n_z   1\n") ∷
-    (23, 2, "B   1   2\n_o   0   0   0   1   2   0   0   1   2   0   0\n_z   1\n") ∷
-    (23, 3, "B   1   2\n_o   1   2   0   0   0   0   0   0   0   0   0\n_o   0   1   0   2   0   0   0   0   0   0   0\n_x   0   0   0   0   0   0   0   0   0\n_z   3\n") ∷
-    (9, 3, "B   1   2\n_o   1   2   0   0   0   0   0   0   0   0   0\n_x   0   0   0   0   0   0   0   0   0\n_z   2\n") ∷
-    (11, 3, "B   1   2\n_o   1   2   0   0   0   0   0   0   0   0   0\n_z   0\n") ∷ []))
+    (3, 2, "B   1   1\nB   1   1\nZ   0\n") ∷
+    (3, 3, "B   1   1\nZ   0\n\n") ∷
+    (3, 3, "B   1   1\nX   1   0   0   0   0   0   0   0   0\nR   0   0   0   0   0   0   0   0   0\nZ   2\n") ∷
+    (4, 1, "B   1   1\r\nZ   0\r\n") ∷
+    (4, 2, "B   1   1\nR   0\nZ   1\n") ∷
+    (4, 2, "B   1   1\nZ  0\n") ∷
+    (5, 1, "B   1\t  1\nZ   0\n") ∷
+    (18, 2, "B   1   1\nZ  -0\n") ∷
+    (18, 2, "B   1   1\nZ  00\n") ∷
+    (18, 2, "B   1   1\nZ -01\n") ∷
+    (18, 2, "B   1   1\nZ0000\n") ∷
+    (17, 2, "B   1   1\nZ 0  \n") ∷
+    (17, 2, "B   1   1\nZ0  0\n") ∷
+    (17, 2, "B   1   1\nZ01 1\n") ∷
+    (17, 2, "B   1   1\nZ1 -1\n") ∷
+    (5, 2, "B   1   1\nZ1 1x\n") ∷
+    (5, 2, "B   1   1\nZ01 x\n") ∷
+    (5, 2, "B   1   1\nZ-  1\n") ∷
+    (5, 2, "B   1   1\nZ  1-\n") ∷
+    (5, 2, "B   1   1\nZ --1\n") ∷
+    (5, 1, "B   -1  1\nZ   0\n") ∷
+    (5, 1, "B   1\0  1\nZ   0\n") ∷
+    (5, 1, "B   1 ÿ 1\nZ   0\n") ∷
+    (17, 2, "B   1   1\nR 1 0   0   0   0   0   0   0   0   0\nZ   1\n") ∷
+    (5, 2, "B   1   1\nZ  +0\n") ∷
+    (17, 2, "B   1   1\nZ    \n") ∷
+    (6, 2, "B   1   1\nR   2       0   0   0   0   0   0   0\nZ   1\n") ∷
+    (7, 1, "B   2  01\nZ   0\n") ∷
+    (18, 1, "B  02   1\nZ   0\n") ∷
+    (7, 1, "B   2   1\nZ   0\n") ∷
+    (7, 1, "B   2  49\nZ   0\n") ∷
+    (6, 1, "B   1  49\nZ   0\n") ∷
+    (6, 1, "B   1   0\nZ   0\n") ∷
+    (6, 2, "B   1   1\nR   2   0   0   0   0   0   0   0   0\nZ   1\n") ∷
+    (6, 2, "B   1   1\nR  -2   0   0   0   0   0   0   0   0\nZ   1\n") ∷
+    (6, 2, "B   1   1\nZ 321\n") ∷
+    (6, 2, "B   1   1\nZ  -1\n") ∷
+    (6, 3, "B   1   1\nX   1   0   0   0   0   0   0   0   0\nP  17   1\nZ   2\n") ∷
+    (9, 2, "B   1   1\nX   0   0   0   0   0   0   0   0   0\nZ   1\n") ∷
+    (10, 2, "B   1   1\nP   1   1\nZ   1\n") ∷
+    (10, 3, "B   1   1\nX   1   0   0   0   0   0   0   0   0\nP   1   2\nZ   2\n") ∷
+    (10, 3, "B   1   1\nX   1   0   0   0   0   0   0   0   0\nP  16   1\nZ   2\n") ∷
+    (11, 2, "B   1   1\nZ   1\n") ∷
+    (11, 2, "B   1   1\nZ 320\n") ∷
+    (11, 4, "B   1   1\nR   0   0   0   0   0   0   0   0   0\nR   0   0   0   0   0   0   0   0   0\nZ   1\n") ∷
+    (0, 27, "B   1   1\nX   1   0   0   0   0   0   0   0   0\nP   1   1\nQ   1   1   1  -1   0   0   0   0   0   1\nZ   3\n") ∷
+    (3, 4, "B   1   1\nX   1   0   0   0   0   0   0   0   0\nQ   1   1   0   0   0   0   0   0   0   0\nP   1   1\nZ   3\n") ∷
+    (3, 4, "B   1   1\nX   1   0   0   0   0   0   0   0   0\nQ   1   1   0   0   0   0   0   0   0   0\nX   1   0   0   0   0   0   0   0   0\nZ   3\n") ∷
+    (4, 3, "B   1   1\nX   1   0   0   0   0   0   0   0   0\nQ   1   1\nZ   2\n") ∷
+    (4, 3, "B   1   1\nX   1   0   0   0   0   0   0   0   0\nQ   1   1   0   0   0   0   0   0   0\nZ   2\n") ∷
+    (18, 3, "B   1   1\nX   1   0   0   0   0   0   0   0   0\nQ   1   1   0   0   0   0   0   0   0  00\nZ   2\n") ∷
+    (6, 3, "B   1   1\nX   1   0   0   0   0   0   0   0   0\nQ  17   1   0   0   0   0   0   0   0   0\nZ   2\n") ∷
+    (6, 3, "B   1   1\nX   1   0   0   0   0   0   0   0   0\nQ   1   0   0   0   0   0   0   0   0   0\nZ   2\n") ∷
+    (6, 3, "B   1   1\nX   1   0   0   0   0   0   0   0   0\nQ   1   1   2   0   0   0   0   0   0   0\nZ   2\n") ∷
+    (6, 3, "B   1   1\nX   1   0   0   0   0   0   0   0   0\nQ   1   2   0   0   0   0   0   0   0  -2\nZ   2\n") ∷
+    (10, 3, "B   1   1\nX   1   0   0   0   0   0   0   0   0\nQ   1   2   0   0   0   0   0   0   0   0\nZ   2\n") ∷
+    (10, 2, "B   1   1\nQ   1   1   0   0   0   0   0   0   0   0\nZ   1\n") ∷
+    (11, 4, "B   1   1\nX   1   0   0   0   0   0   0   0   0\nQ   1   1   0   0   0   0   0   0   0   0\nZ   1\n") ∷
+    (0, 26, "B   1   2\nR   1   0   0   0   0   0   0   0   0\nO   1   2   0   0   0   0   0   0   0   0   0\nZ   2\n") ∷
+    (0, 17, "B   1   2\nO   1   2  -1  -2   1   0   0   0   0   0   2\nZ   1\n") ∷
+    (0, 17, "B   1   2\nO   0  -1   1   0   0   0   0   0   0   0   0\nZ   1\n") ∷
+    (0, 17, "B   1   2\nO   2   0   2   0   0   0   0   0   0   0   0\nZ   1\n") ∷
+    (0, 47, "B   1   2\nR   0   0   0   0   0   1   0   0   0\nO   1   2   0   0   0   0   0   1   0   0   0\nX   1   0   0   0   0   0   0   0   0\nP   1   1\nQ   1   1   1   0   0   0   0   0   0   0\nZ   5\n") ∷
+    (3, 3, "B   1   2\nO   1   2   0   0   0   0   0   0   0   0   0\nR   1   0   0   0   0   0   0   0   0\nZ   2\n") ∷
+    (3, 3, "B   1   2\nX   1   0   0   0   0   0   0   0   0\nO   1   2   0   0   0   0   0   0   0   0   0\nZ   2\n") ∷
+    (3, 2, "B   1   2\no   1   2   0   0   0   0   0   0   0   0   0\nZ   1\n") ∷
+    (4, 2, "B   1   2\nO   1   2   0   0   0   0   0   0   0\nZ   1\n") ∷
+    (4, 2, "B   1   2\nO   1   0   0   0   0   0   0   0   0   0\nZ   1\n") ∷
+    (17, 2, "B   1   2\nO   1   2       0   0   0   0   0   0   0   0\nZ   1\n") ∷
+    (18, 2, "B   1   2\nO   1  00   0   0   0   0   0   0   0   0   0\nZ   1\n") ∷
+    (6, 2, "B   1   2\nO   1   3   0   0   0   0   0   0   0   0   0\nZ   1\n") ∷
+    (6, 2, "B   1   2\nO   1   0  -3   0   0   0   0   0   0   0   0\nZ   1\n") ∷
+    (6, 2, "B   1   2\nO   1   0   0   0   0   0   0   0   0   0   3\nZ   1\n") ∷
+    (23, 2, "B   1   2\nO   1   0   0   0   0   0   0   0   0   0   0\nZ   1\n") ∷
+    (23, 2, "B   1   2\nO   0   0   2   0   0   0   0   0   0   0   0\nZ   1\n") ∷
+    (23, 2, "B   1   2\nO   0   0   0   1   2   0   0   1   2   0   0\nZ   1\n") ∷
+    (23, 3, "B   1   2\nO   1   2   0   0   0   0   0   0   0   0   0\nO   0   1   0   2   0   0   0   0   0   0   0\nX   0   0   0   0   0   0   0   0   0\nZ   3\n") ∷
+    (9, 3, "B   1   2\nO   1   2   0   0   0   0   0   0   0   0   0\nX   0   0   0   0   0   0   0   0   0\nZ   2\n") ∷
+    (11, 3, "B   1   2\nO   1   2   0   0   0   0   0   0   0   0   0\nZ   0\n") ∷ []))
 unfolding kinds kind unknown contents fields_of bytes most longest row_once most_rows shape_from front_of range_of both either pick cons_if every some column_of columns in_columns digit_of size_of minus_in signed same is_space is_minus is_digit some_from some_byte other_byte stray_byte stray space_after_digit gapped leading_zero wrong_zero misspelling read_columns spelt first_field to_first lines seek kind_for between inside and_then test_field read_fields code numbers_in filled_in headless missing miscounted whole_of unless judged read_rest read_kind read_line start to_nat last_or after step row_of prepend read_end on_line read_lines last_byte read_text table_of
 texts-right = tt
 
 pub long-texts-right : T (long_texts
-    ((0, 152, (1, "B   1   1\n") ∷ (16, "X   1   0   0   0   0   0   0   0   0\n") ∷ (1, "P  16  13\n_z  17\n") ∷ []) ∷
+    ((0, 152, (1, "B   1   1\n") ∷ (16, "X   1   0   0   0   0   0   0   0   0\n") ∷ (1, "P  16  13\nZ  17\n") ∷ []) ∷
     (8, 18, (1, "B   1   1\n") ∷ (17, "X   1   0   0   0   0   0   0   0   0\n") ∷ (1, "Z  17\n") ∷ []) ∷
     (0, 399, (1, "B   1   1\n") ∷ (1, "X   1   0   0   0   0   0   0   0   0\n") ∷ (32, "P   1   1\n") ∷ (32, "Q   1   1   0   0   0   0   0   0   0   0\n") ∷ (1, "Z  65\n") ∷ []) ∷
     (8, 35, (1, "B   1   1\n") ∷ (1, "X   1   0   0   0   0   0   0   0   0\n") ∷ (33, "P   1   1\n") ∷ (32, "Q   1   1   0   0   0   0   0   0   0   0\n") ∷ (1, "Z  66\n") ∷ []) ∷
     (19, 35, (1, "B   1   1\n") ∷ (1, "X   1   0   0   0   0   0   0   0   0\n") ∷ (33, "Q   1   1   0   0   0   0   0   0   0   0\n") ∷ (1, "Z  34\n") ∷ []) ∷
-    (19, 35, (1, "B   1   1\n") ∷ (1, "X   1   0   0   0   0   0   0   0   0\n") ∷ (32, "Q   1   1   0   0   0   0   0   0   0   0\n") ∷ (1, "Q   1   2   0   0   0   0   0   0   0   0\n_z  34\n") ∷ []) ∷
-    (6, 35, (1, "B   1   1\n") ∷ (1, "X   1   0   0   0   0   0   0   0   0\n") ∷ (32, "Q   1   1   0   0   0   0   0   0   0   0\n") ∷ (1, "Q   1   2   0   0   0   0   0   0   0   2\n_z  34\n") ∷ []) ∷
-    (4, 35, (1, "B   1   1\n") ∷ (1, "X   1   0   0   0   0   0   0   0   0\n") ∷ (32, "Q   1   1   0   0   0   0   0   0   0   0\n") ∷ (1, "Q   1   1\n_z  34\n") ∷ []) ∷
+    (19, 35, (1, "B   1   1\n") ∷ (1, "X   1   0   0   0   0   0   0   0   0\n") ∷ (32, "Q   1   1   0   0   0   0   0   0   0   0\n") ∷ (1, "Q   1   2   0   0   0   0   0   0   0   0\nZ  34\n") ∷ []) ∷
+    (6, 35, (1, "B   1   1\n") ∷ (1, "X   1   0   0   0   0   0   0   0   0\n") ∷ (32, "Q   1   1   0   0   0   0   0   0   0   0\n") ∷ (1, "Q   1   2   0   0   0   0   0   0   0   2\nZ  34\n") ∷ []) ∷
+    (4, 35, (1, "B   1   1\n") ∷ (1, "X   1   0   0   0   0   0   0   0   0\n") ∷ (32, "Q   1   1   0   0   0   0   0   0   0   0\n") ∷ (1, "Q   1   1\nZ  34\n") ∷ []) ∷
     (0, 446, (1, "B   1   2\n") ∷ (40, "O   1   2   0   0   0   0   0   0   0   0   0\n") ∷ (1, "Z  40\n") ∷ []) ∷
     (22, 42, (1, "B   1   2\n") ∷ (41, "O   1   2   0   0   0   0   0   0   0   0   0\n") ∷ (1, "Z  41\n") ∷ []) ∷
-    (22, 42, (1, "B   1   2\n") ∷ (40, "O   1   2   0   0   0   0   0   0   0   0   0\n") ∷ (1, "O   1   0   0   0   0   0   0   0   0   0   0\n_z  41\n") ∷ []) ∷
-    (6, 42, (1, "B   1   2\n") ∷ (40, "O   1   2   0   0   0   0   0   0   0   0   0\n") ∷ (1, "O   3   0   0   0   0   0   0   0   0   0   0\n_z  41\n") ∷ []) ∷
-    (4, 42, (1, "B   1   2\n") ∷ (40, "O   1   2   0   0   0   0   0   0   0   0   0\n") ∷ (1, "O   1   0   0   0   0   0   0   0   0\n_z  41\n") ∷ []) ∷
-    (23, 41, (1, "B   1   2\n") ∷ (39, "O   1   2   0   0   0   0   0   0   0   0   0\n") ∷ (1, "O   0   1   0   0   0   0   0   0   0   0   0\n_z  40\n") ∷ []) ∷ []))
+    (22, 42, (1, "B   1   2\n") ∷ (40, "O   1   2   0   0   0   0   0   0   0   0   0\n") ∷ (1, "O   1   0   0   0   0   0   0   0   0   0   0\nZ  41\n") ∷ []) ∷
+    (6, 42, (1, "B   1   2\n") ∷ (40, "O   1   2   0   0   0   0   0   0   0   0   0\n") ∷ (1, "O   3   0   0   0   0   0   0   0   0   0   0\nZ  41\n") ∷ []) ∷
+    (4, 42, (1, "B   1   2\n") ∷ (40, "O   1   2   0   0   0   0   0   0   0   0   0\n") ∷ (1, "O   1   0   0   0   0   0   0   0   0\nZ  41\n") ∷ []) ∷
+    (23, 41, (1, "B   1   2\n") ∷ (39, "O   1   2   0   0   0   0   0   0   0   0   0\n") ∷ (1, "O   0   1   0   0   0   0   0   0   0   0   0\nZ  40\n") ∷ []) ∷ []))
 unfolding kinds kind unknown contents fields_of bytes most longest row_once most_rows shape_from front_of range_of both either pick cons_if every some column_of columns in_columns digit_of size_of minus_in signed same is_space is_minus is_digit some_from some_byte other_byte stray_byte stray space_after_digit gapped leading_zero wrong_zero misspelling read_columns spelt first_field to_first lines seek kind_for between inside and_then test_field read_fields code numbers_in filled_in headless missing miscounted whole_of unless judged read_rest read_kind read_line start to_nat last_or after step row_of prepend read_end on_line read_lines last_byte read_text table_of concat_map
 long-texts-right = tt
 
 pub pairs-right : T (pairs
-    (("B   1   3\n_r   0   0   0   0   0   1   3   0   0\n_x   1   0   0   0   0   0   0   0   0\n_x   2   0   0   0   0   0   0   0   0\n_x   3   0   0   0   0   0   0   0   0\n_q   3   1   0   0   0   0   2   0   0   0\n_z   5\n", pos 3 ∷ pos 1 ∷ pos 3 ∷ pos 0 ∷ pos 1 ∷ pos 0 ∷ pos 0 ∷ pos 0 ∷ pos 0 ∷ pos 0 ∷ pos 0 ∷ pos 1 ∷ pos 3 ∷ pos 0 ∷ pos 0 ∷ pos 1 ∷ pos 0 ∷ pos 0 ∷ pos 0 ∷ pos 0 ∷ pos 0 ∷ pos 0 ∷ pos 0 ∷ pos 0 ∷ pos 2 ∷ pos 0 ∷ pos 0 ∷ pos 0 ∷ pos 0 ∷ pos 0 ∷ pos 0 ∷ pos 0 ∷ pos 0 ∷ pos 3 ∷ pos 0 ∷ pos 0 ∷ pos 0 ∷ pos 0 ∷ pos 0 ∷ pos 0 ∷ pos 0 ∷ pos 0 ∷ pos 3 ∷ pos 1 ∷ pos 0 ∷ pos 0 ∷ pos 0 ∷ pos 0 ∷ pos 2 ∷ pos 0 ∷ pos 0 ∷ pos 0 ∷ []) ∷
-    ("B   1   3\n_r  -3   0   0   0   0   0   0   0   0\n_r   3   1   0   0   0   0   0   0   0\n_o   1   0  -2   0   0   0   0   3   0   0   0\n_o   2   2   0   0   0   0   0   0   0   0   0\n_x   1   0   0   0   0   0   0   0   0\n_p   1   1\n_q   1   1   2   0   0   0   0   0   0   0\n_q   1   1   0   0   0   0   2   0   0   0\n_q   1   1   0   0   0   0   0   0   0   0\n_z   9\n", pos 3 ∷ pos 2 ∷ pos 1 ∷ pos 1 ∷ pos 3 ∷ pos 2 ∷ negsuc 2 ∷ pos 0 ∷ pos 0 ∷ pos 0 ∷ pos 0 ∷ pos 0 ∷ pos 0 ∷ pos 0 ∷ pos 0 ∷ pos 3 ∷ pos 1 ∷ pos 0 ∷ pos 0 ∷ pos 0 ∷ pos 0 ∷ pos 0 ∷ pos 0 ∷ pos 0 ∷ pos 1 ∷ pos 0 ∷ negsuc 1 ∷ pos 0 ∷ pos 0 ∷ pos 0 ∷ pos 0 ∷ pos 3 ∷ pos 0 ∷ pos 0 ∷ pos 0 ∷ pos 2 ∷ pos 2 ∷ pos 0 ∷ pos 0 ∷ pos 0 ∷ pos 0 ∷ pos 0 ∷ pos 0 ∷ pos 0 ∷ pos 0 ∷ pos 0 ∷ pos 1 ∷ pos 0 ∷ pos 0 ∷ pos 0 ∷ pos 0 ∷ pos 0 ∷ pos 0 ∷ pos 0 ∷ pos 0 ∷ pos 1 ∷ pos 1 ∷ pos 1 ∷ pos 1 ∷ pos 2 ∷ pos 0 ∷ pos 0 ∷ pos 0 ∷ pos 0 ∷ pos 0 ∷ pos 0 ∷ pos 0 ∷ pos 1 ∷ pos 1 ∷ pos 0 ∷ pos 0 ∷ pos 0 ∷ pos 0 ∷ pos 2 ∷ pos 0 ∷ pos 0 ∷ pos 0 ∷ pos 1 ∷ pos 1 ∷ pos 0 ∷ pos 0 ∷ pos 0 ∷ pos 0 ∷ pos 0 ∷ pos 0 ∷ pos 0 ∷ pos 0 ∷ []) ∷ []))
+    (("B   1   3\nR   0   0   0   0   0   1   3   0   0\nX   1   0   0   0   0   0   0   0   0\nX   2   0   0   0   0   0   0   0   0\nX   3   0   0   0   0   0   0   0   0\nQ   3   1   0   0   0   0   2   0   0   0\nZ   5\n", pos 3 ∷ pos 1 ∷ pos 3 ∷ pos 0 ∷ pos 1 ∷ pos 0 ∷ pos 0 ∷ pos 0 ∷ pos 0 ∷ pos 0 ∷ pos 0 ∷ pos 1 ∷ pos 3 ∷ pos 0 ∷ pos 0 ∷ pos 1 ∷ pos 0 ∷ pos 0 ∷ pos 0 ∷ pos 0 ∷ pos 0 ∷ pos 0 ∷ pos 0 ∷ pos 0 ∷ pos 2 ∷ pos 0 ∷ pos 0 ∷ pos 0 ∷ pos 0 ∷ pos 0 ∷ pos 0 ∷ pos 0 ∷ pos 0 ∷ pos 3 ∷ pos 0 ∷ pos 0 ∷ pos 0 ∷ pos 0 ∷ pos 0 ∷ pos 0 ∷ pos 0 ∷ pos 0 ∷ pos 3 ∷ pos 1 ∷ pos 0 ∷ pos 0 ∷ pos 0 ∷ pos 0 ∷ pos 2 ∷ pos 0 ∷ pos 0 ∷ pos 0 ∷ []) ∷
+    ("B   1   3\nR  -3   0   0   0   0   0   0   0   0\nR   3   1   0   0   0   0   0   0   0\nO   1   0  -2   0   0   0   0   3   0   0   0\nO   2   2   0   0   0   0   0   0   0   0   0\nX   1   0   0   0   0   0   0   0   0\nP   1   1\nQ   1   1   2   0   0   0   0   0   0   0\nQ   1   1   0   0   0   0   2   0   0   0\nQ   1   1   0   0   0   0   0   0   0   0\nZ   9\n", pos 3 ∷ pos 2 ∷ pos 1 ∷ pos 1 ∷ pos 3 ∷ pos 2 ∷ negsuc 2 ∷ pos 0 ∷ pos 0 ∷ pos 0 ∷ pos 0 ∷ pos 0 ∷ pos 0 ∷ pos 0 ∷ pos 0 ∷ pos 3 ∷ pos 1 ∷ pos 0 ∷ pos 0 ∷ pos 0 ∷ pos 0 ∷ pos 0 ∷ pos 0 ∷ pos 0 ∷ pos 1 ∷ pos 0 ∷ negsuc 1 ∷ pos 0 ∷ pos 0 ∷ pos 0 ∷ pos 0 ∷ pos 3 ∷ pos 0 ∷ pos 0 ∷ pos 0 ∷ pos 2 ∷ pos 2 ∷ pos 0 ∷ pos 0 ∷ pos 0 ∷ pos 0 ∷ pos 0 ∷ pos 0 ∷ pos 0 ∷ pos 0 ∷ pos 0 ∷ pos 1 ∷ pos 0 ∷ pos 0 ∷ pos 0 ∷ pos 0 ∷ pos 0 ∷ pos 0 ∷ pos 0 ∷ pos 0 ∷ pos 1 ∷ pos 1 ∷ pos 1 ∷ pos 1 ∷ pos 2 ∷ pos 0 ∷ pos 0 ∷ pos 0 ∷ pos 0 ∷ pos 0 ∷ pos 0 ∷ pos 0 ∷ pos 1 ∷ pos 1 ∷ pos 0 ∷ pos 0 ∷ pos 0 ∷ pos 0 ∷ pos 2 ∷ pos 0 ∷ pos 0 ∷ pos 0 ∷ pos 1 ∷ pos 1 ∷ pos 0 ∷ pos 0 ∷ pos 0 ∷ pos 0 ∷ pos 0 ∷ pos 0 ∷ pos 0 ∷ pos 0 ∷ []) ∷ []))
 unfolding kinds kind unknown contents fields_of numbers_of bytes most longest row_once most_rows shape_from front_of counts_of all_counts count_at sum_to range_of both either pick cons_if every some column_of columns in_columns written written_all digit_of size_of minus_in signed same is_space is_minus is_digit some_from some_byte other_byte stray_byte stray space_after_digit gapped leading_zero wrong_zero misspelling read_columns spelt first_field to_first lines unlines line_of seek kind_for between inside and_then test_field read_fields code numbers_in filled_in headless missing miscounted whole_of unless judged read_rest read_kind read_line start to_nat last_or after step row_of prepend read_end on_line read_lines last_byte read_text table_of layout cut rows_of test_fields row_fault test_row test_rows shape_in miscount test_table first_row last_row book_rows row_lines text_of
 pairs-right = tt
 
