@@ -112,7 +112,7 @@ module _ (n : ℕ) where
   unfolding is_in cut
   answer-within rs s e a =
       let c : Closed (reduct s rs) (cut s) =
-      every_two (λ r w k ne. cut-given s r.heads w (k (every-map (cut-sub s) r.body.needed ne))) (reduct s rs) (every-reduct (Every (Names n)) s rs e) a.minimal.closed in
+      every_two (λ r w k ne. cut-given s r.heads w (k (every_map (cut-sub s) r.body.needed ne))) (reduct s rs) (every-reduct (Every (Names n)) s rs e) a.minimal.closed in
       let all = a.minimal.minimal (cut s) c (cut-sub s) in
       (below-by-members n s.held (λ i m. mod-past s.held i (all (pos i) m)), below-by-members n s.denied (λ i m. mod-past s.denied i (all (neg i) m)))
 
