@@ -14,7 +14,7 @@ use lib.Pow.{pow_pos}
 use Rattle.logic.specs.Lists.{Among, Every, Some}
 use Rattle.logic.specs.Tests.{cons_if}
 use Rattle.logic.proofs.Decide.{clash}
-use Rattle.logic.proofs.Members.{every-at}
+use Rattle.logic.proofs.Members.{every-at, every_map}
 use Rattle.book.specs.declared.Shape.{Shape}
 use Rattle.book.specs.Kinds.{kinds, kind, heads_each, rule_numbers, alternative_numbers, plain, alternative, exception}
 use Rattle.book.specs.Counts.{counts_of, all_counts, count_at, start_of}

@@ -18,7 +18,7 @@ pub loop-k-smaller : goal.loop-k-smaller
 loop-k-smaller c = omega arith
 
 pub loop-k-preserved : goal.loop-k-preserved
-loop-k-preserved c = (omega arith, c.one_call-r.auto.1.1.1.1.0 ∙ c.loop-k.invariant.1, c.one_call-r.auto.1.1.1.1.1.0 ∙ c.loop-k.invariant.2, omega (arith, c.loop-k.invariant.3, one-most _ _ _ _ _ _ _ _ _ _ c.one_call-r.ensures), makes-more _ _ _ _ _ _ _ _ _ _ _ _ c.loop-k.invariant.4 c.one_call-r.ensures)
+loop-k-preserved c = (omega arith, c.one_call-r.auto.answers ∙ c.loop-k.invariant.1, c.one_call-r.auto.pairs ∙ c.loop-k.invariant.2, omega (arith, c.loop-k.invariant.3, one-most _ _ _ _ _ _ _ _ _ _ c.one_call-r.ensures), makes-more _ _ _ _ _ _ _ _ _ _ _ _ c.loop-k.invariant.4 c.one_call-r.ensures)
 
 pub shape_of-answers : goal.shape_of-answers
 shape_of-answers c = c.loop-k.invariant.1

@@ -13,10 +13,10 @@ pub returns-then-place-eq0 : goal.returns-then-place-eq0
 returns-then-place-eq0 t c = gathered-dry _ _ _ _ _ _ _ (search rules) (search rules)
 
 pub gather-j-requires : goal.gather-j-requires
-gather-j-requires t c = let h = out-less c.visit-x.ensures _ _ _ c.in-Open.is _ c.out-o.ensures in (omega (arith, c.requires.0), (c.requires.1.0, c.requires.1.1, c.requires.1.2, c.requires.1.3, c.requires.1.4))
+gather-j-requires t c = let h = out-less c.visit-x.ensures _ _ _ c.in-Open.is _ c.out-o.ensures in (omega (arith, c.decreases), (c.requires.0, c.requires.1, c.requires.2, c.requires.3, c.requires.4))
 
 pub gather-requires : goal.gather-requires
-gather-requires t c = let h = into_less c.visit-x.ensures _ _ _ c.in-Open.is _ c.into-p.ensures in (omega (arith, c.requires.0), (c.requires.1.0, c.requires.1.1, c.requires.1.2, store-again _ _ _ c.requires.1.3 c.gather-j.auto.1.1.1.1.1.1.0, c.gather-j.ensures.few))
+gather-requires t c = let h = into_less c.visit-x.ensures _ _ _ c.in-Open.is _ c.into-p.ensures in (omega (arith, c.decreases), (c.requires.0, c.requires.1, c.requires.2, store-again _ _ _ c.requires.3 c.gather-j.auto.store, c.gather-j.ensures.few))
 
 pub returns-in-View : goal.returns-in-View
 returns-in-View t c = gathered-view _ _ _ _ _ _ _ _ _ c.visit-x.ensures (search rules) _ (search rules) _ c.put.ensures

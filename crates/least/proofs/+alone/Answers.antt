@@ -6,13 +6,13 @@ use Prim.Native.Nat.{ℕ, ◌<◌}
 use Rattle.least.proofs.+alone.Goals as goal
 
 pub alone-requires : goal.alone-requires
-alone-requires t c = let h = out-less c.seek-r.ensures _ _ c.in-Open.is _ c.out-o.ensures in (omega (arith, c.requires.0), c.requires.1)
+alone-requires t c = let h = out-less c.seek-r.ensures _ _ c.in-Open.is _ c.out-o.ensures in (omega (arith, c.decreases), c.requires)
 
 pub returns-then-not-alone : goal.returns-then-not-alone
 returns-then-not-alone t c = alone-out c.seek-r.ensures _ _ c.in-Open.is _ _ c.out-o.ensures c.alone.ensures (search rules)
 
 pub alone-requires-in-Open : goal.alone-requires-in-Open
-alone-requires-in-Open t c = let h = into_less c.seek-r.ensures _ _ c.in-Open.is _ c.into-p.ensures in (omega (arith, c.requires.0), c.requires.1)
+alone-requires-in-Open t c = let h = into_less c.seek-r.ensures _ _ c.in-Open.is _ c.into-p.ensures in (omega (arith, c.decreases), c.requires)
 
 pub returns-in-Whole : goal.returns-in-Whole
 returns-in-Whole t c = alone-whole c.seek-r.ensures (search rules)

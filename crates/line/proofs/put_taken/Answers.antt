@@ -13,7 +13,7 @@ pub overflow_sub-w : goal.overflow_sub-w
 overflow_sub-w c = omega arith
 
 pub put_zeros-requires : goal.put_zeros-requires
-put_zeros-requires c = omega (arith, c.put_members-k.auto.0)
+put_zeros-requires c = omega (arith, c.put_members-k.auto.buf)
 
 pub returns : goal.returns
 returns c =

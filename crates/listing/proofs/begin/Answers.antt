@@ -11,7 +11,7 @@ pub opening-part-requires : goal.opening-part-requires
 opening-part-requires c = prepared-was _ _ _ _ (accepted-was _ _ _ _ _ (search rules) c.load-got.ensures)
 
 pub returns-in-Refused : goal.returns-in-Refused
-returns-in-Refused c = begins-refused _ _ (refused-was _ _ _ _ _ (search rules) c.load-got.ensures) _ _ _ _ _ _ (omega arith) c.put_failed.auto.0 c.put_failed.ensures
+returns-in-Refused c = begins-refused _ _ (refused-was _ _ _ _ _ (search rules) c.load-got.ensures) _ _ _ _ _ _ (omega arith) c.put_failed.auto.out c.put_failed.ensures
 
 pub returns-in-Accepted : goal.returns-in-Accepted
 returns-in-Accepted c = begins-accepted _ _ _ _ (accepted-was _ _ _ _ _ (search rules) c.load-got.ensures) _ _ c.opening-part.ensures

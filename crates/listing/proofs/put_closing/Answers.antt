@@ -20,10 +20,10 @@ pub put_columns-requires : goal.put_columns-requires
 put_columns-requires c = simp length-set (omega arith)
 
 pub bounds-out-at-6 : goal.bounds-out-at-6
-bounds-out-at-6 c = omega (arith, simp length-set at c.put_columns.auto.0)
+bounds-out-at-6 c = omega (arith, simp length-set at c.put_columns.auto.buf)
 
 pub shape_of-out : goal.shape_of-out
-shape_of-out c = simp length-set (omega (arith, simp length-set at c.put_columns.auto.0))
+shape_of-out c = simp length-set (omega (arith, simp length-set at c.put_columns.auto.buf))
 
 pub returns : goal.returns
 returns c = closed _ _ _ _ _ (search rules) c.put_columns.ensures

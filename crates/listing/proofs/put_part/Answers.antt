@@ -10,4 +10,4 @@ pub returns-then-k-lt-PART : goal.returns-then-k-lt-PART
 returns-then-k-lt-PART c = prints-ended _ _ _ _ _ _ _ (omega arith) (omega arith) c.close_part-then-k-lt-PART.ensures
 
 pub returns : goal.returns
-returns c = prints-filled _ _ _ _ _ _ _ (omega arith) (omega arith) (fills _ _ _ _ _ _ _ c.put_lines.ensures.0 c.put_lines.ensures.1 (search rules) (search rules) (omega arith) (search rules) _ c.put_lines.auto.0 c.pair_at.ensures)
+returns c = prints-filled _ _ _ _ _ _ _ (omega arith) (omega arith) (fills _ _ _ _ _ _ _ c.put_lines.ensures.0 c.put_lines.ensures.1 (search rules) (search rules) (omega arith) (search rules) _ c.put_lines.auto.out c.pair_at.ensures)

@@ -18,7 +18,7 @@ pub returns-then-not-tested : goal.returns-then-not-tested
 returns-then-not-tested c = λ u w. plain-refused _ _ _ _ u _ _ _ _ _ _ _ _ _ _ c.gathered-a.ensures (not-false _ (search rules)) _ (c.tested.ensures u (c.gathered-a.ensures.some (not-false _ (search rules)))) _ w (search rules) c.requires.0.place
 
 pub list-r-requires : goal.list-r-requires
-list-r-requires c = (c.requires.0, c.requires.2, store-for _ _ _ c.limit-cap.ensures.1 c.requires.3 c.gathered-a.auto.1.1.1.1.1.1.1.1.1.0)
+list-r-requires c = (c.requires.0, c.requires.2, store-for _ _ _ c.limit-cap.ensures.1 c.requires.3 c.gathered-a.auto.store)
 
 pub returns : goal.returns
 returns c = λ u w. plain-listed _ _ _ _ u _ _ _ _ _ _ _ _ _ _ c.gathered-a.ensures (not-false _ (search rules)) _ (c.tested.ensures u (c.gathered-a.ensures.some (not-false _ (search rules)))) _ w (search rules) _ _ c.list-r.ensures

@@ -4,10 +4,10 @@ use Rattle.page.proofs.Search.{settle-open, settle-last, ready-again, ready-fewe
 use Rattle.page.proofs.+settle_try_value_values.Goals as goal
 
 pub settle-ahead-a-requires : goal.settle-ahead-a-requires
-settle-ahead-a-requires t c = let r = c.requires.1.0 in (r.unsettled, r.fits.suits.few)
+settle-ahead-a-requires t c = let r = c.requires.0 in (r.unsettled, r.fits.suits.few)
 
 pub settle-finish-requires : goal.settle-finish-requires
-settle-finish-requires t c = let p = c.requires in (p.1.0.fits, p.1.1, p.1.2.few)
+settle-finish-requires t c = let p = c.requires in (p.0.fits, p.1, p.2.few)
 
 pub settle-returns-then-a-eq0 : goal.settle-returns-then-a-eq0
 settle-returns-then-a-eq0 t c = settle-ahead _ _ _ _ _ c.ahead-a.ensures _ _ _ _ _ _ (settle-last _ _ _ _ _ _ _ _ c.if-a-eq0.true c.finish.ensures)
@@ -21,10 +21,10 @@ pub settle-returns : goal.settle-returns
 settle-returns t c = settle-ahead _ _ _ _ _ c.ahead-a.ensures _ _ _ _ _ _ (settle-open _ _ _ _ _ _ _ _ c.if-a-eq0.false c.values.ensures)
 
 pub try_value-returns-then-task-place : goal.try_value-returns-then-task-place
-try_value-returns-then-task-place t c = one-full _ _ _ _ _ _ _ c.requires.1.0.fits.place (search rules)
+try_value-returns-then-task-place t c = one-full _ _ _ _ _ _ _ c.requires.0.fits.place (search rules)
 
 pub try_value-overflow_sub-left : goal.try_value-overflow_sub-left
-try_value-overflow_sub-left t c = omega (arith, c.requires.1.1)
+try_value-overflow_sub-left t c = omega (arith, c.requires.1)
 
 pub try_value-branch_of-b-requires : goal.try_value-branch_of-b-requires
 try_value-branch_of-b-requires t c =
@@ -32,7 +32,7 @@ try_value-branch_of-b-requires t c =
     (branch-ready _ _ _ _ _ _ pre.1.0 pre.1.1 _ pre.1.2, pre.1.3)
 
 pub try_value-overflow_sub-left-in-Open : goal.try_value-overflow_sub-left-in-Open
-try_value-overflow_sub-left-in-Open t c = omega (arith, c.requires.1.1)
+try_value-overflow_sub-left-in-Open t c = omega (arith, c.requires.1)
 
 pub try_value-settle-requires : goal.try_value-settle-requires
 try_value-settle-requires t c =
@@ -41,11 +41,11 @@ try_value-settle-requires t c =
 
 pub try_value-returns-in-Cut : goal.try_value-returns-in-Cut
 try_value-returns-in-Cut t c =
-    one-cut _ _ _ _ _ _ _ c.requires.1.0.fits.place _ _ (λ v x. x) _ c.branch_of-b.ensures (search rules)
+    one-cut _ _ _ _ _ _ _ c.requires.0.fits.place _ _ (λ v x. x) _ c.branch_of-b.ensures (search rules)
 
 pub try_value-returns-in-Open : goal.try_value-returns-in-Open
 try_value-returns-in-Open t c =
-    one-open _ _ _ _ _ _ _ c.requires.1.0.fits.place _ _ (λ v x. x) _ c.branch_of-b.ensures _ (search rules) _ _ c.settle.ensures
+    one-open _ _ _ _ _ _ _ c.requires.0.fits.place _ _ (λ v x. x) _ c.branch_of-b.ensures _ (search rules) _ _ c.settle.ensures
 
 pub values-try_value-requires : goal.values-try_value-requires
 values-try_value-requires t c =
@@ -56,7 +56,7 @@ pub values-returns-then-rest-eq1 : goal.values-returns-then-rest-eq1
 values-returns-then-rest-eq1 t c = try-last _ _ _ _ _ _ _ (search rules) _ _ c.try_value.ensures
 
 pub values-overflow_sub-rest : goal.values-overflow_sub-rest
-values-overflow_sub-rest t c = omega (arith, c.requires.1.3)
+values-overflow_sub-rest t c = omega (arith, c.requires.3)
 
 pub values-try_value-r-requires : goal.values-try_value-r-requires
 values-try_value-r-requires t c =
@@ -64,7 +64,7 @@ values-try_value-r-requires t c =
     (omega (arith, pre.0, pre.1.1, pre.1.2), (pre.1.0, pre.1.1, omega (arith, pre.1.2, pre.1.3), pre.1.4))
 
 pub values-overflow_sub-rest-2 : goal.values-overflow_sub-rest-2
-values-overflow_sub-rest-2 t c = omega (arith, c.requires.1.2)
+values-overflow_sub-rest-2 t c = omega (arith, c.requires.2)
 
 pub values-values-requires : goal.values-values-requires
 values-values-requires t c =
@@ -75,5 +75,5 @@ values-values-requires t c =
 
 pub values-returns : goal.values-returns
 values-returns t c =
-    let more = c.requires.1.2 in
+    let more = c.requires.2 in
     try_one _ _ _ _ _ _ _ (λ e. omega (arith, e, more)) _ _ _ _ c.try_value-r.ensures c.values.ensures

@@ -4,4 +4,4 @@ use borrow.Author.Rules.{rules}
 use Rattle.prepare.proofs.rank.Goals as goal
 
 pub returns : goal.returns
-returns c = let e = c.lines.auto.1.1.0 in let x = c.requires.1 in ranks-of _ _ _ _ _ _ c.requires.0 (omega arith) (omega arith) (omega arith) c.lines.ensures c.close.ensures
+returns c = let e = c.lines.auto.ranks in let x = c.requires.1 in ranks-of _ _ _ _ _ _ c.requires.0 (omega arith) (omega arith) (omega arith) c.lines.ensures c.close.ensures

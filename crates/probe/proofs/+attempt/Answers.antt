@@ -8,10 +8,10 @@ pub returns-then-fuel-eq0 : goal.returns-then-fuel-eq0
 returns-then-fuel-eq0 t c = attempt-stopped
 
 pub attempt-a-requires : goal.attempt-a-requires
-attempt-a-requires t c = let h = out-less c.visit-x.ensures _ _ _ c.in-Open.is _ c.out-o.ensures in (omega (arith, c.requires.0), c.requires.1)
+attempt-a-requires t c = let h = out-less c.visit-x.ensures _ _ _ c.in-Open.is _ c.out-o.ensures in (omega (arith, c.decreases), c.requires)
 
 pub attempt-requires : goal.attempt-requires
-attempt-requires t c = let h = into_less c.visit-x.ensures _ _ _ c.in-Open.is _ c.into-p.ensures in (omega (arith, c.requires.0), c.requires.1)
+attempt-requires t c = let h = into_less c.visit-x.ensures _ _ _ c.in-Open.is _ c.into-p.ensures in (omega (arith, c.decreases), c.requires)
 
 pub returns-in-View : goal.returns-in-View
 returns-in-View t c = attempt-view c.visit-x.ensures _ (search rules)

@@ -4,10 +4,10 @@ use Rattle.probe.proofs.Halves.{out-less, into_less, probed-view, probed-empty, 
 use Rattle.probe.proofs.+probe.Goals as goal
 
 pub probe-a-requires : goal.probe-a-requires
-probe-a-requires t c = let h = out-less c.visit-x.ensures _ _ _ c.in-Open.is _ c.out-o.ensures in (omega (arith, c.requires.0), c.requires.1)
+probe-a-requires t c = let h = out-less c.visit-x.ensures _ _ _ c.in-Open.is _ c.out-o.ensures in (omega (arith, c.decreases), c.requires)
 
 pub probe-requires : goal.probe-requires
-probe-requires t c = let h = into_less c.visit-x.ensures _ _ _ c.in-Open.is _ c.into-p.ensures in (omega (arith, c.requires.0), c.requires.1)
+probe-requires t c = let h = into_less c.visit-x.ensures _ _ _ c.in-Open.is _ c.into-p.ensures in (omega (arith, c.decreases), c.requires)
 
 pub returns-in-View : goal.returns-in-View
 returns-in-View t c = probed-view c.visit-x.ensures _ (search rules)

@@ -17,16 +17,16 @@ pub returns-then-not-within : goal.returns-then-not-within
 returns-then-not-within t c = tried-void _ _ _ _ _ _ _ c.visit-x.ensures _ _ _ c.in-Open.is _ c.unbanned-r.ensures _ c.within.ensures (search rules) _
 
 pub asked-m-requires : goal.asked-m-requires
-asked-m-requires t c = c.requires.1.0
+asked-m-requires t c = c.requires.0
 
 pub overflow_sub-fuel : goal.overflow_sub-fuel
 overflow_sub-fuel t c = let h = c.if-fuel-eq0.false in omega arith
 
 pub attempt-a-requires : goal.attempt-a-requires
-attempt-a-requires t c = let h = less-out _ _ _ c.args.root _ _ _ (opened-anew _ _ _ _ _ _ _ c.unbanned-r.ensures _ c.visit-x.ensures _ _ _ c.in-Open.is c.asked-m.ensures) _ _ _ refl _ c.unbanned-r.ensures _ c.out-o.ensures in (omega (arith, c.requires.0), c.requires.1)
+attempt-a-requires t c = let h = less-out _ _ _ c.args.root _ _ _ (opened-anew _ _ _ _ _ _ _ c.unbanned-r.ensures _ c.visit-x.ensures _ _ _ c.in-Open.is c.asked-m.ensures) _ _ _ refl _ c.unbanned-r.ensures _ c.out-o.ensures in (omega (arith, c.decreases), c.requires)
 
 pub attempt-requires : goal.attempt-requires
-attempt-requires t c = let h = less-into _ _ _ c.args.root _ _ _ (opened-anew _ _ _ _ _ _ _ c.unbanned-r.ensures _ c.visit-x.ensures _ _ _ c.in-Open.is c.asked-m.ensures) _ _ _ refl _ c.unbanned-r.ensures _ c.into-p.ensures in (omega (arith, c.requires.0), c.requires.1)
+attempt-requires t c = let h = less-into _ _ _ c.args.root _ _ _ (opened-anew _ _ _ _ _ _ _ c.unbanned-r.ensures _ c.visit-x.ensures _ _ _ c.in-Open.is c.asked-m.ensures) _ _ _ refl _ c.unbanned-r.ensures _ c.into-p.ensures in (omega (arith, c.decreases), c.requires)
 
 pub returns-else-stands : goal.returns-else-stands
 returns-else-stands t c = tried-fallen _ _ _ _ _ _ _ c.visit-x.ensures _ (search rules) _ _ c.stands.ensures (search rules) _

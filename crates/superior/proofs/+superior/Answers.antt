@@ -15,28 +15,28 @@ pub returns-then-m-eq0 : goal.returns-then-m-eq0
 returns-then-m-eq0 t c = none-sure _ _ _ _ _ _ _ _ _ c.lines_in.ensures c.lines_in-2.ensures _ c.sources-s.ensures _ c.taking-x.ensures (search rules) (search rules)
 
 pub hopeless-requires : goal.hopeless-requires
-hopeless-requires t c = c.requires.1
+hopeless-requires t c = c.requires
 
 pub returns-then-hopeless : goal.returns-then-hopeless
 returns-then-hopeless t c = none-hopeless _ _ _ _ _ _ _ _ _ c.lines_in.ensures c.lines_in-2.ensures _ c.hopeless.ensures (search rules)
 
 pub line_to_try-j-requires : goal.line_to_try-j-requires
-line_to_try-j-requires t c = c.requires.1.0
+line_to_try-j-requires t c = c.requires.0
 
 pub without-less-requires : goal.without-less-requires
 without-less-requires t c = let q = low-line _ _ _ _ _ _ _ _ c.lines_in-2.ensures (search rules) c.line_to_try-j.ensures in omega (arith, q.0)
 
 pub left-others-requires : goal.left-others-requires
-left-others-requires t c = let p = c.requires.1 in (omega (arith, p.0), p.1, p.2)
+left-others-requires t c = let p = c.requires in (omega (arith, p.0), p.1, p.2)
 
 pub assumed-inner-requires : goal.assumed-inner-requires
-assumed-inner-requires t c = let p = c.requires.1 in let q = low-line _ _ _ _ _ _ _ _ c.lines_in-2.ensures (search rules) c.line_to_try-j.ensures in (p.0, p.1, q.0, p.2)
+assumed-inner-requires t c = let p = c.requires in let q = low-line _ _ _ _ _ _ _ _ c.lines_in-2.ensures (search rules) c.line_to_try-j.ensures in (p.0, p.1, q.0, p.2)
 
 pub superior-y-requires : goal.superior-y-requires
-superior-y-requires t c = let p = c.requires in let q = low-line _ _ _ _ _ _ _ _ c.lines_in-2.ensures (search rules) c.line_to_try-j.ensures in let h = c.without-less.ensures.less q.1 in (omega (arith, p.0), p.1)
+superior-y-requires t c = let p = c.requires in let q = low-line _ _ _ _ _ _ _ _ c.lines_in-2.ensures (search rules) c.line_to_try-j.ensures in let h = c.without-less.ensures.less q.1 in (omega (arith, c.decreases), p)
 
 pub superior-requires : goal.superior-requires
-superior-requires t c = let p = c.requires in let q = low-line _ _ _ _ _ _ _ _ c.lines_in-2.ensures (search rules) c.line_to_try-j.ensures in let h = c.without-less.ensures.less q.1 in (omega (arith, p.0), p.1)
+superior-requires t c = let p = c.requires in let q = low-line _ _ _ _ _ _ _ _ c.lines_in-2.ensures (search rules) c.line_to_try-j.ensures in let h = c.without-less.ensures.less q.1 in (omega (arith, c.decreases), p)
 
 pub returns-in-Found : goal.returns-in-Found
 returns-in-Found t c = found-source _ _ _ _ _ _ _ _ _ c.lines_in.ensures c.lines_in-2.ensures _ c.sources-s.ensures _ c.taking-x.ensures _ (search rules)

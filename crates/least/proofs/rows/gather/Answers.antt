@@ -17,7 +17,7 @@ pub overflow_add-m : goal.overflow_add-m
 overflow_add-m c = let f = c.loop-k.invariant.2.few in omega arith
 
 pub loop-k-preserved-then-can_ask : goal.loop-k-preserved-then-can_ask
-loop-k-preserved-then-can_ask c = let f = c.loop-k.invariant.2.few in let l = c.loop-k.invariant.1 in let p = c.requires.1 in (omega arith, c.put.auto.0 ∙ c.loop-k.invariant.1, gathered-put _ c.loop-k.k _ _ _ c.loop-k.invariant.2 _ c.masks_at-r.ensures _ c.can_ask.ensures (search rules) (omega arith) _ c.row_of.ensures _ c.put.ensures)
+loop-k-preserved-then-can_ask c = let f = c.loop-k.invariant.2.few in let l = c.loop-k.invariant.1 in let p = c.requires.1 in (omega arith, c.put.auto.rows ∙ c.loop-k.invariant.1, gathered-put _ c.loop-k.k _ _ _ c.loop-k.invariant.2 _ c.masks_at-r.ensures _ c.can_ask.ensures (search rules) (omega arith) _ c.row_of.ensures _ c.put.ensures)
 
 pub loop-k-preserved : goal.loop-k-preserved
 loop-k-preserved c = (omega arith, c.loop-k.invariant.1, gathered-mute _ c.loop-k.k _ _ _ c.loop-k.invariant.2 _ c.masks_at-r.ensures _ c.can_ask.ensures (search rules))

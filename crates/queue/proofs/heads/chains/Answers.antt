@@ -6,10 +6,10 @@ use borrow.Author.Rules.{rules}
 use Rattle.queue.proofs.heads.chains.Goals as goal
 
 pub bounds-index-1153 : goal.bounds-index-1153
-bounds-index-1153 c = rw (length-set _ _ _, c.rows.auto.1.1.1.0 ∙ (c.chained-whole.auto.1.1.0 ∙ c.requires.2)) (omega arith)
+bounds-index-1153 c = rw (length-set _ _ _, c.rows.auto.index ∙ (c.chained-whole.auto.index ∙ c.requires.2)) (omega arith)
 
 pub shape_of-index : goal.shape_of-index
-shape_of-index c = rw (length-set _ _ _, length-set _ _ _) (c.rows.auto.1.1.1.0 ∙ c.chained-whole.auto.1.1.0)
+shape_of-index c = rw (length-set _ _ _, length-set _ _ _) (c.rows.auto.index ∙ c.chained-whole.auto.index)
 
 pub returns : goal.returns
-returns c = chains-are _ _ _ _ _ _ (c.rows.auto.1.1.1.0 ∙ (c.chained-whole.auto.1.1.0 ∙ c.requires.2)) c.requires.1 c.simple-c.ensures c.chained-whole.ensures c.rows.ensures
+returns c = chains-are _ _ _ _ _ _ (c.rows.auto.index ∙ (c.chained-whole.auto.index ∙ c.requires.2)) c.requires.1 c.simple-c.ensures c.chained-whole.ensures c.rows.ensures
