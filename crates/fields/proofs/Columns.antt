@@ -175,7 +175,7 @@ module _ (low high v : ℤ) (fl : SFits w32 low) (fh : SFits w32 high) (fv : SFi
   in_between e f = rw (ge-le v low (rw (to_z-of_z fv, to_z-of_z fl) at e), ge-le high v (rw (to_z-of_z fv, to_z-of_z fh) at f))
 
 pub back-same : (x : ℤ) → mag x < 2147483648 → back x ≡ x
-back-same x h = to_z-of_z (sfits_of (omega arith))
+back-same x h = to_z-of_z {w = w32} (sfits_of (omega arith))
 
 pub back-mag : (x : ℤ) → mag x < 2147483648 → mag (back x) < 2147483648
 back-mag x h = rw (back-same x h) h
