@@ -10,10 +10,10 @@ pub returns-then-barred : goal.returns-then-barred
 returns-then-barred c = looked-barred _ _ _ _ _ _ _ _ c.narrowed-rest.ensures _ c.unseen-then-barred.ensures _ (c.barred.ensures _) (search rules)
 
 pub attempt-a-requires : goal.attempt-a-requires
-attempt-a-requires c = (c.before.before.before.before.before.before.before.before.before.before.before.before.before.pre.0, c.before.before.before.before.before.before.before.before.before.before.before.before.before.pre.1, c.before.before.before.before.before.before.before.before.before.before.before.before.before.pre.3)
+attempt-a-requires c = (c.requires.0, c.requires.1, c.requires.3)
 
 pub look_harder-requires : goal.look_harder-requires
-look_harder-requires c = (c.before.before.before.before.before.before.before.before.before.before.before.before.before.before.before.before.before.before.pre.0, c.before.before.before.before.before.before.before.before.before.before.before.before.before.before.before.before.before.before.pre.1, c.before.before.before.before.before.before.before.before.before.before.before.before.before.before.before.before.before.before.pre.2, c.before.before.before.before.before.before.before.before.before.before.before.before.before.before.before.before.before.before.pre.3)
+look_harder-requires c = (c.requires.0, c.requires.1, c.requires.2, c.requires.3)
 
 pub returns-in-Has : goal.returns-in-Has
 returns-in-Has c = looked-has _ _ _ _ _ _ _ _ refl c.narrowed-rest.ensures _ _ c.attempt-a.ensures _ c.in-Has.is

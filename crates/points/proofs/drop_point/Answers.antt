@@ -10,15 +10,13 @@ pub overflow_mul-i : goal.overflow_mul-i
 overflow_mul-i c =
     let s = c.args in
     let l = c.locate-l in
-    let i = c.before.before.l2.given in
-    omega (arith, at_in s.store.now s.name.bytes l.result l.ensures i.0.0 i.1)
+    omega (arith, at_in s.store.now s.name.bytes l.result l.ensures c.in-At.i c.in-At.is)
 
 pub remove-requires : goal.remove-requires
 remove-requires c =
     let s = c.args in
     let l = c.locate-l in
-    let i = c.before.before.l2.given in
-    (at_long s.store.now s.name.bytes l.result l.ensures i.0.0 i.1, at_in s.store.now s.name.bytes l.result l.ensures i.0.0 i.1)
+    (at_long s.store.now s.name.bytes l.result l.ensures c.in-At.i c.in-At.is, at_in s.store.now s.name.bytes l.result l.ensures c.in-At.i c.in-At.is)
 
 pub returns-in-Neither : goal.returns-in-Neither
 unfolding drop_told
@@ -33,15 +31,13 @@ pub returns-in-Before : goal.returns-in-Before
 returns-in-Before c =
     let s = c.args in
     let l = c.locate-l in
-    let i = c.before.enum_told.given in
     let q = c.refused-in-Before.ensures in
     let b : AreBytes s.store.now = λ k. (c.slice_known-1.given k).fits in
-    drop-meant s.store.now s.name.bytes b _ _ (drop-before s.store.now s.name.bytes l.result l.ensures i.0.0 i.0.1.0 i.1 _ q.0 q.1)
+    drop-meant s.store.now s.name.bytes b _ _ (drop-before s.store.now s.name.bytes l.result l.ensures c.in-Before.field-0 c.in-Before.field-1 c.in-Before.is _ q.0 q.1)
 
 pub returns-in-At : goal.returns-in-At
 returns-in-At c =
     let s = c.args in
     let l = c.locate-l in
-    let i = c.before.before.before.before.before.l2.given in
     let b : AreBytes s.store.now = λ k. (c.slice_known-1.given k).fits in
-    drop-meant s.store.now s.name.bytes b _ _ (drop_at s.store.now s.name.bytes l.result l.ensures i.0.0 i.1 _ b c.remove.ensures)
+    drop-meant s.store.now s.name.bytes b _ _ (drop_at s.store.now s.name.bytes l.result l.ensures c.in-At.i c.in-At.is _ b c.remove.ensures)

@@ -8,22 +8,19 @@ pub overflow_mul-i : goal.overflow_mul-i
 overflow_mul-i c =
     let s = c.args in
     let l = c.locate-l in
-    let i = c.before.l2.given in
-    omega (arith, at_in s.store.now s.name.bytes l.result l.ensures i.0.0 i.1)
+    omega (arith, at_in s.store.now s.name.bytes l.result l.ensures c.in-At.i c.in-At.is)
 
 pub overflow_add-i : goal.overflow_add-i
 overflow_add-i c =
     let s = c.args in
     let l = c.locate-l in
-    let i = c.before.l2.given in
-    omega (arith, at_in s.store.now s.name.bytes l.result l.ensures i.0.0 i.1)
+    omega (arith, at_in s.store.now s.name.bytes l.result l.ensures c.in-At.i c.in-At.is)
 
 pub pair_at-requires : goal.pair_at-requires
 pair_at-requires c =
     let s = c.args in
     let l = c.locate-l in
-    let i = c.before.l2.given in
-    omega (arith, at_in s.store.now s.name.bytes l.result l.ensures i.0.0 i.1, at_long s.store.now s.name.bytes l.result l.ensures i.0.0 i.1)
+    omega (arith, at_in s.store.now s.name.bytes l.result l.ensures c.in-At.i c.in-At.is, at_long s.store.now s.name.bytes l.result l.ensures c.in-At.i c.in-At.is)
 
 pub returns-in-Neither : goal.returns-in-Neither
 returns-in-Neither c =
@@ -36,13 +33,11 @@ pub returns-in-Before : goal.returns-in-Before
 returns-in-Before c =
     let s = c.args in
     let l = c.locate-l in
-    let i = c.before.enum_told.given in
     let q = c.refused-in-Before.ensures in
-    go-meant s.store.now s.name.bytes (λ k. (c.shared_slice_known-1.given k).fits) _ (go-before s.store.now s.name.bytes l.result l.ensures i.0.0 i.0.1.0 i.1 _ q.0 q.1)
+    go-meant s.store.now s.name.bytes (λ k. (c.shared_slice_known-1.given k).fits) _ (go-before s.store.now s.name.bytes l.result l.ensures c.in-Before.field-0 c.in-Before.field-1 c.in-Before.is _ q.0 q.1)
 
 pub returns-in-At : goal.returns-in-At
 returns-in-At c =
     let s = c.args in
     let l = c.locate-l in
-    let i = c.before.before.l2.given in
-    go-meant s.store.now s.name.bytes (λ k. (c.shared_slice_known-1.given k).fits) _ (go-at s.store.now s.name.bytes l.result l.ensures i.0.0 i.1 _ c.pair_at.ensures)
+    go-meant s.store.now s.name.bytes (λ k. (c.shared_slice_known-1.given k).fits) _ (go-at s.store.now s.name.bytes l.result l.ensures c.in-At.i c.in-At.is _ c.pair_at.ensures)

@@ -6,9 +6,8 @@ use Rattle.points.proofs.insert.Goals as goal
 
 pub returns : goal.returns
 returns c =
-    let t = c.before.before.before.before.before.before.before.before.before.before.before.before.before.before.before.before.before.before.before in
     let o = c.copy in
     let m = c.copy-2 in
     let n = c.copy-3 in
     let w = c.put_pair in
-    inserted t.args.store.now t.requires.0 t.args.at t.requires.1 o.new.0 (replicate 1024 0) (length-replicate {A = ℕ} 1024 0) o.ensures t.args.name.now t.args.p m.new.0 n.new.0 _ (search rules) m.ensures n.ensures w.ensures
+    inserted c.args.store.now c.requires.0 c.args.at c.requires.1 o.new.0 (replicate 1024 0) (length-replicate {A = ℕ} 1024 0) o.ensures c.args.name.now c.args.p m.new.0 n.new.0 _ (search rules) m.ensures n.ensures w.ensures

@@ -10,46 +10,40 @@ pub overflow_mul-i : goal.overflow_mul-i
 overflow_mul-i c =
     let s = c.args in
     let l = c.locate-l in
-    let i = c.before.before.l2.given in
-    omega (arith, at_in s.store.now s.name.bytes l.result l.ensures i.0.0 i.1)
+    omega (arith, at_in s.store.now s.name.bytes l.result l.ensures c.in-At.i c.in-At.is)
 
 pub overflow_add-i : goal.overflow_add-i
 overflow_add-i c =
     let s = c.args in
     let l = c.locate-l in
-    let i = c.before.before.l2.given in
-    omega (arith, at_in s.store.now s.name.bytes l.result l.ensures i.0.0 i.1)
+    omega (arith, at_in s.store.now s.name.bytes l.result l.ensures c.in-At.i c.in-At.is)
 
 pub put_pair-requires : goal.put_pair-requires
 put_pair-requires c =
     let s = c.args in
     let l = c.locate-l in
-    let i = c.before.before.l2.given in
-    omega (arith, at_in s.store.now s.name.bytes l.result l.ensures i.0.0 i.1, at_long s.store.now s.name.bytes l.result l.ensures i.0.0 i.1)
+    omega (arith, at_in s.store.now s.name.bytes l.result l.ensures c.in-At.i c.in-At.is, at_long s.store.now s.name.bytes l.result l.ensures c.in-At.i c.in-At.is)
 
 pub returns-then-k-eq32 : goal.returns-then-k-eq32
 returns-then-k-eq32 c =
     let s = c.args in
     let l = c.locate-l in
-    let i = c.before.before.before.l3.given in
     let q = c.refused-then-k-eq32.ensures in
     let g = c.before.before.before.before.before.before.before.before.before.before.well-formed.1.1.0.1.1 in
     let b : AreBytes s.store.now = λ k. (c.slice_known-1.given k).fits in
-    set-meant s.store.now s.name.bytes s.p b (record { taken = g.0.1; held = g.1.0.1; denied = g.1.1.0.1 }) _ _ (set_full s.store.now s.name.bytes l.result l.ensures i.0.0 i.0.1.0 i.1 _ _ (search rules) q.0 q.1)
+    set-meant s.store.now s.name.bytes s.p b (record { taken = g.0.1; held = g.1.0.1; denied = g.1.1.0.1 }) _ _ (set_full s.store.now s.name.bytes l.result l.ensures c.in-Before.i c.in-Before.k c.in-Before.is _ _ (search rules) q.0 q.1)
 
 pub overflow_mul-i-in-Before : goal.overflow_mul-i-in-Before
 overflow_mul-i-in-Before c =
     let s = c.args in
     let l = c.locate-l in
-    let i = c.before.before.before.l3.given in
-    omega (arith, before-in s.store.now s.name.bytes l.result l.ensures i.0.0 i.0.1.0 i.1 (search rules))
+    omega (arith, before-in s.store.now s.name.bytes l.result l.ensures c.in-Before.i c.in-Before.k c.in-Before.is (search rules))
 
 pub insert-requires : goal.insert-requires
 insert-requires c =
     let s = c.args in
     let l = c.locate-l in
-    let i = c.before.before.before.before.l3.given in
-    (before-long s.store.now s.name.bytes l.result l.ensures i.0.0 i.0.1.0 i.1, before-in s.store.now s.name.bytes l.result l.ensures i.0.0 i.0.1.0 i.1 (search rules))
+    (before-long s.store.now s.name.bytes l.result l.ensures c.in-Before.i c.in-Before.k c.in-Before.is, before-in s.store.now s.name.bytes l.result l.ensures c.in-Before.i c.in-Before.k c.in-Before.is (search rules))
 
 pub returns-in-Neither : goal.returns-in-Neither
 unfolding set_told
@@ -65,16 +59,14 @@ pub returns-in-At : goal.returns-in-At
 returns-in-At c =
     let s = c.args in
     let l = c.locate-l in
-    let i = c.before.before.before.before.before.l2.given in
     let g = c.before.before.before.before.before.before.before.before.before.before.before.before.well-formed.1.1.0.1.1 in
     let b : AreBytes s.store.now = λ k. (c.slice_known-1.given k).fits in
-    set-meant s.store.now s.name.bytes s.p b (record { taken = g.0.1; held = g.1.0.1; denied = g.1.1.0.1 }) _ _ (set_at s.store.now s.name.bytes l.result l.ensures i.0.0 i.1 _ _ b c.put_pair.ensures)
+    set-meant s.store.now s.name.bytes s.p b (record { taken = g.0.1; held = g.1.0.1; denied = g.1.1.0.1 }) _ _ (set_at s.store.now s.name.bytes l.result l.ensures c.in-At.i c.in-At.is _ _ b c.put_pair.ensures)
 
 pub returns-else-k-eq32 : goal.returns-else-k-eq32
 returns-else-k-eq32 c =
     let s = c.args in
     let l = c.locate-l in
-    let i = c.before.before.before.before.before.before.before.l3.given in
     let g = c.before.before.before.before.before.before.before.before.before.before.before.before.before.before.well-formed.1.1.0.1.1 in
     let b : AreBytes s.store.now = λ k. (c.slice_known-1.given k).fits in
-    set-meant s.store.now s.name.bytes s.p b (record { taken = g.0.1; held = g.1.0.1; denied = g.1.1.0.1 }) _ _ (set_before s.store.now s.name.bytes l.result l.ensures i.0.0 i.0.1.0 i.1 _ _ (search rules) b c.insert.ensures)
+    set-meant s.store.now s.name.bytes s.p b (record { taken = g.0.1; held = g.1.0.1; denied = g.1.1.0.1 }) _ _ (set_before s.store.now s.name.bytes l.result l.ensures c.in-Before.i c.in-Before.k c.in-Before.is _ _ (search rules) b c.insert.ensures)

@@ -15,7 +15,7 @@ pub loop-a-init : goal.loop-a-init
 loop-a-init c = (omega arith, refl, lines_start _ _)
 
 pub lines_from-requires : goal.lines_from-requires
-lines_from-requires c = (c.requires, c.before.before.start_of_lem.ensures)
+lines_from-requires c = (c.requires, c.start_of-from.ensures)
 
 pub loop-a-smaller : goal.loop-a-smaller
 loop-a-smaller c = let q = c.loop-a.invariant.1 in let r = c.loop-a-test.true in omega arith

@@ -22,13 +22,13 @@ pub own_set-own-requires : goal.own_set-own-requires
 own_set-own-requires c = λ e. let p = c.requires in let f = (kind-few _ _ p.0 _ p.1 p.2).1 e in let t = c.loop-k-test.true in omega (arith, c.count_of-m.ensures)
 
 pub overflow_mul-k : goal.overflow_mul-k
-overflow_mul-k c = let p = c.requires in omega (arith, (row_small _ _ p.0 _ p.1 p.2 _ _ _ _ c.count_of-m.ensures c.before.before.before.before.start_of_lem.ensures c.kind_at-x.ensures c.loop-k-test.true).0)
+overflow_mul-k c = let p = c.requires in omega (arith, (row_small _ _ p.0 _ p.1 p.2 _ _ _ _ c.count_of-m.ensures c.start_of-from.ensures c.kind_at-x.ensures c.loop-k-test.true).0)
 
 pub overflow_add-from : goal.overflow_add-from
-overflow_add-from c = let p = c.requires in omega (arith, (row_small _ _ p.0 _ p.1 p.2 _ _ _ _ c.count_of-m.ensures c.before.before.before.before.start_of_lem.ensures c.kind_at-x.ensures c.loop-k-test.true).1)
+overflow_add-from c = let p = c.requires in omega (arith, (row_small _ _ p.0 _ p.1 p.2 _ _ _ _ c.count_of-m.ensures c.start_of-from.ensures c.kind_at-x.ensures c.loop-k-test.true).1)
 
 pub rule_masks-r-requires : goal.rule_masks-r-requires
-rule_masks-r-requires c = let p = c.requires in row-readable _ _ p.0 _ p.1 p.2 _ _ _ _ c.count_of-m.ensures c.before.before.before.before.start_of_lem.ensures c.kind_at-x.ensures c.loop-k-test.true
+rule_masks-r-requires c = let p = c.requires in row-readable _ _ p.0 _ p.1 p.2 _ _ _ _ c.count_of-m.ensures c.start_of-from.ensures c.kind_at-x.ensures c.loop-k-test.true
 
 pub overflow_add-n : goal.overflow_add-n
 overflow_add-n c = let p = c.requires in let a = p.4 in let w = rules-few _ _ p.0 in let f = (kind-few _ _ p.0 _ p.1 p.2).0 in let t = c.loop-k-test.true in omega (arith, w.0, w.1, w.2, c.count_of-m.ensures)
@@ -49,4 +49,4 @@ pub shape_of-words : goal.shape_of-words
 shape_of-words c = c.loop-k.invariant.1.same
 
 pub returns : goal.returns
-returns c = rw (← c.before.before.start_of_lem.ensures, ← c.count_of-m.ensures) (packed-over _ _ _ _ _ _ c.loop-k.invariant.0 (search rules) c.loop-k.invariant.1)
+returns c = rw (← c.start_of-from.ensures, ← c.count_of-m.ensures) (packed-over _ _ _ _ _ _ c.loop-k.invariant.0 (search rules) c.loop-k.invariant.1)

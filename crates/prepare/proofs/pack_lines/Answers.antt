@@ -22,10 +22,10 @@ pub overflow_mul-k : goal.overflow_mul-k
 overflow_mul-k c = omega (arith, conditionals-few _ _ c.requires.0)
 
 pub overflow_add-from : goal.overflow_add-from
-overflow_add-from c = omega (arith, conditionals-few _ _ c.requires.0, starts-small _ _ c.requires.0 _ _ (omega arith) c.before.before.start_of_lem.ensures)
+overflow_add-from c = omega (arith, conditionals-few _ _ c.requires.0, starts-small _ _ c.requires.0 _ _ (omega arith) c.start_of-from.ensures)
 
 pub line_masks-r-requires : goal.line_masks-r-requires
-line_masks-r-requires c = line-readable _ _ c.requires.0 _ c.loop-k-test.true _ (rw (← c.before.before.start_of_lem.ensures) refl)
+line_masks-r-requires c = line-readable _ _ c.requires.0 _ c.loop-k-test.true _ (rw (← c.start_of-from.ensures) refl)
 
 pub overflow_add-n-in-loop-k : goal.overflow_add-n-in-loop-k
 overflow_add-n-in-loop-k c = omega (arith, let w = rules-few _ _ c.requires.0 in w.0, let w = rules-few _ _ c.requires.0 in w.1, let w = rules-few _ _ c.requires.0 in w.2, conditionals-few _ _ c.requires.0)
@@ -46,4 +46,4 @@ pub shape_of-words : goal.shape_of-words
 shape_of-words c = c.loop-k.invariant.1.same
 
 pub returns : goal.returns
-returns c = rw (← c.before.before.start_of_lem.ensures) (packed-over _ _ _ _ _ _ c.loop-k.invariant.0 (search rules) c.loop-k.invariant.1)
+returns c = rw (← c.start_of-from.ensures) (packed-over _ _ _ _ _ _ c.loop-k.invariant.0 (search rules) c.loop-k.invariant.1)

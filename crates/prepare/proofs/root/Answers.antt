@@ -3,4 +3,4 @@ use borrow.Author.Rules.{rules}
 use Rattle.prepare.proofs.root.Goals as goal
 
 pub returns : goal.returns
-returns c = root_is _ _ _ c.up_to-taken.ensures c.before.up_to_lem.ensures
+returns c = root_is _ _ _ c.up_to-taken.ensures c.up_to-all.ensures

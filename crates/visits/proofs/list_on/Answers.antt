@@ -12,5 +12,4 @@ pub returns-in-Point : goal.returns-in-Point
 returns-in-Point c =
     let s = c.args in
     let g = c.go_to-w in
-    let i = c.before.before.before.before.before.before.before.before.w2.given in
-    listed_at s.text.now s.store.now s.name.bytes g.result g.ensures.0 _ _ _ _ _ i.0.0 _ i.1 c.run.ensures
+    listed_at s.text.now s.store.now s.name.bytes g.result g.ensures.0 _ _ _ _ _ c.in-Point.p _ c.in-Point.is c.run.ensures

@@ -15,8 +15,7 @@ test_counts-requires c =
 
 pub returns-in-Refused : goal.returns-in-Refused
 returns-in-Refused c =
-    let checked = c.before.before.checked in
     let check-number = c.check_number-checked in
     let number_at = c.number_at-n in
     let args = c.args in
-    table-n _ (omega arith) _ checked.given.0.0 (statements-out args.t.now number_at.result number_at.ensures number_at.type_inv check-number.result check-number.ensures _ (search rules)) c.refused-in-Refused.ensures
+    table-n _ (omega arith) _ c.in-Refused.q (statements-out args.t.now number_at.result number_at.ensures number_at.type_inv check-number.result check-number.ensures _ (search rules)) c.refused-in-Refused.ensures

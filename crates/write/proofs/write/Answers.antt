@@ -12,17 +12,15 @@ text_bytes-n-requires c =
 pub returns-then-buf-n : goal.returns-then-buf-n
 returns-then-buf-n c =
     let text-bytes = c.text_bytes-n in
-    let tested2 = c.before.before.before.tested2 in
     let test_table = c.test_table-tested in
-    write-short _ _ test_table.result test_table.ensures tested2.given.0.0 (search rules) text-bytes.result text-bytes.ensures (search rules)
+    write-short _ _ test_table.result test_table.ensures c.in-Accepted.s (search rules) text-bytes.result text-bytes.ensures (search rules)
 
 pub put_text-requires : goal.put_text-requires
 put_text-requires c =
     let text-bytes = c.text_bytes-n in
-    let tested2 = c.before.before.before.before.tested2 in
     let test_table = c.test_table-tested in
     let args = c.args in
-    (table-bounded args.table.now args.buf.now test_table.result test_table.ensures tested2.given.0.0 (search rules), numbers-short args.table.now args.buf.now test_table.result test_table.ensures tested2.given.0.0 (search rules), table-long args.table.now args.buf.now test_table.result test_table.ensures tested2.given.0.0 (search rules), omega (arith, text-bytes.ensures))
+    (table-bounded args.table.now args.buf.now test_table.result test_table.ensures c.in-Accepted.s (search rules), numbers-short args.table.now args.buf.now test_table.result test_table.ensures c.in-Accepted.s (search rules), table-long args.table.now args.buf.now test_table.result test_table.ensures c.in-Accepted.s (search rules), omega (arith, text-bytes.ensures))
 
 pub returns-in-Refused : goal.returns-in-Refused
 returns-in-Refused c =
@@ -33,6 +31,5 @@ pub returns-else-buf-n : goal.returns-else-buf-n
 returns-else-buf-n c =
     let put-text = c.put_text in
     let text-bytes = c.text_bytes-n in
-    let tested2 = c.before.before.before.before.before.before.before.tested2 in
     let test_table = c.test_table-tested in
-    write-whole _ _ test_table.result test_table.ensures tested2.given.0.0 (search rules) text-bytes.result _ text-bytes.ensures (omega arith) put-text.ensures
+    write-whole _ _ test_table.result test_table.ensures c.in-Accepted.s (search rules) text-bytes.result _ text-bytes.ensures (omega arith) put-text.ensures
