@@ -10,7 +10,7 @@ use lib.ListN.{length, get_or}
 use lib.Pow.{pow_pos}
 use borrow.Author.Tests.{eqb-true, eq-eqb}
 use Rattle.logic.specs.Lists.{Among}
-use Rattle.logic.proofs.Members.{among-either, among-left, among-right, every-at}
+use Rattle.logic.proofs.Members.{among-either, among-left, among-right}
 use Rattle.sets.specs.declared.Pair.{Pair}
 use Rattle.sets.specs.Sets.{member, bit_of}
 use Rattle.sets.proofs.Digits.{bit-single, bit-zero, lt-or-le}
@@ -21,7 +21,7 @@ use Rattle.meaning.specs.Books.{Book, conclusions}
 use Rattle.meaning.specs.Views.{ranking, Ranked, RankedWithin, Dominates}
 use Rattle.meaning.proofs.Conditions.{counting-has, both-have, outranks-more}
 use Rattle.masks.specs.declared.Masks.{Masks}
-use Rattle.masks.specs.Views.{masks_at, Fires, from_at, to_at, Counts, Lined, Step, rank, line, Leads, Uncrossed, Alike, Shared, MaskDominates}
+use Rattle.masks.specs.Views.{Fires, from_at, to_at, Counts, Lined, Step, rank, line, Leads, Uncrossed, Alike, Shared, MaskDominates}
 use Rattle.masks.specs.Views.{step as one-step, chain as more-steps}
 use Rattle.bridge.specs.Packed.{masks_of, blank_line, line_of, PacksLines}
 use Rattle.bridge.specs.Ranks.{Names, RanksOf}

@@ -2,10 +2,10 @@
 -- its neighbours, is the test of the four one by one.
 use mathlib.Core.Path.{◌≡◌, refl, sym, ◌∙◌}
 use mathlib.Core.Bool.{Bool, true, false, not, ◌&&◌, ◌||◌}
-use mathlib.Core.List.{List, [], ◌∷◌}
+use mathlib.Core.List.{[], ◌∷◌}
 use Prim.Native.Nat.{ℕ}
 use lib.Dec.{eqb, leb}
-use borrow.Author.Tests.{eq-eqb, ne_eqb}
+use borrow.Author.Tests.{ne_eqb}
 use Rattle.logic.specs.Tests.{both, either, pick, every}
 use Rattle.logic.proofs.Tests.{and_both, or-either}
 use Rattle.text.specs.Fields.{is_space, is_minus, is_digit, some_from, some_byte, other_byte, stray_byte, stray, space_after_digit, gapped, misspelling, is_number}

@@ -11,7 +11,7 @@ use mir.Val.{to_z, SFits}
 use mir.Facts.{to_z-of_z, to_z_pos}
 use borrow.Author.Rules.{sfits_of}
 use borrow.Author.Tests.{ltb-true}
-use Rattle.logic.specs.Tests.{both, either, pick}
+use Rattle.logic.specs.Tests.{both, pick}
 use Rattle.logic.proofs.Tests.{or-either}
 use Rattle.book.specs.declared.Content.{Content}
 use Rattle.book.specs.declared.Content.TheVariants.{Edition, Statements, Literal, Exception, Total}

@@ -1,5 +1,5 @@
 -- What is reached grows by single steps from what steps lead to; a set that no step leaves has all that steps lead to.
-use mathlib.Core.Path.{◌≡◌, refl, sym, ap, ◌∙◌}
+use mathlib.Core.Path.{◌≡◌, refl, sym, ◌∙◌}
 use mathlib.Core.Bool.{Bool, true, false, not}
 use mathlib.Core.List.{List, []}
 use mathlib.Core.Logic.{◌⊎◌, inl, inr, ⊎_elim}
@@ -14,10 +14,10 @@ use lib.ListN.{length, get_or}
 use Rattle.logic.specs.Tests.{Decides}
 use Rattle.logic.proofs.Decide.{holds-or-not, decides_eq}
 use Rattle.masks.proofs.Booleans.{refused, granted, decides-true, decides-false}
-use Rattle.sets.specs.Sets.{bit_of, Within, Apart}
+use Rattle.sets.specs.Sets.{bit_of, Within}
 use Rattle.sets.proofs.Digits.{bit-and, bit-or, bit-lt, bit-zero, bit-single, lt-or-le, shifted}
 use Rattle.sets.proofs.Lowest.{lowest-is, lowest-some}
-use Rattle.sets.proofs.Words.{and_none, or_l, or_r, sub-le, both_ways}
+use Rattle.sets.proofs.Words.{and_none, or_l, or_r, sub-le}
 use Rattle.masks.specs.declared.Masks.{Masks}
 use Rattle.sets.specs.declared.Pair.{Pair}
 use Rattle.masks.specs.Views.{Alike, masks_at, Fires, from_at, to_at, Counts, Lined, Step, rank, line, Leads, step, chain, Uncrossed}

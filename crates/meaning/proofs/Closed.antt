@@ -17,7 +17,7 @@ use Rattle.meaning.specs.Literals.{Literal, pos, neg, Conclusions, is_in, ◌∈
 use Rattle.meaning.specs.Rules.{Rule}
 use Rattle.meaning.specs.AnswerSets.{Given, Closed, Minimal, Least, OneHead}
 use Rattle.meaning.specs.Twins.Closure.{add_heads, Fired, nothing, fires, keep_back, take_out, close_by, empty, closure}
-use Rattle.meaning.proofs.Members.{add-keeps, add-has, add-only, At, subset-same}
+use Rattle.meaning.proofs.Members.{add-keeps, add-has, add-only, At}
 
 -- The rule's needed entries are all in t.
 abbrev pub Ready : Conclusions → Rule → Type 0

@@ -7,9 +7,9 @@ use Prim.Native.Nat.{ℕ}
 use lib.Dec.{eqb}
 use Rattle.logic.specs.Lists.{Among, Some}
 use Rattle.logic.specs.Tests.{Decides, cons_if, keep, some}
-use Rattle.logic.proofs.Decide.{clash, decides-both, decides_eq, decides-some, holds, reworded}
-use Rattle.logic.proofs.Members.{among-either, among-left, among-right, every-at, keep-in, keep-only, kept_from}
-use Rattle.sets.specs.Sets.{Contained, ProperSubset, member}
+use Rattle.logic.proofs.Decide.{decides-both, decides_eq, decides-some, holds, reworded}
+use Rattle.logic.proofs.Members.{among-either, among-left, every-at, keep-in, keep-only, kept_from}
+use Rattle.sets.specs.Sets.{Contained, ProperSubset}
 use Rattle.sets.specs.declared.Pair.{Pair}
 use Rattle.meaning.specs.Literals.{Conclusions}
 use Rattle.meaning.specs.Rules.{Satisfied, satisfied}

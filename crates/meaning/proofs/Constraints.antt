@@ -9,8 +9,8 @@ use Rattle.logic.specs.Tests.{cons_if}
 use Rattle.sets.specs.declared.Pair.{Pair}
 use Rattle.meaning.specs.Literals.{Conclusions}
 use Rattle.meaning.specs.Rules.{Body, Rule, Satisfied}
-use Rattle.meaning.specs.AnswerSets.{some_in, struck, reduct, Closed, Minimal, Breaks, AnswerSet}
-use Rattle.meaning.specs.Books.{Book, Lawful, conclusions, applied}
+use Rattle.meaning.specs.AnswerSets.{some_in, struck, reduct, Closed, Breaks, AnswerSet}
+use Rattle.meaning.specs.Books.{Book, conclusions, applied}
 use Rattle.meaning.specs.Views.{Answers, View}
 
 -- The constraint with this body.

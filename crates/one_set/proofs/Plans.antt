@@ -1,18 +1,17 @@
 -- Which sets of exceptions a resolution can have: one that no view has, that lies above a view's set, or that a view's set outranks, it cannot;
 -- and the views of an admissible set are resolutions.
-use Rattle.std.proofs.Common.{◌≡◌, ℕ, ◌+◌, ◌^◌, ◌<◌, ◌≤◌, Bool, true, false, not, eqb, List, length, get_or, sym, refl, ◌∙◌, ⊎_elim, le_trans, le_refl, arith, eqb-true}
-use borrow.Author.Tests.{eqb-false, not-true, not-false}
+use Rattle.std.proofs.Common.{◌≡◌, ℕ, ◌+◌, ◌^◌, ◌<◌, ◌≤◌, Bool, true, false, List, length, sym, refl, ◌∙◌, ⊎_elim, le_trans, le_refl, arith}
 use Rattle.logic.specs.Tests.{Decides}
 use Rattle.logic.proofs.Decide.{clash, holds-or-not, decides_eq}
 use Rattle.sets.specs.declared.Pair.{Pair}
 use Rattle.sets.specs.Sets.{bit_of, Contained, Within}
 use Rattle.sets.proofs.Digits.{bit-lt, bit-zero}
-use Rattle.sets.proofs.Words.{within-contained, both_ways, off-sub, none-off, zero_minus}
+use Rattle.sets.proofs.Words.{within-contained, both_ways, off-sub, none-off}
 use Rattle.sets.proofs.Pairs.{sub_trans}
 use Rattle.masks.specs.declared.Bounds.{Bounds}
 use Rattle.masks.specs.Views.{Lined, MaskView}
 use Rattle.bounds.specs.Sound.{In, Propagated, with_sets}
-use Rattle.bounds.proofs.Ranges.{in-sets, in-root, set-above, set_below, one_set}
+use Rattle.bounds.proofs.Ranges.{in-sets, in-root, one_set}
 use Rattle.page.specs.Pages.{pairs_in}
 use Rattle.few.specs.Few.{Collected}
 use Rattle.admissible.specs.Admissible.{Undominated, Admissible, Stands, Unexceeded}

@@ -1,13 +1,11 @@
 -- One set of exceptions: what is put on the page of the resolutions that have it, and what its marks and the memory say afterwards.
-use Rattle.std.proofs.Common.{◌≡◌, ℕ, zero, suc, ◌+◌, ◌-◌, ◌^◌, ◌<◌, ◌≤◌, Bool, true, false, not, ◌⊎◌, ◌↔◌, List, [], ◌∷◌, ◌++◌, length, take, sym, refl, ◌∙◌, inl, inr, ⊎_elim, le_trans, le_refl, arith}
+use Rattle.std.proofs.Common.{◌≡◌, ℕ, zero, suc, ◌+◌, ◌-◌, ◌^◌, ◌<◌, ◌≤◌, Bool, true, false, not, ◌⊎◌, ◌↔◌, List, [], ◌∷◌, ◌++◌, length, take, sym, refl, ◌∙◌, ⊎_elim, le_refl, arith}
 use borrow.Author.Tests.{not-true, not-false}
 use Rattle.logic.specs.Lists.{Among}
 use Rattle.logic.specs.Tests.{Decides}
 use Rattle.logic.proofs.Decide.{clash, either_way, reworded}
 use Rattle.logic.proofs.Members.{every-at}
 use Rattle.sets.specs.declared.Pair.{Pair}
-use Rattle.sets.specs.Sets.{Contained, Within}
-use Rattle.sets.proofs.Words.{both_ways, none-off, off-sub}
 use Rattle.masks.specs.declared.Bounds.{Bounds}
 use Rattle.masks.specs.Views.{Lined, MaskView}
 use Rattle.bounds.specs.Sound.{In, Propagated, with_sets}
@@ -18,21 +16,17 @@ use Rattle.page.specs.Orders.{bare, list_from, PartOf, Begins}
 use Rattle.page.specs.Pages.{Page, Listed}
 use Rattle.page.proofs.Pages.{page-none}
 use Rattle.page.proofs.Listed.{begins-start, list-is-part, all_listed, part-of-listing}
-use Rattle.few.specs.Few.{Collected, AllListed}
+use Rattle.few.specs.Few.{AllListed}
 use Rattle.meaning.specs.Books.{Book, Lawful}
 use Rattle.meaning.specs.Views.{View}
-use Rattle.meaning.specs.Resolutions.{Dominated, Resolution}
+use Rattle.meaning.specs.Resolutions.{Resolution}
 use Rattle.meaning.specs.Order.{Point, start, Later}
 use Rattle.meaning.specs.Twins.Verdicts.{view}
 use Rattle.meaning.proofs.Twins.{decides-view}
 use Rattle.meaning.proofs.Parts.{Part, part_none}
 use Rattle.bridge.proofs.Views.{view-same}
-use Rattle.resolution.specs.Rooted.{Rooted}
 use Rattle.resolution.proofs.Resolutions.{resolution-stands, undominated-stands}
-use Rattle.marking.specs.declared.Strike.{Strike}
-use Rattle.marking.specs.Marks.{marks_in, IsMarked, Struck, shares, between, Marked, NoneAt, RightMarks, all_ones, Surpassed}
-use Rattle.marking.proofs.Marks.{right-more}
-use Rattle.marking.proofs.Steps.{all-within}
+use Rattle.marking.specs.Marks.{IsMarked, Struck, Marked, NoneAt, RightMarks, all_ones, Surpassed}
 use Rattle.ranges.specs.Ranges.{NoView}
 use Rattle.standing.specs.Standing.{Right, StandingView}
 use Rattle.sifting.specs.Sifted.{Serves, Asked, AllSifted}

@@ -1,6 +1,6 @@
 -- Each return of the search makes the page that was promised.
 -- A settled pair is listed if it passes; the values tried one after the other list what their statement lists.
-use Rattle.std.proofs.Common.{◌≡◌, ℕ, zero, suc, ◌+◌, ◌-◌, ◌*◌, ◌<◌, ◌≤◌, Bool, true, false, not, List, [], ◌∷◌, ◌++◌, length, refl, sub-one, arith}
+use Rattle.std.proofs.Common.{◌≡◌, ℕ, zero, suc, ◌+◌, ◌-◌, ◌*◌, ◌<◌, ◌≤◌, Bool, true, false, List, [], ◌∷◌, ◌++◌, length, refl, sub-one, arith}
 use lib.Seq.{sets}
 use Rattle.logic.specs.Tests.{Decides, both, pick, keep, cons_if}
 use Rattle.logic.proofs.Decide.{holds, fails, is}

@@ -8,7 +8,7 @@ use native.Mathlib.Omega.{arith}
 use Rattle.logic.specs.Tests.{Decides}
 use Rattle.logic.proofs.Decide.{clash}
 use Rattle.sets.specs.declared.Pair.{Pair}
-use Rattle.sets.specs.Pairs.{Sub, join_of, meet_of, minus_of, Off}
+use Rattle.sets.specs.Pairs.{Sub, join_of, meet_of, minus_of}
 use Rattle.sets.proofs.Pairs.{sub_refl, meet-r, off-sub, sub_trans, sub-minus, join-l, join-r, join-sub, minus-sub, minus-off, off-sym}
 use Rattle.masks.specs.declared.Bounds.{Bounds}
 use Rattle.masks.specs.Views.{MaskView}

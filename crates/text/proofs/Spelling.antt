@@ -9,12 +9,12 @@ use Prim.Native.Nat.{ℕ, zero, suc, ◌+◌, ◌-◌, ◌*◌, ◌/◌, ◌%◌
 use native.Mathlib.Nat.{mod-lt}
 use native.Mathlib.Omega.{arith}
 use lib.Dec.{eqb, ltb, leb}
-use lib.IntN.{ℤ, pos, negsuc}
+use lib.IntN.{ℤ}
 use lib.ListN.{get_or}
 use borrow.Author.Tests.{eqb-true, leb-true, le-leb, ltb-true}
 use Rattle.logic.specs.Tests.{both, either, pick, every, some}
 use Rattle.logic.proofs.Decide.{clash}
-use Rattle.logic.proofs.Tests.{both_left, both_right, either_true, agree, agreed, all, all-at}
+use Rattle.logic.proofs.Tests.{both_left, both_right, either_true, agreed, all, all-at}
 use Rattle.text.specs.declared.Field.{Field}
 use Rattle.text.specs.declared.Field.TheVariants.{Value, Misspelt}
 use Rattle.text.specs.Fields.{column_of, in_columns, columns, written, digit_of, size_of, minus_in, signed, same, is_space, is_minus, is_digit, some_from, some_byte, other_byte, stray_byte, stray, space_after_digit, gapped, leading_zero, wrong_zero, misspelling, Misspells, is_stray, is_gapped, is_wrong_zero, Short, WellSpelt, read_columns, is_number, spelt, first_field}

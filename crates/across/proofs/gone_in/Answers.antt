@@ -1,5 +1,4 @@
 use Rattle.across.proofs.Across.{gone-is, gone-not}
-use borrow.Author.Rules.{rules}
 use Rattle.across.proofs.gone_in.Goals as goal
 
 pub returns-in-Point : goal.returns-in-Point

@@ -1,7 +1,7 @@
 use Prim.Native.Nat.{◌-◌, ◌≤◌}
 use native.Mathlib.Omega.{arith}
 use borrow.Author.Rules.{rules}
-use Rattle.admissible.proofs.Subsets.{MinimalTo, minimal-lost, minimal-turn, minimal-won}
+use Rattle.admissible.proofs.Subsets.{minimal-lost, minimal-turn, minimal-won}
 use Rattle.admissible.proofs.each_needed.Goals as goal
 
 pub loop-e-init : goal.loop-e-init

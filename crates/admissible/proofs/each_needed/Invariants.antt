@@ -1,7 +1,5 @@
 use Prim.Native.Nat.{◌-◌, ◌≤◌}
-use native.Mathlib.Omega.{arith}
-use borrow.Author.Rules.{rules}
-use Rattle.admissible.proofs.Subsets.{MinimalTo, minimal-lost, minimal-turn, minimal-won}
+use Rattle.admissible.proofs.Subsets.{MinimalTo}
 use Rattle.admissible.proofs.each_needed.Given as goal
 
 abbrev pub invariant-loop-e : goal.invariant-loop-e

@@ -1,5 +1,4 @@
 use Rattle.admissible.proofs.Subsets.{minimal-beneath}
-use borrow.Author.Rules.{rules}
 use Rattle.admissible.proofs.minimal.Goals as goal
 
 pub returns : goal.returns

@@ -1,8 +1,7 @@
 use Prim.Native.Nat.{◌-◌, ◌≤◌}
 use native.Mathlib.Omega.{arith}
 use borrow.Author.Rules.{rules}
-use lib.ListN.{length}
-use Rattle.admissible.proofs.Superiors.{UndominatedTo, undominated-turn, undominated-lost, undominated-won}
+use Rattle.admissible.proofs.Superiors.{undominated-turn, undominated-lost, undominated-won}
 use Rattle.admissible.proofs.undominated.Goals as goal
 
 pub loop-a-init : goal.loop-a-init

@@ -1,8 +1,6 @@
 use Prim.Native.Nat.{◌-◌, ◌≤◌}
-use native.Mathlib.Omega.{arith}
-use borrow.Author.Rules.{rules}
 use lib.ListN.{length}
-use Rattle.admissible.proofs.Superiors.{UndominatedTo, undominated-turn, undominated-lost, undominated-won}
+use Rattle.admissible.proofs.Superiors.{UndominatedTo}
 use Rattle.admissible.proofs.undominated.Given as goal
 
 abbrev pub invariant-loop-a : goal.invariant-loop-a

@@ -2,8 +2,7 @@ use mathlib.Core.Path.{refl, ap, ◌∙◌}
 use Rattle.answers.proofs.Means.{after-means}
 use Rattle.across.proofs.Across.{answer-across}
 use Rattle.across.specs.Across.{answer_in}
-use borrow.Author.Rules.{rules}
 use Rattle.bantameasel.proofs.bantameasel_after.Goals as goal
 
 pub returns : goal.returns
-returns c = answer-across _ _ _ ((after-means _ _ _).0 refl) _ (c.pair_in.ensures ∙ ap answer_in c.after.ensures.0)
+returns c = let whole = answer-across _ _ _ ((after-means _ _ _).0 refl) _ (c.pair_in.ensures ∙ ap answer_in c.after.ensures.0) in record { value = whole.0; means = whole.1 }

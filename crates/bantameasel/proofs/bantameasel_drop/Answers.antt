@@ -1,6 +1,5 @@
 use Rattle.across.proofs.Across.{done-across}
 use Rattle.points.specs.Points.{Drops}
-use borrow.Author.Rules.{rules}
 use Rattle.bantameasel.proofs.bantameasel_drop.Goals as goal
 
 pub returns : goal.returns

@@ -2,8 +2,7 @@ use mathlib.Core.Path.{refl, ap, ◌∙◌}
 use Rattle.answers.proofs.Means.{judge-means}
 use Rattle.across.proofs.Across.{verdict-across}
 use Rattle.across.specs.Across.{verdict_in}
-use borrow.Author.Rules.{rules}
 use Rattle.bantameasel.proofs.bantameasel_judge.Goals as goal
 
 pub returns : goal.returns
-returns c = verdict-across _ _ _ ((judge-means _ _ _).0 refl) _ (c.verdict_in.ensures ∙ ap verdict_in c.judge.ensures.0)
+returns c = let whole = verdict-across _ _ _ ((judge-means _ _ _).0 refl) _ (c.verdict_in.ensures ∙ ap verdict_in c.judge.ensures.0) in record { value = whole.0; means = whole.1 }

@@ -1,6 +1,5 @@
 use Rattle.across.proofs.Across.{done-across}
 use Rattle.points.specs.Points.{Sets}
-use borrow.Author.Rules.{rules}
 use Rattle.bantameasel.proofs.bantameasel_set.Goals as goal
 
 pub returns : goal.returns

@@ -1,4 +1,3 @@
-use borrow.Author.Rules.{rules}
 use Rattle.book.proofs.Counts.{count-is}
 use Rattle.book.proofs.count_of.Goals as goal
 

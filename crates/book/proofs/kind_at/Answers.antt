@@ -1,6 +1,5 @@
 use Rattle.book.specs.Kinds.{kinds, kind, unknown}
 use mathlib.Core.Path.{refl}
-use borrow.Author.Rules.{rules}
 use Rattle.book.proofs.kind_at.Goals as goal
 
 pub returns : goal.returns

@@ -1,5 +1,4 @@
 use mathlib.Core.Path.{ap}
-use borrow.Author.Rules.{rules}
 use Rattle.book.specs.declared.Kind.{Kind}
 use Rattle.book.proofs.letter_at.Goals as goal
 

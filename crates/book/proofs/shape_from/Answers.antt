@@ -1,5 +1,4 @@
 use mathlib.Core.Path.{refl}
-use borrow.Author.Rules.{rules}
 use Rattle.book.specs.Counts.{shape_from}
 use Rattle.book.proofs.shape_from.Goals as goal
 

@@ -2,7 +2,7 @@ use Prim.Native.Nat.{◌-◌, ◌≤◌}
 use mathlib.Core.Path.{◌≡◌}
 use native.Mathlib.Omega.{arith}
 use borrow.Author.Rules.{rules}
-use Rattle.book.specs.Counts.{sum_to, measured}
+use Rattle.book.specs.Counts.{measured}
 use Rattle.book.proofs.Counts.{measured-most, sum-none, sum-next, sum-small, sum-end}
 use Rattle.book.proofs.sum_to.Goals as goal
 

@@ -1,5 +1,4 @@
 use Rattle.bounds.proofs.Steps.{cohere}
-use borrow.Author.Rules.{rules}
 use Rattle.bounds.proofs.coheres.Goals as goal
 
 pub returns : goal.returns

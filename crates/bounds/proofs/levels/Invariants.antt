@@ -1,9 +1,6 @@
 use Prim.Native.Nat.{◌-◌, ◌≤◌}
-use native.Mathlib.Omega.{arith}
-use borrow.Author.Rules.{rules}
 use lib.ListN.{length}
 use Rattle.bounds.specs.Sound.{Keeps, Levelled}
-use Rattle.bounds.proofs.Steps.{keeps_same, levels-turn}
 use Rattle.bounds.proofs.levels.Given as goal
 
 abbrev pub invariant-loop-a : goal.invariant-loop-a

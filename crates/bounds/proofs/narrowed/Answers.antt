@@ -1,5 +1,4 @@
 use Rattle.bounds.proofs.Steps.{narrow-is}
-use borrow.Author.Rules.{rules}
 use Rattle.bounds.proofs.narrowed.Goals as goal
 
 pub returns : goal.returns

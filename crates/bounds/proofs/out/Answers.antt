@@ -1,5 +1,4 @@
 use Rattle.bounds.proofs.Steps.{out-is}
-use borrow.Author.Rules.{rules}
 use Rattle.bounds.proofs.out.Goals as goal
 
 pub returns : goal.returns

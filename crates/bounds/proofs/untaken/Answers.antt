@@ -1,5 +1,4 @@
 use Rattle.bounds.proofs.Steps.{idle-untaken}
-use borrow.Author.Rules.{rules}
 use Rattle.bounds.proofs.untaken.Goals as goal
 
 pub returns : goal.returns

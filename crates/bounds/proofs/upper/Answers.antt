@@ -1,5 +1,4 @@
 use Rattle.bounds.proofs.Steps.{upper-bound}
-use borrow.Author.Rules.{rules}
 use Rattle.bounds.proofs.upper.Goals as goal
 
 pub returns : goal.returns

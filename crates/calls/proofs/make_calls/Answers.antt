@@ -1,10 +1,8 @@
 use native.Mathlib.Omega.{arith}
-use borrow.Author.Rules.{rules}
 use native.Mathlib.Nat.{div-mul-le_self}
 use Prim.Native.Nat.{◌-◌, ◌≤◌}
 use mathlib.Core.Path.{◌≡◌, refl, ◌∙◌}
 use lib.ListN.{length}
-use Rattle.calls.specs.Calls.{as_point, Makes}
 use Rattle.calls.proofs.Calls.{makes_none, makes-more, makes-all, one-most}
 use Rattle.calls.proofs.make_calls.Goals as goal
 

@@ -2,7 +2,6 @@ use native.Mathlib.Omega.{arith}
 use Prim.Native.Nat.{◌*◌}
 use lib.ListN.{length-set}
 use Rattle.calls.proofs.Calls.{four-put}
-use borrow.Author.Rules.{rules}
 use Rattle.calls.proofs.put_row.Goals as goal
 
 pub bounds-out-i-2 : goal.bounds-out-i-2

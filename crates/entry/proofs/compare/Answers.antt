@@ -1,4 +1,4 @@
-use Rattle.entry.proofs.Leaves.{Compared, compare-start, compare-less, compare-more, compare-next, compare-end}
+use Rattle.entry.proofs.Leaves.{compare-start, compare-less, compare-more, compare-next, compare-end}
 use borrow.Author.Rules.{rules}
 use native.Mathlib.Omega.{arith}
 use Prim.Native.Nat.{◌≤◌, ◌-◌}

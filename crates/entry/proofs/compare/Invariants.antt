@@ -1,6 +1,4 @@
-use Rattle.entry.proofs.Leaves.{Compared, compare-start, compare-less, compare-more, compare-next, compare-end}
-use borrow.Author.Rules.{rules}
-use native.Mathlib.Omega.{arith}
+use Rattle.entry.proofs.Leaves.{Compared}
 use Prim.Native.Nat.{◌≤◌, ◌-◌}
 use Rattle.entry.proofs.compare.Given as goal
 

@@ -1,9 +1,9 @@
-use Rattle.entry.proofs.Leaves.{CopyLeft, copy_start, copy-next, copy-end}
+use Rattle.entry.proofs.Leaves.{copy_start, copy-next, copy-end}
 use borrow.Author.Rules.{rules}
 use native.Mathlib.Omega.{arith}
 use Prim.Native.Nat.{◌≤◌, ◌-◌}
 use mathlib.Core.Path.{◌≡◌, refl}
-use lib.ListN.{length, length-set}
+use lib.ListN.{length-set}
 use Rattle.entry.proofs.copy.Goals as goal
 
 pub loop-i-init : goal.loop-i-init

@@ -1,5 +1,5 @@
 use borrow.Author.Tests.{not-true, not-false}
-use Rattle.entry.proofs.Leaves.{Chained, name-none, chain-start, chain_next, chain-none, chain-end}
+use Rattle.entry.proofs.Leaves.{name-none, chain-start, chain_next, chain-none, chain-end}
 use borrow.Author.Rules.{rules}
 use native.Mathlib.Omega.{arith}
 use Prim.Native.Nat.{◌≤◌, ◌-◌}

@@ -1,7 +1,4 @@
-use borrow.Author.Tests.{not-true, not-false}
-use Rattle.entry.proofs.Leaves.{Chained, name-none, chain-start, chain_next, chain-none, chain-end}
-use borrow.Author.Rules.{rules}
-use native.Mathlib.Omega.{arith}
+use Rattle.entry.proofs.Leaves.{Chained}
 use Prim.Native.Nat.{◌≤◌, ◌-◌}
 use Rattle.entry.proofs.is_name.Given as goal
 

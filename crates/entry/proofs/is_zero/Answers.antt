@@ -1,8 +1,7 @@
-use Rattle.entry.proofs.Leaves.{Zeros, zeros-start, zeros-none, zeros-next, zeros-end}
+use Rattle.entry.proofs.Leaves.{zeros-start, zeros-none, zeros-next, zeros-end}
 use borrow.Author.Rules.{rules}
 use native.Mathlib.Omega.{arith}
 use Prim.Native.Nat.{◌-◌}
-use lib.ListN.{length}
 use Rattle.entry.proofs.is_zero.Goals as goal
 
 pub loop-i-init : goal.loop-i-init

@@ -1,6 +1,4 @@
-use Rattle.entry.proofs.Leaves.{Zeros, zeros-start, zeros-none, zeros-next, zeros-end}
-use borrow.Author.Rules.{rules}
-use native.Mathlib.Omega.{arith}
+use Rattle.entry.proofs.Leaves.{Zeros}
 use Prim.Native.Nat.{◌-◌}
 use lib.ListN.{length}
 use Rattle.entry.proofs.is_zero.Given as goal

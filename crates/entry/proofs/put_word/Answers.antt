@@ -1,9 +1,9 @@
-use Rattle.entry.proofs.Leaves.{WordLeft, word-start, word_next, word_end}
+use Rattle.entry.proofs.Leaves.{word-start, word_next, word_end}
 use borrow.Author.Rules.{rules}
 use native.Mathlib.Omega.{arith}
 use Prim.Native.Nat.{◌≤◌, ◌-◌}
 use mathlib.Core.Path.{◌≡◌, refl}
-use lib.ListN.{length, length-set}
+use lib.ListN.{length-set}
 use Rattle.entry.proofs.put_word.Goals as goal
 
 pub loop-i-init : goal.loop-i-init

@@ -1,9 +1,8 @@
 use borrow.Author.Rules.{rules}
 use native.Mathlib.Omega.{arith}
-use Rattle.bounds.proofs.Halves.{room}
 use Rattle.probe.proofs.Halves.{out-less, into_less}
 use Rattle.few.proofs.Gathering.{store-again, gathered-full, gathered-dry, gathered-view, gathered-empty, gathered-both}
-use Prim.Native.Nat.{ℕ, ◌<◌}
+use Prim.Native.Nat.{◌<◌}
 use Rattle.few.proofs.+gather.Goals as goal
 
 pub returns-then-cap-k : goal.returns-then-cap-k

@@ -1,7 +1,5 @@
 use Prim.Native.Nat.{◌-◌}
-use borrow.Author.Rules.{rules}
 use Rattle.few.specs.Few.{FirstOf}
-use Rattle.few.proofs.Sorting.{first-none, first-all}
 use Rattle.few.proofs.first_later.Given as goal
 
 abbrev pub invariant-loop-i : goal.invariant-loop-i

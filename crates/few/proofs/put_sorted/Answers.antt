@@ -1,8 +1,7 @@
 use Prim.Native.Nat.{◌-◌}
 use mathlib.Core.Path.{◌≡◌}
-use lib.ListN.{length}
 use borrow.Author.Rules.{rules}
-use Rattle.few.proofs.Sorting.{Putting, putting-none, putting-next, put_all, put_full}
+use Rattle.few.proofs.Sorting.{putting-none, putting-next, put_all, put_full}
 use Rattle.few.proofs.put_sorted.Goals as goal
 
 pub loop-place-init : goal.loop-place-init

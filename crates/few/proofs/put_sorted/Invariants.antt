@@ -1,8 +1,7 @@
 use Prim.Native.Nat.{◌-◌}
 use mathlib.Core.Path.{◌≡◌}
 use lib.ListN.{length}
-use borrow.Author.Rules.{rules}
-use Rattle.few.proofs.Sorting.{Putting, putting-none, putting-next, put_all, put_full}
+use Rattle.few.proofs.Sorting.{Putting}
 use Rattle.few.proofs.put_sorted.Given as goal
 
 abbrev pub invariant-loop-place : goal.invariant-loop-place

@@ -1,5 +1,4 @@
 use Rattle.few.proofs.Comparing.{sooner-of}
-use borrow.Author.Rules.{rules}
 use Rattle.few.proofs.sooner_at.Goals as goal
 
 pub returns : goal.returns

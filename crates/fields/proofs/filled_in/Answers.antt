@@ -1,7 +1,7 @@
 use native.Mathlib.Omega.{arith}
 use borrow.Author.Rules.{rules}
 use borrow.Author.Tests.{not-true, not-false}
-use Rattle.fields.proofs.Filled.{Filled, filled-start, filled_more, filled-same, filled-end}
+use Rattle.fields.proofs.Filled.{filled-start, filled_more, filled-same, filled-end}
 use Rattle.fields.proofs.filled_in.Goals as goal
 
 pub loop-i-init : goal.loop-i-init

@@ -1,7 +1,4 @@
-use native.Mathlib.Omega.{arith}
-use borrow.Author.Rules.{rules}
-use borrow.Author.Tests.{not-true, not-false}
-use Rattle.fields.proofs.Filled.{Filled, filled-start, filled_more, filled-same, filled-end}
+use Rattle.fields.proofs.Filled.{Filled}
 use Rattle.fields.proofs.filled_in.Given as goal
 
 abbrev pub invariant-loop-i : goal.invariant-loop-i

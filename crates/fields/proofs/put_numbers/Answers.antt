@@ -3,9 +3,9 @@ use native.Mathlib.Omega.{arith}
 use borrow.Author.Rules.{rules}
 use mathlib.Core.Path.{◌∙◌}
 use Prim.Native.Nat.{◌+◌, ◌-◌, ◌*◌}
-use Rattle.logic.proofs.Stores.{Putting, putting-start, putting-next, putting-end}
+use Rattle.logic.proofs.Stores.{putting-start, putting-next, putting-end}
 use Rattle.text.proofs.Fields.{field-length}
-use Rattle.fields.proofs.Puts.{field_at, fields-are, short_back}
+use Rattle.fields.proofs.Puts.{fields-are, short_back}
 use Rattle.fields.proofs.put_numbers.Goals as goal
 
 pub loop-i-init : goal.loop-i-init

@@ -1,11 +1,7 @@
-use Rattle.fields.proofs.Columns.{back-same}
-use native.Mathlib.Omega.{arith}
-use borrow.Author.Rules.{rules}
 use mathlib.Core.Path.{◌∙◌}
 use Prim.Native.Nat.{◌+◌, ◌-◌, ◌*◌}
-use Rattle.logic.proofs.Stores.{Putting, putting-start, putting-next, putting-end}
-use Rattle.text.proofs.Fields.{field-length}
-use Rattle.fields.proofs.Puts.{field_at, fields-are, short_back}
+use Rattle.logic.proofs.Stores.{Putting}
+use Rattle.fields.proofs.Puts.{field_at}
 use Rattle.fields.proofs.put_numbers.Given as goal
 
 abbrev pub invariant-loop-i : goal.invariant-loop-i

@@ -1,6 +1,5 @@
 use mathlib.Core.Path.{sym, ◌∙◌}
 use Rattle.fields.proofs.Columns.{at-columns}
-use borrow.Author.Rules.{rules}
 use Rattle.fields.proofs.read_field.Goals as goal
 
 pub returns : goal.returns

@@ -1,8 +1,7 @@
 use borrow.Author.Rules.{rules}
 use native.Mathlib.Omega.{arith}
-use Rattle.bounds.proofs.Halves.{room}
 use Rattle.least.proofs.Looks.{out-less, into_less, alone-whole, alone-less, alone-out, alone-into}
-use Prim.Native.Nat.{ℕ, ◌<◌}
+use Prim.Native.Nat.{◌<◌}
 use Rattle.least.proofs.+alone.Goals as goal
 
 pub alone-requires : goal.alone-requires

@@ -1,7 +1,7 @@
 use borrow.Author.Rules.{rules}
 use Prim.Native.Nat.{◌≤◌}
 use native.Mathlib.Omega.{arith}
-use Rattle.least.proofs.Steps.{AnswersFrom, answers-none, answers-turn, asking-here, asking-none}
+use Rattle.least.proofs.Steps.{answers-none, answers-turn, asking-here, asking-none}
 use Rattle.least.proofs.asking.Goals as goal
 
 pub loop-k-init : goal.loop-k-init

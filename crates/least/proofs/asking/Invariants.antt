@@ -1,7 +1,5 @@
-use borrow.Author.Rules.{rules}
 use Prim.Native.Nat.{◌≤◌}
-use native.Mathlib.Omega.{arith}
-use Rattle.least.proofs.Steps.{AnswersFrom, answers-none, answers-turn, asking-here, asking-none}
+use Rattle.least.proofs.Steps.{AnswersFrom}
 use Rattle.least.proofs.asking.Given as goal
 
 abbrev pub invariant-loop-k : goal.invariant-loop-k

@@ -1,5 +1,4 @@
 use Rattle.least.proofs.Laws.{founded-alone}
-use borrow.Author.Rules.{rules}
 use Rattle.least.proofs.founded.Goals as goal
 
 pub returns : goal.returns

@@ -1,9 +1,6 @@
-use borrow.Author.Rules.{rules}
 use Prim.Native.Nat.{◌-◌, ◌≤◌}
 use native.Mathlib.Omega.{arith}
-use Rattle.bounds.specs.Sound.{Keeps}
 use Rattle.bounds.proofs.Steps.{keeps_same, keeps_then}
-use Rattle.least.specs.Rows.{AnswersRows}
 use Rattle.least.proofs.Steps.{by_row}
 use Rattle.least.proofs.pass.Goals as goal
 

@@ -1,5 +1,4 @@
 use Rattle.line.proofs.Whole.{part-is, part-long}
-use borrow.Author.Rules.{rules}
 use Rattle.line.proofs.line_part.Goals as goal
 
 pub slice_bounds-result-end : goal.slice_bounds-result-end

@@ -1,7 +1,6 @@
 use native.Mathlib.Omega.{arith}
 use lib.ListN.{length-set}
 use Rattle.line.proofs.PutLaws.{count-short, line-put}
-use borrow.Author.Rules.{rules}
 use Rattle.line.proofs.put_line.Goals as goal
 
 pub put_columns-requires : goal.put_columns-requires
@@ -10,27 +9,27 @@ put_columns-requires c = (count-short _ _ c.size.ensures, simp length-set (omega
 pub put_taken-requires : goal.put_taken-requires
 put_taken-requires c =
     let put-columns = c.put_columns in
-    omega (arith, simp length-set at put-columns.auto.0)
+    omega (arith, simp length-set at put-columns.auto.buf)
 
 pub put_marks-requires : goal.put_marks-requires
 put_marks-requires c =
     let put-taken = c.put_taken in
     let put-columns = c.put_columns in
-    (omega arith, omega (arith, simp length-set at put-columns.auto.0, put-taken.auto.0))
+    (omega arith, omega (arith, simp length-set at put-columns.auto.buf, put-taken.auto.buf))
 
 pub bounds-buf-marks : goal.bounds-buf-marks
 bounds-buf-marks c =
     let put-marks = c.put_marks in
     let put-taken = c.put_taken in
     let put-columns = c.put_columns in
-    omega (arith, simp length-set at put-columns.auto.0, put-taken.auto.0, put-marks.auto.0)
+    omega (arith, simp length-set at put-columns.auto.buf, put-taken.auto.buf, put-marks.auto.buf)
 
 pub shape_of-buf : goal.shape_of-buf
 shape_of-buf c =
     let put-marks = c.put_marks in
     let put-taken = c.put_taken in
     let put-columns = c.put_columns in
-    simp length-set (omega (arith, simp length-set at put-columns.auto.0, put-taken.auto.0, put-marks.auto.0))
+    simp length-set (omega (arith, simp length-set at put-columns.auto.buf, put-taken.auto.buf, put-marks.auto.buf))
 
 pub returns : goal.returns
 returns c =

@@ -1,10 +1,9 @@
 use Prim.Native.Nat.{◌+◌, ◌-◌}
 use mathlib.Core.Path.{ap}
 use native.Mathlib.Omega.{arith}
-use borrow.Author.Rules.{rules}
 use lib.ListN.{set}
-use Rattle.logic.proofs.Stores.{Putting, putting-start, putting-next, putting-end}
-use Rattle.line.proofs.PutLaws.{mark_at, marks-are}
+use Rattle.logic.proofs.Stores.{putting-start, putting-next, putting-end}
+use Rattle.line.proofs.PutLaws.{marks-are}
 use Rattle.line.proofs.put_marks.Goals as goal
 
 pub loop-i-init : goal.loop-i-init

@@ -1,10 +1,6 @@
 use Prim.Native.Nat.{◌+◌, ◌-◌}
-use mathlib.Core.Path.{ap}
-use native.Mathlib.Omega.{arith}
-use borrow.Author.Rules.{rules}
-use lib.ListN.{set}
-use Rattle.logic.proofs.Stores.{Putting, putting-start, putting-next, putting-end}
-use Rattle.line.proofs.PutLaws.{mark_at, marks-are}
+use Rattle.logic.proofs.Stores.{Putting}
+use Rattle.line.proofs.PutLaws.{mark_at}
 use Rattle.line.proofs.put_marks.Given as goal
 
 abbrev pub invariant-loop-i : goal.invariant-loop-i

@@ -3,9 +3,9 @@ use mathlib.Core.Path.{◌∙◌}
 use mathlib.Core.Logic.{⊎_elim}
 use native.Mathlib.Omega.{arith}
 use borrow.Author.Rules.{rules}
-use Rattle.logic.proofs.Stores.{Putting, putting-start, putting-end}
+use Rattle.logic.proofs.Stores.{putting-start, putting-end}
 use Rattle.line.specs.Parts.{taken_of}
-use Rattle.line.proofs.PutLaws.{member_field, member-put, member-skipped, taken-are, fields-bytes}
+use Rattle.line.proofs.PutLaws.{member-put, member-skipped, taken-are, fields-bytes}
 use Rattle.line.proofs.put_members.Goals as goal
 
 pub loop-i-init : goal.loop-i-init

@@ -1,6 +1,5 @@
 use native.Mathlib.Omega.{arith}
 use Rattle.line.proofs.PutLaws.{taken-put}
-use borrow.Author.Rules.{rules}
 use Rattle.line.proofs.put_taken.Goals as goal
 
 pub overflow_mul-k : goal.overflow_mul-k

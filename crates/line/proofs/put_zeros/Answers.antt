@@ -1,9 +1,8 @@
 use Prim.Native.Nat.{◌+◌, ◌-◌, ◌*◌}
 use native.Mathlib.Omega.{arith}
-use borrow.Author.Rules.{rules}
-use Rattle.logic.proofs.Stores.{Putting, putting-start, putting-next, putting-end}
+use Rattle.logic.proofs.Stores.{putting-start, putting-next, putting-end}
 use Rattle.text.specs.Fields.{columns, in_columns}
-use Rattle.line.proofs.PutLaws.{zero_field, zeros-are}
+use Rattle.line.proofs.PutLaws.{zeros-are}
 use Rattle.line.proofs.put_zeros.Goals as goal
 
 pub loop-i-init : goal.loop-i-init

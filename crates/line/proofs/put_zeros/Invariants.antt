@@ -1,9 +1,6 @@
 use Prim.Native.Nat.{◌+◌, ◌-◌, ◌*◌}
-use native.Mathlib.Omega.{arith}
-use borrow.Author.Rules.{rules}
-use Rattle.logic.proofs.Stores.{Putting, putting-start, putting-next, putting-end}
-use Rattle.text.specs.Fields.{columns, in_columns}
-use Rattle.line.proofs.PutLaws.{zero_field, zeros-are}
+use Rattle.logic.proofs.Stores.{Putting}
+use Rattle.line.proofs.PutLaws.{zero_field}
 use Rattle.line.proofs.put_zeros.Given as goal
 
 abbrev pub invariant-loop-i : goal.invariant-loop-i

@@ -15,7 +15,7 @@ pub put_closing-requires : goal.put_closing-requires
 put_closing-requires c =
     let put-lines = c.put_lines-at in
     let args = c.args in
-    (omega (arith, at_most args.k part_lines args.w args.n (search rules) (search rules) (search rules), put-lines.ensures.1, put-lines.auto.0), omega arith)
+    (omega (arith, at_most args.k part_lines args.w args.n (search rules) (search rules) (search rules), put-lines.ensures.1, put-lines.auto.out), omega arith)
 
 pub overflow_add-result : goal.overflow_add-result
 overflow_add-result c =
@@ -27,4 +27,4 @@ pub returns : goal.returns
 returns c =
     let put-lines = c.put_lines-at in
     let put-closing = c.put_closing in
-    closes _ _ _ _ _ _ _ put-lines.ensures.0 put-lines.ensures.1 (search rules) (search rules) (search rules) (search rules) _ _ _ _ put-closing.ensures (omega (arith, put-lines.auto.0, put-closing.auto.0))
+    closes _ _ _ _ _ _ _ put-lines.ensures.0 put-lines.ensures.1 (search rules) (search rules) (search rules) (search rules) _ _ _ _ put-closing.ensures (omega (arith, put-lines.auto.out, put-closing.auto.out))

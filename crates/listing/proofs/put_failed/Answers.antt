@@ -1,7 +1,6 @@
 use Rattle.listing.proofs.Stores.{failed-put}
 use native.Mathlib.Omega.{arith}
 use lib.ListN.{length-set}
-use borrow.Author.Rules.{rules}
 use Rattle.listing.proofs.put_failed.Goals as goal
 
 pub put_columns-requires : goal.put_columns-requires

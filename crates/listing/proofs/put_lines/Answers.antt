@@ -2,10 +2,9 @@ use borrow.Author.Rules.{rules}
 use mathlib.Core.Path.{◌≡◌}
 use native.Mathlib.Omega.{arith}
 use Prim.Native.Nat.{◌-◌}
-use Rattle.logic.proofs.Stores.{Putting, putting-start, putting-next}
-use Rattle.line.specs.Parts.{line_bytes}
+use Rattle.logic.proofs.Stores.{putting-start, putting-next}
 use Rattle.line.proofs.PutLaws.{line-length}
-use Rattle.listing.proofs.Stores.{line_at, lines-room, lines-put}
+use Rattle.listing.proofs.Stores.{lines-room, lines-put}
 use Rattle.listing.proofs.put_lines.Goals as goal
 
 pub line_bytes-bytes-requires : goal.line_bytes-bytes-requires

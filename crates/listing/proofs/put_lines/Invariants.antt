@@ -1,11 +1,8 @@
-use borrow.Author.Rules.{rules}
 use mathlib.Core.Path.{◌≡◌}
-use native.Mathlib.Omega.{arith}
 use Prim.Native.Nat.{◌-◌}
-use Rattle.logic.proofs.Stores.{Putting, putting-start, putting-next}
+use Rattle.logic.proofs.Stores.{Putting}
 use Rattle.line.specs.Parts.{line_bytes}
-use Rattle.line.proofs.PutLaws.{line-length}
-use Rattle.listing.proofs.Stores.{line_at, lines-room, lines-put}
+use Rattle.listing.proofs.Stores.{line_at}
 use Rattle.listing.proofs.put_lines.Given as goal
 
 abbrev pub invariant-loop-i : goal.invariant-loop-i

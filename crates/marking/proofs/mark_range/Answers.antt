@@ -1,6 +1,5 @@
 use Rattle.std.proofs.Common.{◌-◌, ◌/◌, ◌<◌, arith, rules}
-use Rattle.marking.specs.Marks.{Marked, Spans}
-use Rattle.marking.proofs.Marks.{Reached, range-begins, range_none, range-more, range_all}
+use Rattle.marking.proofs.Marks.{range-begins, range_none, range-more, range_all}
 use Rattle.marking.proofs.mark_range.Goals as goal
 
 pub pattern-p-requires : goal.pattern-p-requires

@@ -1,6 +1,6 @@
-use Rattle.std.proofs.Common.{◌-◌, ◌/◌, ◌<◌, arith, rules}
+use Rattle.std.proofs.Common.{◌-◌, ◌/◌, ◌<◌}
 use Rattle.marking.specs.Marks.{Marked, Spans}
-use Rattle.marking.proofs.Marks.{Reached, range-begins, range_none, range-more, range_all}
+use Rattle.marking.proofs.Marks.{Reached}
 use Rattle.marking.proofs.mark_range.Given as goal
 
 abbrev pub invariant-loop-w : goal.invariant-loop-w

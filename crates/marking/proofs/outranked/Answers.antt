@@ -1,5 +1,5 @@
-use Rattle.std.proofs.Common.{◌-◌, ◌≤◌, length, arith, rules}
-use Rattle.marking.proofs.Marks.{Upto, none-upto, upto-more, upto_all}
+use Rattle.std.proofs.Common.{◌-◌, ◌≤◌, arith}
+use Rattle.marking.proofs.Marks.{none-upto, upto-more, upto_all}
 use Rattle.marking.proofs.outranked.Goals as goal
 
 pub loop-a-init : goal.loop-a-init

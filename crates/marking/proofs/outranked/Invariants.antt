@@ -1,5 +1,5 @@
-use Rattle.std.proofs.Common.{◌-◌, ◌≤◌, length, arith, rules}
-use Rattle.marking.proofs.Marks.{Upto, none-upto, upto-more, upto_all}
+use Rattle.std.proofs.Common.{◌-◌, ◌≤◌, length}
+use Rattle.marking.proofs.Marks.{Upto}
 use Rattle.marking.proofs.outranked.Given as goal
 
 abbrev pub invariant-loop-a : goal.invariant-loop-a

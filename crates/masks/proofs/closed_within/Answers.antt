@@ -1,10 +1,9 @@
-use Prim.Native.Nat.{ℕ, ◌-◌, ◌<◌, ◌≤◌}
+use Prim.Native.Nat.{◌-◌, ◌<◌, ◌≤◌}
 use native.Mathlib.Omega.{arith}
 use borrow.Author.Count.{below_more}
 use borrow.Author.Rules.{rules}
 use borrow.Author.Tests.{not-false}
 use Rattle.logic.proofs.Decide.{clash}
-use Rattle.masks.specs.Views.{MaskClosed}
 use Rattle.masks.proofs.Booleans.{granted}
 use Rattle.masks.proofs.closed_within.Goals as goal
 

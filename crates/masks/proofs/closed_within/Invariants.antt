@@ -1,11 +1,5 @@
-use Prim.Native.Nat.{ℕ, ◌-◌, ◌<◌, ◌≤◌}
-use native.Mathlib.Omega.{arith}
-use borrow.Author.Count.{below_more}
-use borrow.Author.Rules.{rules}
-use borrow.Author.Tests.{not-false}
-use Rattle.logic.proofs.Decide.{clash}
+use Prim.Native.Nat.{◌-◌, ◌<◌, ◌≤◌}
 use Rattle.masks.specs.Views.{MaskClosed}
-use Rattle.masks.proofs.Booleans.{granted}
 use Rattle.masks.proofs.closed_within.Given as goal
 
 abbrev pub invariant-loop-k : goal.invariant-loop-k

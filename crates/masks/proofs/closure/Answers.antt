@@ -2,9 +2,7 @@ use native.Mathlib.Nat.{le_refl}
 use native.Mathlib.Omega.{arith}
 use borrow.Author.Rules.{rules}
 use Prim.Native.Nat.{◌-◌, ◌*◌, ◌^◌}
-use Rattle.sets.specs.Sets.{Within}
-use Rattle.masks.proofs.Sums.{total}
-use Rattle.masks.proofs.Closures.{Below, first_below, next_start, next-below, closure-full, closure-least, pass-grows}
+use Rattle.masks.proofs.Closures.{first_below, next_start, next-below, closure-full, closure-least, pass-grows}
 use Rattle.masks.proofs.closure.Goals as goal
 
 pub loop-b-init : goal.loop-b-init

@@ -1,7 +1,5 @@
 use Prim.Native.Nat.{◌-◌, ◌≤◌}
 use native.Mathlib.Omega.{arith}
-use borrow.Author.Rules.{rules}
-use Rattle.masks.specs.Closures.{Beneath}
 use Rattle.masks.proofs.Closures.{beneath-again}
 use Rattle.masks.proofs.grow.Goals as goal
 

@@ -1,7 +1,5 @@
 use Prim.Native.Nat.{◌-◌, ◌≤◌}
 use native.Mathlib.Omega.{arith}
-use borrow.Author.Rules.{rules}
-use Rattle.masks.specs.Closures.{Beneath}
 use Rattle.masks.proofs.grown.Goals as goal
 
 pub loop-k-init : goal.loop-k-init

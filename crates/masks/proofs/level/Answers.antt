@@ -1,8 +1,7 @@
 use Prim.Native.Nat.{◌-◌, ◌≤◌}
 use native.Mathlib.Omega.{arith}
 use borrow.Author.Rules.{rules}
-use lib.ListN.{length}
-use Rattle.masks.proofs.Tests.{LevelTo, level-turn, level-lost, level-won}
+use Rattle.masks.proofs.Tests.{level-turn, level-lost, level-won}
 use Rattle.masks.proofs.level.Goals as goal
 
 pub loop-a-init : goal.loop-a-init

@@ -1,8 +1,6 @@
 use Prim.Native.Nat.{◌-◌, ◌≤◌}
-use native.Mathlib.Omega.{arith}
-use borrow.Author.Rules.{rules}
 use lib.ListN.{length}
-use Rattle.masks.proofs.Tests.{LevelTo, level-turn, level-lost, level-won}
+use Rattle.masks.proofs.Tests.{LevelTo}
 use Rattle.masks.proofs.level.Given as goal
 
 abbrev pub invariant-loop-a : goal.invariant-loop-a

@@ -1,6 +1,5 @@
 use mathlib.Core.Path.{refl}
 use Rattle.masks.specs.Views.{masks_at}
-use borrow.Author.Rules.{rules}
 use Rattle.masks.proofs.masks_at.Goals as goal
 
 pub returns : goal.returns

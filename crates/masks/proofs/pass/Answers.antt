@@ -1,7 +1,6 @@
 use Prim.Native.Nat.{◌-◌, ◌≤◌}
 use native.Mathlib.Omega.{arith}
 use borrow.Author.Rules.{rules}
-use Rattle.masks.specs.Closures.{Passed}
 use Rattle.masks.proofs.Closures.{pass-start, pass-turn, pass-over}
 use Rattle.masks.proofs.pass.Goals as goal
 

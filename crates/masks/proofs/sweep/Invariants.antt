@@ -1,10 +1,6 @@
 use Prim.Native.Nat.{◌-◌, ◌≤◌}
-use native.Mathlib.Omega.{arith}
-use borrow.Author.Rules.{rules}
 use Rattle.masks.specs.Views.{MeetsAll}
 use Rattle.masks.specs.Closures.{Beneath}
-use Rattle.masks.proofs.Closures.{beneath-start, beneath-turn}
-use Rattle.masks.proofs.Tests.{rules-turn, rules-lost, rules-won}
 use Rattle.masks.proofs.sweep.Given as goal
 
 abbrev pub invariant-loop-k : goal.invariant-loop-k

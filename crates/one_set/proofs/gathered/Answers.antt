@@ -1,6 +1,6 @@
 use Rattle.one_set.proofs.Plans.{collected-none, collected-some, gathered_none, gathered-some}
 use Rattle.ranges.proofs.Ranges.{refuted-none}
-use Rattle.std.proofs.Common.{refl, arith, rules}
+use Rattle.std.proofs.Common.{refl, rules}
 use Rattle.one_set.proofs.gathered.Goals as goal
 
 pub returns-then-not-within : goal.returns-then-not-within

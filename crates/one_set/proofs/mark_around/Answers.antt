@@ -1,5 +1,4 @@
 use Rattle.one_set.proofs.Plans.{marks-same, range-marked}
-use Rattle.std.proofs.Common.{rules}
 use Rattle.one_set.proofs.mark_around.Goals as goal
 
 pub returns-then-credit-lt-WIDENING : goal.returns-then-credit-lt-WIDENING

@@ -1,5 +1,4 @@
 use Rattle.one_set.proofs.Plans.{marks-same, range-marked}
-use Rattle.std.proofs.Common.{rules}
 use Rattle.one_set.proofs.mark_shaven.Goals as goal
 
 pub returns-then-doubt-lt-DOUBT : goal.returns-then-doubt-lt-DOUBT

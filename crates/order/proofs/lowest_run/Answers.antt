@@ -1,5 +1,4 @@
 use Rattle.order.proofs.Following.{low_word, carried-is, carried-fits, run}
-use borrow.Author.Rules.{rules}
 use Rattle.order.proofs.lowest_run.Goals as goal
 
 pub overflow_shl-carried : goal.overflow_shl-carried

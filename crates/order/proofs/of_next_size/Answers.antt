@@ -1,5 +1,4 @@
 use Rattle.order.proofs.Shares.{share-fits, next-size}
-use borrow.Author.Rules.{rules}
 use Rattle.order.proofs.of_next_size.Goals as goal
 
 pub overflow_mul-result : goal.overflow_mul-result

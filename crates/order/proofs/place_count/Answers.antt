@@ -1,6 +1,5 @@
 use native.Mathlib.Omega.{arith}
 use Rattle.sets.proofs.Digits.{shifted}
-use borrow.Author.Rules.{rules}
 use Rattle.order.proofs.place_count.Goals as goal
 
 pub returns : goal.returns

@@ -1,6 +1,6 @@
 use native.Mathlib.Omega.{arith}
 use borrow.Author.Rules.{rules}
-use Rattle.order.proofs.Turns.{Finding, found, size_fits, some-there, part-fits, place-stays, found-without, found-with}
+use Rattle.order.proofs.Turns.{found, size_fits, some-there, part-fits, place-stays, found-without, found-with}
 use Rattle.order.proofs.place_in_size.Goals as goal
 
 pub loop-left-init : goal.loop-left-init

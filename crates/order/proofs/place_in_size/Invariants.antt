@@ -1,6 +1,4 @@
-use native.Mathlib.Omega.{arith}
-use borrow.Author.Rules.{rules}
-use Rattle.order.proofs.Turns.{Finding, found, size_fits, some-there, part-fits, place-stays, found-without, found-with}
+use Rattle.order.proofs.Turns.{Finding}
 use Rattle.order.proofs.place_in_size.Given as goal
 
 abbrev pub invariant-loop-left : goal.invariant-loop-left

@@ -1,10 +1,8 @@
 use mathlib.Core.Path.{◌≡◌, sym, ◌∙◌}
 use Prim.Native.Nat.{◌-◌}
 use native.Mathlib.Omega.{arith}
-use borrow.Author.Rules.{rules}
-use Rattle.sets.specs.Sets.{size_to}
 use Rattle.sets.proofs.Sizes.{size-narrow}
-use Rattle.order.proofs.Turns.{Summing, none_below, size-inside, more-fits, size-added, size-reached, place-reached, placed-fits}
+use Rattle.order.proofs.Turns.{none_below, size-inside, more-fits, size-added, size-reached, place-reached, placed-fits}
 use Rattle.order.proofs.place_of.Goals as goal
 
 pub loop-n-init : goal.loop-n-init

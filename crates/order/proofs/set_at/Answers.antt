@@ -2,7 +2,7 @@ use mathlib.Core.Path.{◌∙◌}
 use Prim.Native.Nat.{◌-◌}
 use native.Mathlib.Omega.{arith}
 use borrow.Author.Rules.{rules}
-use Rattle.order.proofs.Turns.{Sizing, none_below, sized, more-sizes, size-passed}
+use Rattle.order.proofs.Turns.{none_below, sized, more-sizes, size-passed}
 use Rattle.order.proofs.set_at.Goals as goal
 
 pub loop-count-init : goal.loop-count-init

@@ -1,8 +1,6 @@
 use mathlib.Core.Path.{◌∙◌}
 use Prim.Native.Nat.{◌-◌}
-use native.Mathlib.Omega.{arith}
-use borrow.Author.Rules.{rules}
-use Rattle.order.proofs.Turns.{Sizing, none_below, sized, more-sizes, size-passed}
+use Rattle.order.proofs.Turns.{Sizing}
 use Rattle.order.proofs.set_at.Given as goal
 
 abbrev pub invariant-loop-count : goal.invariant-loop-count

@@ -1,6 +1,6 @@
 use native.Mathlib.Omega.{arith}
 use borrow.Author.Rules.{rules}
-use Rattle.order.proofs.Turns.{Building, built, left-fits, some_left, share-left, sum_fits, built-without, built-with}
+use Rattle.order.proofs.Turns.{built, left-fits, some_left, share-left, sum_fits, built-without, built-with}
 use Rattle.order.proofs.set_of_size.Goals as goal
 
 pub loop-left-init : goal.loop-left-init

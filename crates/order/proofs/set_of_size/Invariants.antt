@@ -1,6 +1,4 @@
-use native.Mathlib.Omega.{arith}
-use borrow.Author.Rules.{rules}
-use Rattle.order.proofs.Turns.{Building, built, left-fits, some_left, share-left, sum_fits, built-without, built-with}
+use Rattle.order.proofs.Turns.{Building}
 use Rattle.order.proofs.set_of_size.Given as goal
 
 abbrev pub invariant-loop-left : goal.invariant-loop-left

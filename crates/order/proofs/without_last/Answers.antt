@@ -1,5 +1,4 @@
 use Rattle.order.proofs.Shares.{share-fits, without-last}
-use borrow.Author.Rules.{rules}
 use Rattle.order.proofs.without_last.Goals as goal
 
 pub overflow_mul-result : goal.overflow_mul-result

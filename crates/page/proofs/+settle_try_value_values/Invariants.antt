@@ -1,6 +1,4 @@
-use Rattle.std.proofs.Common.{ℕ, ◌+◌, ◌-◌, ◌*◌, ◌<◌, arith, rules}
-use Rattle.page.proofs.Ends.{settle-ahead}
-use Rattle.page.proofs.Search.{settle-open, settle-last, ready-again, ready-fewer, branch-ready, child-ready, one-full, one-cut, one-open, try_one, try-last}
+use Rattle.std.proofs.Common.{◌+◌, ◌-◌, ◌*◌, ◌<◌}
 use Rattle.page.proofs.+settle_try_value_values.Given as goal
 
 abbrev pub decreases-settle : goal.decreases-settle

@@ -1,4 +1,4 @@
-use Rattle.std.proofs.Common.{arith, rules}
+use Rattle.std.proofs.Common.{arith}
 use Rattle.page.proofs.Statements.{about-is}
 use Rattle.page.proofs.about.Goals as goal
 

@@ -1,5 +1,4 @@
 use Rattle.page.proofs.Ends.{gone-start, gone-turn, shut_at}
-use Rattle.page.specs.Pages.{GoneOn}
 use Rattle.std.proofs.Common.{refl, arith, rules}
 use Rattle.page.proofs.ahead.Goals as goal
 

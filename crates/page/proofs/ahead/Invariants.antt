@@ -1,10 +1,8 @@
-use Rattle.page.proofs.Ends.{gone-start, gone-turn, shut_at}
 use Rattle.page.specs.Pages.{GoneOn}
-use Rattle.std.proofs.Common.{refl, arith, rules}
 use Rattle.page.proofs.ahead.Given as goal
 
 abbrev pub invariant-loop-l : goal.invariant-loop-l
-invariant-loop-l l = GoneOn l.n l.left l.node (record { l.pair = l.pair; l.left = l.l })
+invariant-loop-l l = GoneOn l.n l.left l.node (record { pair = l.pair; left = l.l })
 
 abbrev pub decreases-loop-l : goal.decreases-loop-l
 decreases-loop-l l = l.l

@@ -1,5 +1,4 @@
 use Rattle.page.proofs.Statements.{fixed-keeps}
-use Rattle.std.proofs.Common.{rules}
 use Rattle.page.proofs.fixed.Goals as goal
 
 pub returns : goal.returns

@@ -1,5 +1,4 @@
 use Rattle.page.proofs.Statements.{given_is}
-use Rattle.std.proofs.Common.{rules}
 use Rattle.page.proofs.given.Goals as goal
 
 pub returns : goal.returns

@@ -1,5 +1,4 @@
 use Rattle.page.proofs.Branches.{found-not}
-use Rattle.std.proofs.Common.{rules}
 use Rattle.page.proofs.glimpse.Goals as goal
 
 pub returns-then-dry-lt-MANY : goal.returns-then-dry-lt-MANY

@@ -1,6 +1,5 @@
 use Rattle.bounds.proofs.Steps.{keeps-less, keeps_then}
 use Rattle.page.proofs.Statements.{fixed-views}
-use Rattle.std.proofs.Common.{rules}
 use Rattle.page.proofs.narrow.Goals as goal
 
 pub returns-then-unchanged : goal.returns-then-unchanged

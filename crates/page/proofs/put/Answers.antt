@@ -1,4 +1,4 @@
-use Rattle.std.proofs.Common.{arith, length-set, rules}
+use Rattle.std.proofs.Common.{arith, length-set}
 use Rattle.page.proofs.Pages.{put_is}
 use Rattle.page.proofs.put.Goals as goal
 

@@ -1,4 +1,4 @@
-use Rattle.std.proofs.Common.{◌-◌, ◌≤◌, arith, rules}
+use Rattle.std.proofs.Common.{◌-◌, ◌≤◌, arith}
 use Rattle.places.proofs.main.Goals as goal
 
 pub loop-x-smaller : goal.loop-x-smaller

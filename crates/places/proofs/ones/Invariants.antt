@@ -1,4 +1,4 @@
-use Rattle.std.proofs.Common.{◌-◌, ◌≤◌, arith, rules}
+use Rattle.std.proofs.Common.{◌-◌, ◌≤◌}
 use Rattle.places.proofs.ones.Given as goal
 
 abbrev pub invariant-loop-place : goal.invariant-loop-place

@@ -1,10 +1,9 @@
-use Rattle.points.proofs.Scans.{Counting, count_long, count-start, count-zero, count_none, count-fall, count_next, count-end}
+use Rattle.points.proofs.Scans.{count_long, count-start, count-zero, count_none, count-fall, count_next, count-end}
 use borrow.Author.Rules.{rules}
 use borrow.Author.Tests.{not-true, not-false}
 use native.Mathlib.Omega.{arith}
 use mathlib.Core.Path.{◌≡◌}
 use Prim.Native.Nat.{◌≤◌, ◌-◌}
-use lib.ListN.{length}
 use Rattle.points.proofs.entries.Goals as goal
 
 pub returns-then-store-ne1024 : goal.returns-then-store-ne1024

@@ -1,7 +1,4 @@
-use Rattle.points.proofs.Scans.{Counting, count_long, count-start, count-zero, count_none, count-fall, count_next, count-end}
-use borrow.Author.Rules.{rules}
-use borrow.Author.Tests.{not-true, not-false}
-use native.Mathlib.Omega.{arith}
+use Rattle.points.proofs.Scans.{Counting}
 use mathlib.Core.Path.{◌≡◌}
 use Prim.Native.Nat.{◌≤◌, ◌-◌}
 use lib.ListN.{length}

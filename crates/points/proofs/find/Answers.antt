@@ -1,4 +1,4 @@
-use Rattle.points.proofs.Scans.{Finding, find-start, find-same, find-more, find-next, find-end}
+use Rattle.points.proofs.Scans.{find-start, find-same, find-more, find-next, find-end}
 use borrow.Author.Rules.{rules}
 use native.Mathlib.Omega.{arith}
 use Prim.Native.Nat.{◌≤◌, ◌-◌}

@@ -1,6 +1,4 @@
-use Rattle.points.proofs.Scans.{Finding, find-start, find-same, find-more, find-next, find-end}
-use borrow.Author.Rules.{rules}
-use native.Mathlib.Omega.{arith}
+use Rattle.points.proofs.Scans.{Finding}
 use Prim.Native.Nat.{◌≤◌, ◌-◌}
 use lib.ListN.{take}
 use Rattle.points.proofs.find.Given as goal

@@ -10,4 +10,4 @@ returns c =
     let m = c.copy-2 in
     let n = c.copy-3 in
     let w = c.put_pair in
-    inserted c.args.store.now c.requires.0 c.args.at c.requires.1 o.new.0 (replicate 1024 0) (length-replicate {A = ℕ} 1024 0) o.ensures c.args.name.now c.args.p m.new.0 n.new.0 _ (search rules) m.ensures n.ensures w.ensures
+    inserted c.args.store.now c.requires.0 c.args.at c.requires.1 o.new.d (replicate 1024 0) (length-replicate {A = ℕ} 1024 0) o.ensures c.args.name.now c.args.p m.new.d n.new.d _ (search rules) m.ensures n.ensures w.ensures

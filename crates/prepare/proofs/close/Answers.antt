@@ -1,7 +1,5 @@
 use Prim.Native.Nat.{◌-◌, ◌≤◌}
 use native.Mathlib.Omega.{arith}
-use lib.ListN.{length}
-use Rattle.prepare.specs.Ranking.{ClosedTo}
 use Rattle.prepare.proofs.Ranking.{closed-start, closed-turn, closed-over}
 use Rattle.prepare.proofs.close.Goals as goal
 

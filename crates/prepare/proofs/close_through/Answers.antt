@@ -1,9 +1,6 @@
-use borrow.Author.Rules.{rules}
 use mathlib.Core.Path.{◌≡◌, refl}
 use Prim.Native.Nat.{◌-◌, ◌≤◌}
 use native.Mathlib.Omega.{arith}
-use lib.ListN.{length, get_or}
-use Rattle.prepare.specs.Ranking.{ClosedThrough}
 use Rattle.prepare.proofs.Ranking.{through-start, through-turn, through-over}
 use Rattle.prepare.proofs.close_through.Goals as goal
 

@@ -1,10 +1,7 @@
-use borrow.Author.Rules.{rules}
-use mathlib.Core.Path.{◌≡◌, refl}
+use mathlib.Core.Path.{◌≡◌}
 use Prim.Native.Nat.{◌-◌, ◌≤◌}
-use native.Mathlib.Omega.{arith}
 use lib.ListN.{length, get_or}
 use Rattle.prepare.specs.Ranking.{ClosedThrough}
-use Rattle.prepare.proofs.Ranking.{through-start, through-turn, through-over}
 use Rattle.prepare.proofs.close_through.Given as goal
 
 abbrev pub invariant-loop-a : goal.invariant-loop-a

@@ -3,8 +3,6 @@ use borrow.Author.Rules.{rules}
 use mathlib.Core.Path.{◌≡◌}
 use Prim.Native.Nat.{◌+◌, ◌-◌, ◌≤◌}
 use native.Mathlib.Omega.{arith}
-use Rattle.meaning.specs.Meant.{entries_at}
-use Rattle.bridge.specs.Packed.{mask_all}
 use Rattle.prepare.proofs.entries_mask.Goals as goal
 
 pub loop-i-init : goal.loop-i-init

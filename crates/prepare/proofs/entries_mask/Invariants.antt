@@ -1,8 +1,5 @@
-use Rattle.prepare.proofs.Masks.{entries-start, entries-turn, entries-all, readable-at}
-use borrow.Author.Rules.{rules}
 use mathlib.Core.Path.{◌≡◌}
 use Prim.Native.Nat.{◌+◌, ◌-◌, ◌≤◌}
-use native.Mathlib.Omega.{arith}
 use Rattle.meaning.specs.Meant.{entries_at}
 use Rattle.bridge.specs.Packed.{mask_all}
 use Rattle.prepare.proofs.entries_mask.Given as goal

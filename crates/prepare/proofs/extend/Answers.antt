@@ -1,6 +1,5 @@
 use mathlib.Core.Path.{sym, ◌∙◌}
 use Rattle.prepare.proofs.Ranking.{extended-yes, extended-no}
-use borrow.Author.Rules.{rules}
 use Rattle.prepare.proofs.extend.Goals as goal
 
 pub returns-then-member : goal.returns-then-member

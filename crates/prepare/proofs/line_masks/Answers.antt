@@ -2,7 +2,6 @@ use Rattle.book.specs.Kinds.{entries_each}
 use Rattle.prepare.proofs.Masks.{readable-front, readable-part, line-is}
 use native.Mathlib.Omega.{arith}
 use Prim.Native.Nat.{◌+◌}
-use borrow.Author.Rules.{rules}
 use Rattle.prepare.proofs.line_masks.Goals as goal
 
 pub entries_mask-needed-requires : goal.entries_mask-needed-requires

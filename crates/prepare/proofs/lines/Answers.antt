@@ -1,10 +1,7 @@
 use mathlib.Core.Path.{◌≡◌, refl}
 use Prim.Native.Nat.{◌-◌, ◌≤◌}
 use native.Mathlib.Omega.{arith}
-use lib.ListN.{length, length-set}
-use borrow.Author.Rules.{rules}
-use Rattle.meaning.specs.Meant.{book_of}
-use Rattle.prepare.specs.Ranking.{LinesTo}
+use lib.ListN.{length-set}
 use Rattle.prepare.proofs.Ranking.{lines_start, lines-set, lines-over}
 use Rattle.prepare.proofs.lines.Goals as goal
 

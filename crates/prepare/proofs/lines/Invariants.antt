@@ -1,11 +1,8 @@
-use mathlib.Core.Path.{◌≡◌, refl}
+use mathlib.Core.Path.{◌≡◌}
 use Prim.Native.Nat.{◌-◌, ◌≤◌}
-use native.Mathlib.Omega.{arith}
-use lib.ListN.{length, length-set}
-use borrow.Author.Rules.{rules}
+use lib.ListN.{length}
 use Rattle.meaning.specs.Meant.{book_of}
 use Rattle.prepare.specs.Ranking.{LinesTo}
-use Rattle.prepare.proofs.Ranking.{lines_start, lines-set, lines-over}
 use Rattle.prepare.proofs.lines.Given as goal
 
 abbrev pub invariant-loop-a : goal.invariant-loop-a

@@ -1,10 +1,7 @@
 use Rattle.book.specs.Kinds.{preference_numbers}
 use Prim.Native.Nat.{◌+◌, ◌-◌, ◌*◌, ◌≤◌}
-use native.Mathlib.Omega.{arith}
-use borrow.Author.Rules.{rules}
 use Rattle.meaning.specs.Meant.{preferences_at}
 use Rattle.prepare.specs.Ranking.{LinesFrom}
-use Rattle.prepare.proofs.Preferences.{row_in, names-back, names-range, first-named, second-named, lines-turn, lines-last, lines-all}
 use Rattle.prepare.proofs.lines_from.Given as goal
 
 abbrev pub invariant-loop-k : goal.invariant-loop-k

@@ -1,6 +1,5 @@
 use Rattle.prepare.proofs.Preferences.{named-range, named-one}
 use native.Mathlib.Omega.{arith}
-use borrow.Author.Rules.{rules}
 use Rattle.prepare.proofs.named_set.Goals as goal
 
 pub overflow_sub-result : goal.overflow_sub-result

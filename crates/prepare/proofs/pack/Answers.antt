@@ -1,6 +1,5 @@
 use Rattle.prepare.proofs.Packing.{rule-counts, rules-few, conditionals-few, packs-of}
 use native.Mathlib.Omega.{arith}
-use borrow.Author.Rules.{rules}
 use Rattle.prepare.proofs.pack.Goals as goal
 
 pub pack_kind-requires : goal.pack_kind-requires

@@ -1,9 +1,7 @@
 use Rattle.prepare.proofs.Packing.{row-readable, row_small, kind-few, rules-few, packed_start, packed-rule, packed-over}
-use Rattle.prepare.specs.Packing.{rule_row, PackedTo}
 use borrow.Author.Rules.{rules}
 use native.Mathlib.Omega.{arith}
 use Prim.Native.Nat.{◌-◌, ◌≤◌}
-use mathlib.Core.Path.{refl}
 use Rattle.prepare.proofs.pack_kind.Goals as goal
 
 pub kind_at-x-requires : goal.kind_at-x-requires

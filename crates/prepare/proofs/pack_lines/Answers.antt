@@ -1,5 +1,4 @@
 use Rattle.prepare.proofs.Packing.{line-readable, starts-small, rules-few, conditionals-few, packed_start, packed-line, packed-over}
-use Rattle.prepare.specs.Packing.{line_row, PackedTo}
 use borrow.Author.Rules.{rules}
 use native.Mathlib.Omega.{arith}
 use Prim.Native.Nat.{◌-◌, ◌≤◌}

@@ -1,9 +1,5 @@
-use Rattle.prepare.proofs.Packing.{line-readable, starts-small, rules-few, conditionals-few, packed_start, packed-line, packed-over}
 use Rattle.prepare.specs.Packing.{line_row, PackedTo}
-use borrow.Author.Rules.{rules}
-use native.Mathlib.Omega.{arith}
 use Prim.Native.Nat.{◌-◌, ◌≤◌}
-use mathlib.Core.Path.{refl}
 use Rattle.prepare.proofs.pack_lines.Given as goal
 
 abbrev pub invariant-loop-k : goal.invariant-loop-k

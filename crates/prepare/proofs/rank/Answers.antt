@@ -1,6 +1,5 @@
 use native.Mathlib.Omega.{arith}
 use Rattle.prepare.proofs.Ranking.{ranks-of}
-use borrow.Author.Rules.{rules}
 use Rattle.prepare.proofs.rank.Goals as goal
 
 pub returns : goal.returns

@@ -1,5 +1,4 @@
 use Rattle.prepare.proofs.Roots.{root_is}
-use borrow.Author.Rules.{rules}
 use Rattle.prepare.proofs.root.Goals as goal
 
 pub returns : goal.returns

@@ -1,5 +1,4 @@
-use Rattle.std.proofs.Common.{ℕ, ◌<◌, arith, rules}
-use Rattle.bounds.proofs.Halves.{room}
+use Rattle.std.proofs.Common.{◌<◌, arith, rules}
 use Rattle.probe.proofs.Halves.{out-less, into_less}
 use Rattle.probe.proofs.Attempts.{attempt-stopped, attempt-view, attempt-empty, attempt-out, attempt-into}
 use Rattle.probe.proofs.+attempt.Goals as goal

@@ -1,5 +1,4 @@
-use Rattle.std.proofs.Common.{ℕ, ◌<◌, arith, rules}
-use Rattle.bounds.proofs.Halves.{room}
+use Rattle.std.proofs.Common.{◌<◌, arith, rules}
 use Rattle.probe.proofs.Halves.{out-less, into_less, probed-view, probed-empty, probed-out, probed-into}
 use Rattle.probe.proofs.+probe.Goals as goal
 

@@ -1,5 +1,4 @@
 use Rattle.probe.proofs.Attempts.{probed-within}
-use Rattle.std.proofs.Common.{rules}
 use Rattle.probe.proofs.probe_shaved.Goals as goal
 
 pub returns : goal.returns

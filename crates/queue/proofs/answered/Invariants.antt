@@ -1,5 +1,3 @@
-use Rattle.queue.proofs.Turns.{asking-same, asking-kept}
-use borrow.Author.Rules.{rules}
 use Prim.Native.Nat.{◌-◌, ◌≤◌}
 use Rattle.queue.proofs.answered.Given as goal
 

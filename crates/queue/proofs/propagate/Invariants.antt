@@ -1,9 +1,6 @@
-use borrow.Author.Rules.{rules}
-use native.Mathlib.Omega.{arith}
 use Prim.Native.Nat.{◌-◌, ◌≤◌}
 use Rattle.masks.specs.Views.{MaskView}
 use Rattle.bounds.specs.Sound.{Keeps}
-use Rattle.bounds.proofs.Steps.{keeps_same, keeps_then, by-rules, propagated}
 use Rattle.queue.proofs.propagate.Given as goal
 
 abbrev pub invariant-loop-k : goal.invariant-loop-k

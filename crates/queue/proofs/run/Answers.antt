@@ -1,7 +1,5 @@
-use borrow.Author.Rules.{rules}
 use native.Mathlib.Omega.{arith}
 use Prim.Native.Nat.{◌-◌, ◌≤◌}
-use Rattle.bounds.specs.Sound.{Keeps, Ruled}
 use Rattle.bounds.proofs.Steps.{keeps_same, keeps_then, by-coherence}
 use Rattle.queue.proofs.run.Goals as goal
 

@@ -1,5 +1,3 @@
-use Rattle.bounds.proofs.Steps.{keeps_same, by-rule}
-use borrow.Author.Rules.{rules}
 use Prim.Native.Nat.{◌-◌, ◌≤◌}
 use Rattle.queue.proofs.stepped.Given as goal
 

@@ -1,5 +1,4 @@
 use Rattle.bounds.proofs.Steps.{keeps_then}
-use borrow.Author.Rules.{rules}
 use Rattle.queue.proofs.turn.Goals as goal
 
 pub returns : goal.returns

@@ -1,5 +1,4 @@
 use Rattle.bounds.proofs.Steps.{keeps_then, by_level, by_lines, by-rules}
-use borrow.Author.Rules.{rules}
 use Rattle.queue.proofs.whole.Goals as goal
 
 pub returns-then-not-unchanged : goal.returns-then-not-unchanged

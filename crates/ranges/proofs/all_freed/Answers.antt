@@ -1,7 +1,5 @@
 use Prim.Native.Nat.{◌-◌}
-use lib.ListN.{length}
 use native.Mathlib.Omega.{arith}
-use Rattle.ranges.specs.Ranges.{Wider}
 use Rattle.ranges.proofs.Ranges.{wider-same, wider-then}
 use Rattle.ranges.proofs.all_freed.Goals as goal
 

@@ -1,8 +1,6 @@
 use Prim.Native.Nat.{◌-◌}
 use lib.ListN.{length}
-use native.Mathlib.Omega.{arith}
 use Rattle.ranges.specs.Ranges.{Wider}
-use Rattle.ranges.proofs.Ranges.{wider-same, wider-then}
 use Rattle.ranges.proofs.all_freed.Given as goal
 
 abbrev pub invariant-loop-e : goal.invariant-loop-e

@@ -1,7 +1,6 @@
 use mathlib.Core.Path.{refl}
 use Rattle.probe.proofs.Attempts.{shave-more}
 use Rattle.ranges.proofs.Ranges.{refuted-none}
-use borrow.Author.Rules.{rules}
 use Rattle.ranges.proofs.barren.Goals as goal
 
 pub returns : goal.returns

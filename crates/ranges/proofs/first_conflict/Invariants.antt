@@ -1,5 +1,4 @@
 use Prim.Native.Nat.{◌-◌, ◌≤◌}
-use borrow.Author.Rules.{rules}
 use Rattle.ranges.proofs.first_conflict.Given as goal
 
 abbrev pub invariant-loop-e : goal.invariant-loop-e

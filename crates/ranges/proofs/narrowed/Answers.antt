@@ -1,4 +1,3 @@
-use borrow.Author.Rules.{rules}
 use Rattle.ranges.proofs.narrowed.Goals as goal
 
 pub returns : goal.returns

@@ -1,6 +1,5 @@
 use mathlib.Core.Path.{refl}
 use Rattle.ranges.proofs.Ranges.{refuted-none}
-use borrow.Author.Rules.{rules}
 use Rattle.ranges.proofs.refuted.Goals as goal
 
 pub returns : goal.returns

@@ -1,11 +1,8 @@
-use Rattle.book.specs.Kinds.{kinds, none}
 use mathlib.Core.Path.{◌≡◌}
 use Prim.Native.Nat.{◌-◌}
 use native.Mathlib.Omega.{arith}
-use lib.ListN.{drop}
 use borrow.Author.Tests.{not-true, not-false}
 use borrow.Author.Rules.{rules}
-use Rattle.text.specs.Lines.{seek, kind_for}
 use Rattle.read.proofs.Letters.{seek-start, seek-here, seek_stop, seek-next, seek-end}
 use Rattle.read.proofs.kind_for.Goals as goal
 

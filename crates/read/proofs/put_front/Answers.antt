@@ -1,11 +1,9 @@
-use Rattle.book.specs.Kinds.{front}
 use mathlib.Core.List.{map}
 use Prim.Native.Nat.{◌-◌}
 use native.Mathlib.Omega.{arith}
 use lib.IntN.{pos}
-use borrow.Author.Rules.{rules}
-use Rattle.logic.proofs.Stores.{Putting, putting-start, putting-next, putting-end}
-use Rattle.read.proofs.Whole.{each_of, put-each, front_fits, front-number, front-each}
+use Rattle.logic.proofs.Stores.{putting-start, putting-next, putting-end}
+use Rattle.read.proofs.Whole.{put-each, front_fits, front-number, front-each}
 use Rattle.read.proofs.put_front.Goals as goal
 
 pub loop-i-init : goal.loop-i-init

@@ -1,11 +1,9 @@
 use Rattle.book.specs.Kinds.{front}
 use mathlib.Core.List.{map}
 use Prim.Native.Nat.{◌-◌}
-use native.Mathlib.Omega.{arith}
 use lib.IntN.{pos}
-use borrow.Author.Rules.{rules}
-use Rattle.logic.proofs.Stores.{Putting, putting-start, putting-next, putting-end}
-use Rattle.read.proofs.Whole.{each_of, put-each, front_fits, front-number, front-each}
+use Rattle.logic.proofs.Stores.{Putting}
+use Rattle.read.proofs.Whole.{each_of}
 use Rattle.read.proofs.put_front.Given as goal
 
 abbrev pub invariant-loop-i : goal.invariant-loop-i

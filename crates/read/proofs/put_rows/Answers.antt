@@ -2,9 +2,9 @@ use mathlib.Core.Path.{◌∙◌}
 use Prim.Native.Nat.{◌+◌, ◌-◌}
 use native.Mathlib.Omega.{arith}
 use borrow.Author.Rules.{rules}
-use Rattle.logic.proofs.Stores.{Putting, putting-start, putting-next, putting-end}
+use Rattle.logic.proofs.Stores.{putting-start, putting-next, putting-end}
 use Rattle.fields.proofs.Columns.{back, back-same}
-use Rattle.read.proofs.Whole.{each_of, put-each, rows-each}
+use Rattle.read.proofs.Whole.{put-each, rows-each}
 use Rattle.read.proofs.put_rows.Goals as goal
 
 pub loop-i-init : goal.loop-i-init

@@ -1,12 +1,8 @@
-use Rattle.book.specs.Kinds.{contents, fields_of}
 use Rattle.book.specs.Kinds.{exception}
-use Rattle.read.specs.Storing.{none_seen}
 use Prim.Native.Nat.{◌≤◌, ◌-◌}
-use mathlib.Core.Path.{◌≡◌, refl}
-use native.Mathlib.Omega.{arith}
-use borrow.Author.Rules.{rules}
-use lib.ListN.{length, length-set, get_or}
-use Rattle.read.proofs.FieldLaws.{part, part_at, part-long, Rest, rest-start, rest-wrong, rest-next, rest_end}
+use mathlib.Core.Path.{◌≡◌}
+use lib.ListN.{length, get_or}
+use Rattle.read.proofs.FieldLaws.{part, Rest}
 use Rattle.read.proofs.read_fields.Given as goal
 
 abbrev pub invariant-loop-i : goal.invariant-loop-i

@@ -5,7 +5,6 @@ use lib.Bits.{bit_or}
 use Rattle.sets.specs.Sets.{member}
 use Rattle.sets.proofs.Digits.{shifted}
 use Rattle.sets.proofs.Words.{added}
-use borrow.Author.Rules.{rules}
 use Rattle.sets.proofs.add.Goals as goal
 
 pub returns : goal.returns

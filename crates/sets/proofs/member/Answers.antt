@@ -1,6 +1,5 @@
 use mathlib.Core.Path.{refl}
 use Rattle.sets.specs.Sets.{member}
-use borrow.Author.Rules.{rules}
 use Rattle.sets.proofs.member.Goals as goal
 
 pub returns : goal.returns

@@ -1,4 +1,4 @@
-use Rattle.std.proofs.Common.{ℕ, ◌+◌, ◌-◌, ◌*◌, ◌<◌, arith, rules}
+use Rattle.std.proofs.Common.{◌+◌, ◌-◌, ◌*◌, ◌<◌, arith, rules}
 use Rattle.page.proofs.Search.{ready-again, branch-ready, child-ready}
 use Rattle.sifting.proofs.Sifting.{sift-open, sift-last, sift-full, sift-cut, sift-void, sift-narrower, sift-one, sift-alone}
 use Rattle.sifting.proofs.+settle_try_value_values.Goals as goal
@@ -58,7 +58,7 @@ pub values-overflow_sub-rest-2 : goal.values-overflow_sub-rest-2
 values-overflow_sub-rest-2 t c = omega (arith, c.requires.2)
 
 pub values-values-requires : goal.values-values-requires
-values-values-requires t c = let pre = c.requires in let more = c.if-rest-eq1.false in let one = c.try_value-r in (omega (arith, c.decreases, pre.2), (ready-again _ _ _ _ _ _ _ _ pre.0 one.auto.1.1.1.1.1.1.1.1.1.0 one.ensures.most, pre.1, omega (arith, pre.2, more), omega (arith, pre.3), pre.4, pre.5))
+values-values-requires t c = let pre = c.requires in let more = c.if-rest-eq1.false in let one = c.try_value-r in (omega (arith, c.decreases, pre.2), (ready-again _ _ _ _ _ _ _ _ pre.0 one.auto.out one.ensures.most, pre.1, omega (arith, pre.2, more), omega (arith, pre.3), pre.4, pre.5))
 
 pub values-returns : goal.values-returns
 values-returns t c = let more = c.requires.2 in sift-one _ _ _ _ _ _ _ _ _ _ (λ e. omega (arith, e, more)) _ _ _ _ _ _ c.try_value-r.ensures c.values.ensures

@@ -1,6 +1,4 @@
-use Rattle.std.proofs.Common.{ℕ, ◌+◌, ◌-◌, ◌*◌, ◌<◌, arith, rules}
-use Rattle.page.proofs.Search.{ready-again, branch-ready, child-ready}
-use Rattle.sifting.proofs.Sifting.{sift-open, sift-last, sift-full, sift-cut, sift-void, sift-narrower, sift-one, sift-alone}
+use Rattle.std.proofs.Common.{◌+◌, ◌-◌, ◌*◌, ◌<◌}
 use Rattle.sifting.proofs.+settle_try_value_values.Given as goal
 
 abbrev pub decreases-settle : goal.decreases-settle

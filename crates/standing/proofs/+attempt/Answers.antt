@@ -3,8 +3,7 @@ use native.Mathlib.Omega.{arith}
 use borrow.Author.Rules.{rules}
 use Rattle.standing.proofs.Attempting.{says_nothing, tried-view, tried-fallen, tried-empty, tried-void, tried-out, tried-into}
 use Rattle.standing.proofs.Halving.{less-out, less-into, opened-anew}
-use Rattle.bounds.proofs.Halves.{room}
-use Prim.Native.Nat.{ℕ, ◌<◌}
+use Prim.Native.Nat.{◌<◌}
 use Rattle.standing.proofs.+attempt.Goals as goal
 
 pub returns-then-fuel-eq0 : goal.returns-then-fuel-eq0

@@ -1,6 +1,6 @@
 use borrow.Author.Rules.{rules}
 use native.Mathlib.Omega.{arith}
-use Rattle.standing.proofs.Below.{SoFar, so-far-none, so-far-turn, so-far-lost, so-far-all}
+use Rattle.standing.proofs.Below.{so-far-none, so-far-turn, so-far-lost, so-far-all}
 use Prim.Native.Nat.{◌-◌, ◌≤◌}
 use Rattle.standing.proofs.each_needed.Goals as goal
 

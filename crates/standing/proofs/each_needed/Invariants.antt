@@ -1,6 +1,4 @@
-use borrow.Author.Rules.{rules}
-use native.Mathlib.Omega.{arith}
-use Rattle.standing.proofs.Below.{SoFar, so-far-none, so-far-turn, so-far-lost, so-far-all}
+use Rattle.standing.proofs.Below.{SoFar}
 use Prim.Native.Nat.{◌-◌, ◌≤◌}
 use Rattle.standing.proofs.each_needed.Given as goal
 

@@ -1,5 +1,4 @@
 use Rattle.standing.proofs.Domination.{ranked-is}
-use borrow.Author.Rules.{rules}
 use Rattle.standing.proofs.ranking.Goals as goal
 
 pub returns : goal.returns

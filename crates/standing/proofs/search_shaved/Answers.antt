@@ -1,5 +1,4 @@
 use Rattle.standing.proofs.Attempting.{stands-within}
-use borrow.Author.Rules.{rules}
 use Rattle.standing.proofs.search_shaved.Goals as goal
 
 pub returns : goal.returns

@@ -1,5 +1,4 @@
 use Rattle.standing.proofs.Attempting.{stands-has, stands-lacks, stands-anew}
-use borrow.Author.Rules.{rules}
 use Rattle.standing.proofs.standing.Goals as goal
 
 pub returns-in-Has : goal.returns-in-Has

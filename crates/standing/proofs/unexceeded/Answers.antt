@@ -1,5 +1,4 @@
 use Rattle.standing.proofs.Below.{beneath}
-use borrow.Author.Rules.{rules}
 use Rattle.standing.proofs.unexceeded.Goals as goal
 
 pub returns : goal.returns

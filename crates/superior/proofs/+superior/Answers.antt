@@ -2,7 +2,7 @@ use borrow.Author.Rules.{rules}
 use Rattle.masks.proofs.Booleans.{refused}
 use native.Mathlib.Omega.{arith}
 use Rattle.superior.proofs.Lines.{none-void, none-far, found-source, none-sure, none-hopeless, found-inner, both_halves, low-line}
-use Prim.Native.Nat.{ℕ, ◌<◌}
+use Prim.Native.Nat.{◌<◌}
 use Rattle.superior.proofs.+superior.Goals as goal
 
 pub returns-then-not-within : goal.returns-then-not-within

@@ -1,5 +1,4 @@
 use Rattle.superior.proofs.Lines.{assumed-made}
-use borrow.Author.Rules.{rules}
 use Rattle.superior.proofs.assumed.Goals as goal
 
 pub returns : goal.returns

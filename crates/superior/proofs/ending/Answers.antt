@@ -1,6 +1,5 @@
 use Prim.Native.Nat.{◌-◌, ◌≤◌}
 use native.Mathlib.Omega.{arith}
-use borrow.Author.Rules.{rules}
 use Rattle.superior.proofs.ending.Goals as goal
 
 pub loop-j-init : goal.loop-j-init

@@ -1,6 +1,4 @@
 use Prim.Native.Nat.{◌-◌, ◌≤◌}
-use native.Mathlib.Omega.{arith}
-use borrow.Author.Rules.{rules}
 use Rattle.superior.proofs.ending.Given as goal
 
 abbrev pub invariant-loop-j : goal.invariant-loop-j

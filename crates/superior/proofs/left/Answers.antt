@@ -1,5 +1,4 @@
 use Rattle.superior.proofs.Lines.{left_is}
-use borrow.Author.Rules.{rules}
 use Rattle.superior.proofs.left.Goals as goal
 
 pub returns : goal.returns

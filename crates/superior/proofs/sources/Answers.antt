@@ -1,8 +1,5 @@
-use borrow.Author.Rules.{rules}
 use native.Mathlib.Omega.{arith}
 use Rattle.masks.proofs.Steps.{chosen_none, chosen-all}
-use Rattle.superior.specs.Superiors.{Source}
-use Rattle.masks.specs.Steps.{Chosen}
 use Prim.Native.Nat.{◌-◌, ◌≤◌}
 use Rattle.superior.proofs.sources.Goals as goal
 

@@ -1,7 +1,7 @@
 use Prim.Native.Nat.{◌-◌, ◌≤◌}
 use native.Mathlib.Omega.{arith}
 use borrow.Author.Rules.{rules}
-use Rattle.superior.proofs.Lines.{NoneTo, none_first, none-turn, taking-found, taking-none}
+use Rattle.superior.proofs.Lines.{none_first, none-turn, taking-found, taking-none}
 use Rattle.superior.proofs.taking.Goals as goal
 
 pub loop-a-init : goal.loop-a-init

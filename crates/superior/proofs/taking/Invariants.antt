@@ -1,7 +1,5 @@
 use Prim.Native.Nat.{◌-◌, ◌≤◌}
-use native.Mathlib.Omega.{arith}
-use borrow.Author.Rules.{rules}
-use Rattle.superior.proofs.Lines.{NoneTo, none_first, none-turn, taking-found, taking-none}
+use Rattle.superior.proofs.Lines.{NoneTo}
 use Rattle.superior.proofs.taking.Given as goal
 
 abbrev pub invariant-loop-a : goal.invariant-loop-a

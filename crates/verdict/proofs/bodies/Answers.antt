@@ -1,7 +1,7 @@
 use borrow.Author.Rules.{rules}
 use Prim.Native.Nat.{◌-◌, ◌≤◌}
 use native.Mathlib.Omega.{arith}
-use Rattle.bridge.specs.Answers.{OfAll, Satisfies}
+use Rattle.bridge.specs.Answers.{Satisfies}
 use Rattle.verdict.proofs.Tests.{all-turn, all-lost, all-won}
 use Rattle.verdict.proofs.bodies.Goals as goal
 

@@ -1,8 +1,5 @@
-use borrow.Author.Rules.{rules}
 use Prim.Native.Nat.{◌-◌, ◌≤◌}
-use native.Mathlib.Omega.{arith}
 use Rattle.bridge.specs.Answers.{OfAll, Satisfies}
-use Rattle.verdict.proofs.Tests.{all-turn, all-lost, all-won}
 use Rattle.verdict.proofs.bodies.Given as goal
 
 abbrev pub invariant-loop-k : goal.invariant-loop-k

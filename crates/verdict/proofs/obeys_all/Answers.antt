@@ -1,7 +1,7 @@
 use borrow.Author.Rules.{rules}
 use Prim.Native.Nat.{◌-◌, ◌≤◌}
 use native.Mathlib.Omega.{arith}
-use Rattle.bridge.specs.Answers.{OfAll, Obeys}
+use Rattle.bridge.specs.Answers.{Obeys}
 use Rattle.verdict.proofs.Tests.{all-turn, all-lost, all-won}
 use Rattle.verdict.proofs.obeys_all.Goals as goal
 

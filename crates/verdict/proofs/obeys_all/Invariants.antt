@@ -1,8 +1,5 @@
-use borrow.Author.Rules.{rules}
 use Prim.Native.Nat.{◌-◌, ◌≤◌}
-use native.Mathlib.Omega.{arith}
 use Rattle.bridge.specs.Answers.{OfAll, Obeys}
-use Rattle.verdict.proofs.Tests.{all-turn, all-lost, all-won}
 use Rattle.verdict.proofs.obeys_all.Given as goal
 
 abbrev pub invariant-loop-k : goal.invariant-loop-k

@@ -1,5 +1,4 @@
 use Rattle.visits.proofs.Gone.{gone_at, gone-not}
-use borrow.Author.Rules.{rules}
 use Rattle.visits.proofs.go_on.Goals as goal
 
 pub returns-in-Refused : goal.returns-in-Refused

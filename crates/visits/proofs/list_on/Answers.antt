@@ -1,5 +1,4 @@
 use Rattle.visits.proofs.Gone.{listed_at, listed-not}
-use borrow.Author.Rules.{rules}
 use Rattle.visits.proofs.list_on.Goals as goal
 
 pub returns-in-Refused : goal.returns-in-Refused

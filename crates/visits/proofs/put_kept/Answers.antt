@@ -1,5 +1,4 @@
 use Rattle.visits.proofs.Made.{done-put, undone-put}
-use borrow.Author.Rules.{rules}
 use Rattle.visits.proofs.put_kept.Goals as goal
 
 pub returns-in-Done : goal.returns-in-Done

@@ -1,5 +1,4 @@
 use Rattle.visits.proofs.Made.{pair_put, not-put}
-use borrow.Author.Rules.{rules}
 use Rattle.visits.proofs.put_went.Goals as goal
 
 pub returns-in-Point : goal.returns-in-Point

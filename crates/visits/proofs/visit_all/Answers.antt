@@ -3,8 +3,6 @@ use Prim.Native.Nat.{◌-◌, ◌≤◌}
 use native.Mathlib.Nat.{div-mul-le_self}
 use native.Mathlib.Omega.{arith}
 use lib.ListN.{length}
-use borrow.Author.Rules.{rules}
-use Rattle.visits.specs.Visits.{Visited}
 use Rattle.visits.proofs.Made.{made_none, made_more, made-many}
 use Rattle.visits.proofs.visit_all.Goals as goal
 
@@ -24,7 +22,7 @@ pub loop-k-preserved : goal.loop-k-preserved
 loop-k-preserved c =
     let l = c.loop-k.invariant in
     let o = c.visit in
-    (omega arith, o.auto.0 ∙ l.1, o.auto.1.1.1.0 ∙ l.2, made_more _ _ _ _ _ _ _ _ l.3 o.ensures)
+    (omega arith, o.auto.store ∙ l.1, o.auto.answers ∙ l.2, made_more _ _ _ _ _ _ _ _ l.3 o.ensures)
 
 pub shape_of-store : goal.shape_of-store
 shape_of-store c = c.loop-k.invariant.1

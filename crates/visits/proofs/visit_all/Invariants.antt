@@ -1,11 +1,7 @@
-use mathlib.Core.Path.{◌≡◌, refl, ◌∙◌}
+use mathlib.Core.Path.{◌≡◌, ◌∙◌}
 use Prim.Native.Nat.{◌-◌, ◌≤◌}
-use native.Mathlib.Nat.{div-mul-le_self}
-use native.Mathlib.Omega.{arith}
 use lib.ListN.{length}
-use borrow.Author.Rules.{rules}
 use Rattle.visits.specs.Visits.{Visited}
-use Rattle.visits.proofs.Made.{made_none, made_more, made-many}
 use Rattle.visits.proofs.visit_all.Given as goal
 
 abbrev pub invariant-loop-k : goal.invariant-loop-k

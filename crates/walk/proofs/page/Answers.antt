@@ -2,7 +2,6 @@ use Prim.Native.Nat.{◌≤◌}
 use native.Mathlib.Omega.{arith}
 use lib.Pow.{pow_mono}
 use Rattle.marking.proofs.Marks.{zeros-clear, words-in, words_count, words-enough}
-use borrow.Author.Rules.{rules}
 use Rattle.walk.proofs.page.Goals as goal
 
 pub page_with-requires : goal.page_with-requires

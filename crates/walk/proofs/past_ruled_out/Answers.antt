@@ -4,7 +4,7 @@ use native.Mathlib.Nat.{lt_of_lt_of_le}
 use native.Mathlib.Omega.{arith}
 use lib.Pow.{pow_mono}
 use borrow.Author.Tests.{not-true, not-false}
-use Rattle.walk.proofs.Places.{Skipping, set-inside, skipping-none, skipping-more, skipped}
+use Rattle.walk.proofs.Places.{set-inside, skipping-none, skipping-more, skipped}
 use Rattle.walk.proofs.past_ruled_out.Goals as goal
 
 pub loop-place-init : goal.loop-place-init

@@ -1,6 +1,5 @@
 use native.Mathlib.Omega.{arith}
 use Rattle.walk.proofs.Places.{full-there, own-part, past_fits, span-is}
-use borrow.Author.Rules.{rules}
 use Rattle.walk.proofs.spanned.Goals as goal
 
 pub overflow_sub-all : goal.overflow_sub-all

@@ -1,8 +1,6 @@
-use Rattle.walk.proofs.Walks.{Going, going-first, going-in, going_next, going_on, walked-full, walked-past, walked_none}
+use Rattle.walk.proofs.Walks.{going-first, going-in, going_next, going_on, walked-full, walked-past, walked_none}
 use Rattle.walk.proofs.Places.{set-inside, position-next}
-use Rattle.walk.specs.Walks.{AtPlace}
 use lib.Pow.{pow_mono}
-use lib.ListN.{length}
 use native.Mathlib.Omega.{arith}
 use native.Mathlib.Nat.{lt_of_lt_of_le}
 use Prim.Native.Nat.{◌-◌, ◌^◌, ◌<◌}
@@ -32,16 +30,16 @@ pub list_set-f-requires : goal.list_set-f-requires
 list_set-f-requires c = (c.loop-p.invariant.0.fits, lt_of_lt_of_le (set-inside _ c.requires.1 _ c.loop-p.invariant.4 (omega (arith, c.spanned-s.ensures.to, c.loop-p-test))) (rw c.loop-p.invariant.3 c.requires.3), c.requires.4, rw c.loop-p.invariant.2 c.requires.5)
 
 pub shape_of-marks-then-task-f : goal.shape_of-marks-then-task-f
-shape_of-marks-then-task-f c = let k = c.before.before.before.before.before.before.before.before.before.List-set_of_Decides.auto.1.1.1.1.1.1.1.1.1 in k.0 ∙ c.loop-p.invariant.3
+shape_of-marks-then-task-f c = c.list_set-f.auto.marks ∙ c.loop-p.invariant.3
 
 pub shape_of-store-then-task-f : goal.shape_of-store-then-task-f
-shape_of-store-then-task-f c = let k = c.before.before.before.before.before.before.before.before.before.List-set_of_Decides.auto.1.1.1.1.1.1.1.1.1 in k.1.1.0 ∙ c.loop-p.invariant.2
+shape_of-store-then-task-f c = c.list_set-f.auto.store ∙ c.loop-p.invariant.2
 
 pub shape_of-out-then-task-f : goal.shape_of-out-then-task-f
-shape_of-out-then-task-f c = let k = c.before.before.before.before.before.before.before.before.before.List-set_of_Decides.auto.1.1.1.1.1.1.1.1.1 in k.1.1.1.0 ∙ c.loop-p.invariant.1
+shape_of-out-then-task-f c = c.list_set-f.auto.out ∙ c.loop-p.invariant.1
 
 pub returns-then-task-f : goal.returns-then-task-f
-returns-then-task-f c = let k = c.before.before.before.before.before.before.before.before.before.List-set_of_Decides.auto.1.1.1.1.1.1.1.1.1 in walked-full _ _ _ _ _ c.requires.1 _ _ _ _ _ _ _ _ _ _ _ (going_next _ _ _ _ _ c.requires.1 _ _ _ _ _ _ _ _ _ _ _ c.loop-p.invariant.0 (omega (arith, c.spanned-s.ensures.to, c.loop-p-test)) _ (c.loop-p.invariant.4.is (omega (arith, c.spanned-s.ensures.to, c.loop-p-test))) _ _ _ _ c.loop-p.invariant.5 c.before.before.before.before.before.before.before.before.before.List-set_of_Decides.ensures k.1.1.1.0) (search rules)
+returns-then-task-f c = walked-full _ _ _ _ _ c.requires.1 _ _ _ _ _ _ _ _ _ _ _ (going_next _ _ _ _ _ c.requires.1 _ _ _ _ _ _ _ _ _ _ _ c.loop-p.invariant.0 (omega (arith, c.spanned-s.ensures.to, c.loop-p-test)) _ (c.loop-p.invariant.4.is (omega (arith, c.spanned-s.ensures.to, c.loop-p-test))) _ _ _ _ c.loop-p.invariant.5 c.list_set-f.ensures c.list_set-f.auto.out) (search rules)
 
 pub overflow_add-place : goal.overflow_add-place
 overflow_add-place c = record { fits = omega (arith, c.loop-p.invariant.4.to, pow_mono c.requires.1) }
@@ -50,13 +48,13 @@ pub next-set-requires : goal.next-set-requires
 next-set-requires c = (omega (arith, c.requires.1), set-inside _ c.requires.1 _ c.loop-p.invariant.4 (omega (arith, c.spanned-s.ensures.to, c.loop-p-test)))
 
 pub past_ruled_out-p-requires-in-loop-p : goal.past_ruled_out-p-requires-in-loop-p
-past_ruled_out-p-requires-in-loop-p c = (c.requires.1, c.spanned-s.ensures.to, (let k = c.before.before.before.before.before.before.before.before.before.before.before.before.List-set_of_Decides.auto.1.1.1.1.1.1.1.1.1 in rw (k.0 ∙ c.loop-p.invariant.3) c.requires.3), position-next _ c.requires.1 _ c.loop-p.invariant.4 (omega (arith, c.spanned-s.ensures.to, c.loop-p-test)) _ c.next-set.ensures)
+past_ruled_out-p-requires-in-loop-p c = (c.requires.1, c.spanned-s.ensures.to, (rw (c.list_set-f.auto.marks ∙ c.loop-p.invariant.3) c.requires.3), position-next _ c.requires.1 _ c.loop-p.invariant.4 (omega (arith, c.spanned-s.ensures.to, c.loop-p-test)) _ c.next-set.ensures)
 
 pub loop-p-smaller : goal.loop-p-smaller
 loop-p-smaller c = omega (arith, c.spanned-s.ensures.to, c.loop-p-test, c.past_ruled_out-p-in-loop-p.ensures.from, c.past_ruled_out-p-in-loop-p.ensures.stands.to)
 
 pub loop-p-preserved : goal.loop-p-preserved
-loop-p-preserved c = let k = c.before.before.before.before.before.before.before.before.before.before.before.before.before.List-set_of_Decides.auto.1.1.1.1.1.1.1.1.1 in (going_on _ _ _ _ _ c.requires.1 _ _ _ _ _ _ _ _ _ _ _ _ (going_next _ _ _ _ _ c.requires.1 _ _ _ _ _ _ _ _ _ _ _ c.loop-p.invariant.0 (omega (arith, c.spanned-s.ensures.to, c.loop-p-test)) _ (c.loop-p.invariant.4.is (omega (arith, c.spanned-s.ensures.to, c.loop-p-test))) _ _ _ _ c.loop-p.invariant.5 c.before.before.before.before.before.before.before.before.before.before.before.before.before.List-set_of_Decides.ensures k.1.1.1.0) _ _ refl c.past_ruled_out-p-in-loop-p.ensures, k.1.1.1.0 ∙ c.loop-p.invariant.1, k.1.1.0 ∙ c.loop-p.invariant.2, k.0 ∙ c.loop-p.invariant.3, c.past_ruled_out-p-in-loop-p.ensures.stands, omega (arith, c.if-task-f))
+loop-p-preserved c = (going_on _ _ _ _ _ c.requires.1 _ _ _ _ _ _ _ _ _ _ _ _ (going_next _ _ _ _ _ c.requires.1 _ _ _ _ _ _ _ _ _ _ _ c.loop-p.invariant.0 (omega (arith, c.spanned-s.ensures.to, c.loop-p-test)) _ (c.loop-p.invariant.4.is (omega (arith, c.spanned-s.ensures.to, c.loop-p-test))) _ _ _ _ c.loop-p.invariant.5 c.list_set-f.ensures c.list_set-f.auto.out) _ _ refl c.past_ruled_out-p-in-loop-p.ensures, c.list_set-f.auto.out ∙ c.loop-p.invariant.1, c.list_set-f.auto.store ∙ c.loop-p.invariant.2, c.list_set-f.auto.marks ∙ c.loop-p.invariant.3, c.past_ruled_out-p-in-loop-p.ensures.stands, omega (arith, c.if-task-f))
 
 pub shape_of-marks : goal.shape_of-marks
 shape_of-marks c = c.loop-p.invariant.3

@@ -1,13 +1,8 @@
-use Rattle.walk.proofs.Walks.{Going, going-first, going-in, going_next, going_on, walked-full, walked-past, walked_none}
-use Rattle.walk.proofs.Places.{set-inside, position-next}
+use Rattle.walk.proofs.Walks.{Going}
 use Rattle.walk.specs.Walks.{AtPlace}
-use lib.Pow.{pow_mono}
 use lib.ListN.{length}
-use native.Mathlib.Omega.{arith}
-use native.Mathlib.Nat.{lt_of_lt_of_le}
 use Prim.Native.Nat.{◌-◌, ◌^◌, ◌<◌}
-use mathlib.Core.Path.{◌≡◌, refl, ◌∙◌}
-use borrow.Author.Rules.{rules}
+use mathlib.Core.Path.{◌≡◌, ◌∙◌}
 use Rattle.walk.proofs.walk.Given as goal
 
 abbrev pub invariant-loop-p : goal.invariant-loop-p

@@ -2,7 +2,6 @@ use mathlib.Core.Path.{ap}
 use Prim.Native.Nat.{ℕ, ◌+◌, ◌/◌}
 use native.Mathlib.Omega.{arith}
 use Rattle.sets.proofs.Digits.{shifted}
-use borrow.Author.Rules.{rules}
 use Rattle.walk.proofs.words_for.Goals as goal
 
 pub returns : goal.returns

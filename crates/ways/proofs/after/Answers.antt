@@ -4,7 +4,7 @@ use borrow.Author.Rules.{rules}
 use Rattle.ways.proofs.after.Goals as goal
 
 pub returns-then-sent : goal.returns-then-sent
-returns-then-sent c = ((refl, search rules, refl), (λ e. refl, λ e. absurd (clash (sym e ∙ (search rules)))))
+returns-then-sent c = record { to_value = (refl, search rules, refl); more_value = (λ e. refl, λ e. absurd (clash (sym e ∙ (search rules)))) }
 
 pub returns : goal.returns
-returns c = ((refl, search rules, refl), (λ e. absurd (clash (sym (search rules) ∙ e)), λ e. refl))
+returns c = record { to_value = (refl, search rules, refl); more_value = (λ e. absurd (clash (sym (search rules) ∙ e)), λ e. refl) }

@@ -2,7 +2,6 @@ use lib.Seq.{length-take-le}
 use mathlib.Core.Path.{sym}
 use Rattle.listing.proofs.Steps.{step}
 use Rattle.ways.proofs.Stands.{place-small, stood}
-use borrow.Author.Rules.{rules}
 use Rattle.ways.proofs.go_on.Goals as goal
 
 pub slice_bounds-send-end : goal.slice_bounds-send-end

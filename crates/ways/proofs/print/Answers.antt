@@ -5,7 +5,6 @@ use native.Mathlib.Omega.{arith}
 use Rattle.answers.specs.Ways.{most_lines}
 use Rattle.listing.proofs.Steps.{first_step}
 use Rattle.ways.proofs.Stands.{place-small, stood}
-use borrow.Author.Rules.{rules}
 use Rattle.ways.proofs.print.Goals as goal
 
 pub begin-b-requires : goal.begin-b-requires

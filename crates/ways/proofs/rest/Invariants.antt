@@ -1,6 +1,4 @@
-use native.Mathlib.Omega.{arith}
 use Rattle.ways.specs.Stands.{Stood}
-use borrow.Author.Rules.{rules}
 use Rattle.ways.proofs.rest.Given as goal
 
 abbrev pub invariant-loop-stand : goal.invariant-loop-stand

@@ -1,10 +1,7 @@
-use Rattle.book.specs.Kinds.{kinds, none}
 use mathlib.Core.Path.{◌≡◌, refl}
 use Prim.Native.Nat.{◌-◌, ◌≤◌}
 use native.Mathlib.Omega.{arith}
-use lib.ListN.{drop}
 use borrow.Author.Rules.{rules}
-use Rattle.logic.specs.Tests.{some}
 use Rattle.text.specs.Tables.{miscount}
 use Rattle.write.proofs.TableLaws.{kind-limit, kind-count, some-found, some_next, some_end}
 use Rattle.write.proofs.counts_over.Goals as goal

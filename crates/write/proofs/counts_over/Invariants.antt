@@ -1,12 +1,9 @@
 use Rattle.book.specs.Kinds.{kinds, none}
-use mathlib.Core.Path.{◌≡◌, refl}
+use mathlib.Core.Path.{◌≡◌}
 use Prim.Native.Nat.{◌-◌, ◌≤◌}
-use native.Mathlib.Omega.{arith}
 use lib.ListN.{drop}
-use borrow.Author.Rules.{rules}
 use Rattle.logic.specs.Tests.{some}
 use Rattle.text.specs.Tables.{miscount}
-use Rattle.write.proofs.TableLaws.{kind-limit, kind-count, some-found, some_next, some_end}
 use Rattle.write.proofs.counts_over.Given as goal
 
 abbrev pub invariant-loop-k : goal.invariant-loop-k

@@ -1,12 +1,11 @@
-use Rattle.book.specs.Kinds.{kind}
 use mathlib.Core.Path.{◌≡◌, ap}
 use Prim.Native.Nat.{◌+◌, ◌-◌, ◌*◌}
 use native.Mathlib.Omega.{arith}
 use borrow.Author.Rules.{rules}
-use Rattle.logic.proofs.Stores.{Putting, putting-start, putting-room, putting-next, putting-end}
+use Rattle.logic.proofs.Stores.{putting-start, putting-room, putting-next, putting-end}
 use Rattle.book.specs.declared.Kind.{Kind}
 use Rattle.text.proofs.KindFacts.{numbers-fields}
-use Rattle.write.proofs.PutLaws.{line_at, lines_are, line-in-table, line-piece, all-long, next-line, line-room, next-numbers}
+use Rattle.write.proofs.PutLaws.{lines_are, line-in-table, line-piece, all-long, next-line, line-room, next-numbers}
 use Rattle.write.proofs.put_kind.Goals as goal
 
 pub kind_at-x-requires : goal.kind_at-x-requires

@@ -1,12 +1,8 @@
 use Rattle.book.specs.Kinds.{kind}
-use mathlib.Core.Path.{◌≡◌, ap}
+use mathlib.Core.Path.{◌≡◌}
 use Prim.Native.Nat.{◌+◌, ◌-◌, ◌*◌}
-use native.Mathlib.Omega.{arith}
-use borrow.Author.Rules.{rules}
-use Rattle.logic.proofs.Stores.{Putting, putting-start, putting-room, putting-next, putting-end}
-use Rattle.book.specs.declared.Kind.{Kind}
-use Rattle.text.proofs.KindFacts.{numbers-fields}
-use Rattle.write.proofs.PutLaws.{line_at, lines_are, line-in-table, line-piece, all-long, next-line, line-room, next-numbers}
+use Rattle.logic.proofs.Stores.{Putting}
+use Rattle.write.proofs.PutLaws.{line_at}
 use Rattle.write.proofs.put_kind.Given as goal
 
 abbrev pub invariant-loop-i : goal.invariant-loop-i

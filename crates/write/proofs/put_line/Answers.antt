@@ -1,6 +1,5 @@
 use native.Mathlib.Omega.{arith}
 use lib.ListN.{length-set}
-use borrow.Author.Rules.{rules}
 use Rattle.book.proofs.Counts.{kind-small}
 use Rattle.write.proofs.PutLaws.{short-part, put-line-is, line-in, fields_in}
 use Rattle.write.proofs.put_line.Goals as goal
@@ -38,12 +37,12 @@ bounds-buf-at-2 c =
     let kind_at = c.kind_at-x in
     let args = c.args in
     let pre = c.requires in
-    omega (arith, simp length-set at put-numbers.auto.0, line-in kind_at.result args.k kind_at.ensures _ _ pre.3)
+    omega (arith, simp length-set at put-numbers.auto.buf, line-in kind_at.result args.k kind_at.ensures _ _ pre.3)
 
 pub shape_of-buf : goal.shape_of-buf
 shape_of-buf c =
     let put-numbers = c.put_numbers in
-    simp length-set (simp length-set at put-numbers.auto.0)
+    simp length-set (simp length-set at put-numbers.auto.buf)
 
 pub returns : goal.returns
 returns c =

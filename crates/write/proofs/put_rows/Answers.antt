@@ -1,14 +1,12 @@
-use Rattle.book.specs.Kinds.{first, last, front}
 use mathlib.Core.Path.{◌≡◌, ap}
 use Prim.Native.Nat.{◌+◌, ◌-◌, ◌<◌, ◌≤◌}
 use native.Mathlib.Omega.{arith}
 use lib.ListN.{length}
 use borrow.Author.Rules.{rules}
-use Rattle.logic.proofs.Stores.{Putting, putting-start, putting-room, putting-next, putting-end}
+use Rattle.logic.proofs.Stores.{putting-start, putting-room, putting-next, putting-end}
 use Rattle.book.specs.declared.Kind.{Kind}
-use Rattle.book.specs.Counts.{start_of}
 use Rattle.write.proofs.TableLaws.{rows_in, start-on, start_first}
-use Rattle.write.proofs.PutLaws.{kind-rows, block_at, rows_are, block_room, block-piece, block-next, next_place}
+use Rattle.write.proofs.PutLaws.{kind-rows, rows_are, block_room, block-piece, block-next, next_place}
 use Rattle.write.proofs.put_rows.Goals as goal
 
 pub loop-k-init : goal.loop-k-init

@@ -1,5 +1,4 @@
 use native.Mathlib.Omega.{arith}
-use borrow.Author.Rules.{rules}
 use Rattle.write.proofs.PutLaws.{rows_long, first-fields, last-fields, first_short, last_fits, last-short, text-put}
 use Rattle.write.proofs.put_text.Goals as goal
 

@@ -3,7 +3,7 @@ use Prim.Native.Nat.{ℕ, ◌-◌}
 use native.Mathlib.Omega.{arith}
 use lib.ListN.{length-replicate}
 use borrow.Author.Rules.{rules}
-use Rattle.write.proofs.TableLaws.{kind-count, Counting, counting-start, counting-next, shape_is}
+use Rattle.write.proofs.TableLaws.{kind-count, counting-start, counting-next, shape_is}
 use Rattle.write.proofs.shape_in.Goals as goal
 
 pub loop-k-init : goal.loop-k-init

@@ -1,9 +1,6 @@
 use Rattle.book.specs.Kinds.{none}
-use Prim.Native.Nat.{ℕ, ◌-◌}
-use native.Mathlib.Omega.{arith}
-use lib.ListN.{length-replicate}
-use borrow.Author.Rules.{rules}
-use Rattle.write.proofs.TableLaws.{kind-count, Counting, counting-start, counting-next, shape_is}
+use Prim.Native.Nat.{◌-◌}
+use Rattle.write.proofs.TableLaws.{Counting}
 use Rattle.write.proofs.shape_in.Given as goal
 
 abbrev pub invariant-loop-k : goal.invariant-loop-k

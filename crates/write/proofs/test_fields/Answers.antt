@@ -5,7 +5,7 @@ use native.Mathlib.Omega.{arith}
 use borrow.Author.Rules.{rules}
 use Rattle.read.specs.Storing.{none_seen}
 use Rattle.read.proofs.FieldLaws.{part, part_at, part-long}
-use Rattle.write.proofs.RowLaws.{Rest, rest-start, rest-wrong, rest-next, rest_end}
+use Rattle.write.proofs.RowLaws.{rest-start, rest-wrong, rest-next, rest_end}
 use Rattle.write.proofs.test_fields.Goals as goal
 
 pub loop-i-init : goal.loop-i-init

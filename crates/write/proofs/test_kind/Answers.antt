@@ -1,11 +1,10 @@
-use Rattle.book.specs.Kinds.{kind}
 use Prim.Native.Nat.{◌≤◌, ◌-◌, ◌+◌, ◌*◌}
 use mathlib.Core.Path.{◌≡◌, refl, ap}
 use native.Mathlib.Omega.{arith}
 use lib.ListN.{length}
 use borrow.Author.Rules.{rules}
 use Rattle.book.specs.declared.Kind.{Kind}
-use Rattle.write.proofs.TableLaws.{Rest, rest-start, rest-next, rest-failed, rest-passed, spread-start, spread-next, spread-in}
+use Rattle.write.proofs.TableLaws.{rest-start, rest-next, rest-failed, rest-passed, spread-start, spread-next, spread-in}
 use Rattle.write.proofs.test_kind.Goals as goal
 
 pub kind_at-x-requires : goal.kind_at-x-requires

@@ -1,11 +1,7 @@
 use Rattle.book.specs.Kinds.{kind}
 use Prim.Native.Nat.{◌≤◌, ◌-◌, ◌+◌, ◌*◌}
-use mathlib.Core.Path.{◌≡◌, refl, ap}
-use native.Mathlib.Omega.{arith}
-use lib.ListN.{length}
-use borrow.Author.Rules.{rules}
-use Rattle.book.specs.declared.Kind.{Kind}
-use Rattle.write.proofs.TableLaws.{Rest, rest-start, rest-next, rest-failed, rest-passed, spread-start, spread-next, spread-in}
+use mathlib.Core.Path.{◌≡◌}
+use Rattle.write.proofs.TableLaws.{Rest}
 use Rattle.write.proofs.test_kind.Given as goal
 
 abbrev pub invariant-loop-i : goal.invariant-loop-i

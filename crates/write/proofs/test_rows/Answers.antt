@@ -1,9 +1,8 @@
-use Rattle.book.specs.Kinds.{last}
 use Prim.Native.Nat.{◌-◌}
 use native.Mathlib.Omega.{arith}
 use borrow.Author.Rules.{rules}
 use Rattle.book.proofs.Counts.{exceptions-in}
-use Rattle.write.proofs.TableLaws.{Going, going_start, going-in, going-kind, going-line, going-failed, going_next, going_end}
+use Rattle.write.proofs.TableLaws.{going_start, going-in, going-kind, going-line, going-failed, going_next, going_end}
 use Rattle.write.proofs.test_rows.Goals as goal
 
 pub loop-k-init : goal.loop-k-init

@@ -1,6 +1,5 @@
 use Rattle.standing.specs.Standing.{memory_length}
 use Rattle.standing.proofs.Domination.{nothing_yet}
-use borrow.Author.Rules.{rules}
 use Rattle.judge.proofs.lined.undominated.Goals as goal
 
 pub returns : goal.returns

@@ -2,8 +2,6 @@ use borrow.Author.Rules.{rules}
 use mathlib.Core.Path.{◌≡◌, refl, ◌∙◌}
 use Prim.Native.Nat.{◌-◌, ◌≤◌}
 use native.Mathlib.Omega.{arith}
-use lib.ListN.{length}
-use Rattle.least.specs.Rows.{Gathered}
 use Rattle.least.proofs.Gathering.{gathered_none, gathered-mute, gathered-put, gathered-done}
 use Rattle.least.proofs.rows.gather.Goals as goal
 

@@ -1,10 +1,7 @@
-use borrow.Author.Rules.{rules}
-use mathlib.Core.Path.{◌≡◌, refl, ◌∙◌}
+use mathlib.Core.Path.{◌≡◌, ◌∙◌}
 use Prim.Native.Nat.{◌-◌, ◌≤◌}
-use native.Mathlib.Omega.{arith}
 use lib.ListN.{length}
 use Rattle.least.specs.Rows.{Gathered}
-use Rattle.least.proofs.Gathering.{gathered_none, gathered-mute, gathered-put, gathered-done}
 use Rattle.least.proofs.rows.gather.Given as goal
 
 abbrev pub invariant-loop-k : goal.invariant-loop-k

@@ -2,7 +2,6 @@ use mathlib.Core.Path.{refl}
 use native.Mathlib.Omega.{arith}
 use lib.ListN.{length-set}
 use Rattle.least.specs.Rows.{put_at}
-use borrow.Author.Rules.{rules}
 use Rattle.least.proofs.rows.put.Goals as goal
 
 pub bounds-rows-at-2 : goal.bounds-rows-at-2

@@ -1,6 +1,5 @@
 use mathlib.Core.Path.{refl}
 use Rattle.least.specs.Rows.{row_at}
-use borrow.Author.Rules.{rules}
 use Rattle.least.proofs.rows.row_at.Goals as goal
 
 pub returns : goal.returns

@@ -1,7 +1,6 @@
 use Prim.Native.Nat.{◌-◌, ◌≤◌}
 use native.Mathlib.Omega.{arith}
 use borrow.Author.Rules.{rules}
-use Rattle.masks.specs.Steps.{ByLines}
 use Rattle.masks.proofs.Steps.{lines_start, lines-all}
 use Rattle.masks.proofs.lines.by_lines.Goals as goal
 

@@ -1,8 +1,5 @@
 use Prim.Native.Nat.{◌-◌, ◌≤◌}
-use native.Mathlib.Omega.{arith}
-use borrow.Author.Rules.{rules}
 use Rattle.masks.specs.Steps.{ByLines}
-use Rattle.masks.proofs.Steps.{lines_start, lines-all}
 use Rattle.masks.proofs.lines.by_lines.Given as goal
 
 abbrev pub invariant-loop-j : goal.invariant-loop-j

@@ -1,8 +1,6 @@
 use Prim.Native.Nat.{◌-◌, ◌≤◌}
 use native.Mathlib.Omega.{arith}
 use borrow.Author.Rules.{rules}
-use lib.ListN.{length}
-use Rattle.masks.specs.Steps.{ByRanks}
 use Rattle.masks.proofs.Steps.{ranks-start, ranks-shifted, ranks-all}
 use Rattle.masks.proofs.lines.by_ranks.Goals as goal
 

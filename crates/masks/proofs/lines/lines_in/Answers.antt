@@ -1,8 +1,6 @@
 use Prim.Native.Nat.{◌+◌, ◌-◌, ◌≤◌}
 use native.Mathlib.Omega.{arith}
 use borrow.Author.Rules.{rules}
-use Rattle.masks.specs.Steps.{Chosen}
-use Rattle.masks.specs.Views.{masks_at, Fires}
 use Rattle.masks.proofs.Steps.{chosen_none, chosen-all}
 use Rattle.masks.proofs.lines.lines_in.Goals as goal
 

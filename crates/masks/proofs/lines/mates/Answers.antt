@@ -1,7 +1,6 @@
 use Prim.Native.Nat.{◌-◌, ◌≤◌}
 use native.Mathlib.Omega.{arith}
 use borrow.Author.Rules.{rules}
-use Rattle.masks.specs.Steps.{Mates}
 use Rattle.masks.proofs.Steps.{mates-none, mates-all}
 use Rattle.masks.proofs.lines.mates.Goals as goal
 

@@ -1,4 +1,3 @@
-use borrow.Author.Rules.{rules}
 use Rattle.masks.proofs.Steps.{passed}
 use Rattle.masks.proofs.lines.pass.Goals as goal
 

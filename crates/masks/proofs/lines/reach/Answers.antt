@@ -2,8 +2,6 @@ use Prim.Native.Nat.{◌-◌, ◌^◌}
 use native.Mathlib.Omega.{arith}
 use mathlib.Core.Path.{◌≡◌}
 use borrow.Author.Rules.{rules}
-use Rattle.sets.specs.Sets.{bit_of}
-use Rattle.masks.specs.Steps.{LedTo}
 use Rattle.masks.proofs.Steps.{nothing_yet, larger, reached}
 use Rattle.masks.proofs.lines.reach.Goals as goal
 

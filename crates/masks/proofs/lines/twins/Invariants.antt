@@ -1,9 +1,6 @@
 use Prim.Native.Nat.{◌-◌, ◌≤◌}
-use native.Mathlib.Omega.{arith}
-use borrow.Author.Rules.{rules}
 use Rattle.masks.specs.Views.{Alike}
 use Rattle.masks.specs.Steps.{Chosen}
-use Rattle.masks.proofs.Steps.{chosen_none, chosen-all}
 use Rattle.masks.proofs.lines.twins.Given as goal
 
 abbrev pub invariant-loop-j : goal.invariant-loop-j

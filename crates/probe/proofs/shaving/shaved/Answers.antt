@@ -1,5 +1,4 @@
-use Rattle.std.proofs.Common.{◌-◌, arith, rules}
-use Rattle.bounds.specs.Sound.{Propagated}
+use Rattle.std.proofs.Common.{◌-◌, arith}
 use Rattle.probe.proofs.Attempts.{shave-none, shave-more}
 use Rattle.probe.proofs.shaving.shaved.Goals as goal
 

@@ -1,6 +1,5 @@
-use Rattle.std.proofs.Common.{◌-◌, arith, rules}
+use Rattle.std.proofs.Common.{◌-◌}
 use Rattle.bounds.specs.Sound.{Propagated}
-use Rattle.probe.proofs.Attempts.{shave-none, shave-more}
 use Rattle.probe.proofs.shaving.shaved.Given as goal
 
 abbrev pub invariant-loop-i : goal.invariant-loop-i

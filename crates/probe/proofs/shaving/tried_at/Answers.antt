@@ -1,5 +1,4 @@
 use Rattle.bounds.proofs.Singles.{one-atom}
-use Rattle.std.proofs.Common.{rules}
 use Rattle.probe.proofs.shaving.tried_at.Goals as goal
 
 pub tried-requires : goal.tried-requires

@@ -1,13 +1,9 @@
-use mathlib.Core.Path.{sym, ◌∙◌}
-use lib.ListN.{length-set}
-use borrow.Author.Rules.{rules}
+use mathlib.Core.Path.{◌∙◌}
 use mathlib.Core.Path.{◌≡◌}
-use native.Mathlib.Omega.{arith}
 use lib.ListN.{length}
 use Prim.Native.Nat.{◌≤◌}
-use Rattle.queue.specs.Places.{whole_place, index_length}
+use Rattle.queue.specs.Places.{index_length}
 use Rattle.queue.specs.Chains.{ChainsFrom}
-use Rattle.queue.proofs.Chains.{chains-none, chains-turn, chains-done}
 use Rattle.queue.proofs.heads.chained.Given as goal
 
 abbrev pub invariant-loop-k : goal.invariant-loop-k

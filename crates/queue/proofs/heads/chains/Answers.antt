@@ -2,7 +2,6 @@ use mathlib.Core.Path.{◌∙◌}
 use native.Mathlib.Omega.{arith}
 use lib.ListN.{length-set}
 use Rattle.queue.proofs.Chains.{chains-are}
-use borrow.Author.Rules.{rules}
 use Rattle.queue.proofs.heads.chains.Goals as goal
 
 pub bounds-index-1153 : goal.bounds-index-1153

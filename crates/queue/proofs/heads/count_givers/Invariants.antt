@@ -1,10 +1,6 @@
 use Prim.Native.Nat.{◌-◌, ◌≤◌}
-use mathlib.Core.Path.{refl}
-use native.Mathlib.Omega.{arith}
-use borrow.Author.Rules.{rules}
 use Rattle.bounds.specs.Singles.{one_of}
 use Rattle.queue.specs.Chains.{Seen, ChainsFrom}
-use Rattle.queue.proofs.Chains.{gives-is, seen_first, seen-several, seen_next, seen_all}
 use Rattle.queue.proofs.heads.count_givers.Given as goal
 
 abbrev pub invariant-loop-turn : goal.invariant-loop-turn

@@ -2,7 +2,7 @@ use mathlib.Core.Path.{refl}
 use Prim.Native.Nat.{◌^◌, ◌<◌}
 use borrow.Author.Rules.{rules}
 use Rattle.queue.proofs.Chains.{seen-several}
-use Rattle.queue.proofs.Rows.{low-some, fewer-less, SeenBut, row-begin, row-turn, row-end}
+use Rattle.queue.proofs.Rows.{low-some, fewer-less, row-begin, row-turn, row-end}
 use Rattle.queue.proofs.heads.more_givers.Goals as goal
 
 pub loop-w-init : goal.loop-w-init

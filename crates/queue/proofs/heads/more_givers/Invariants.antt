@@ -1,8 +1,5 @@
-use mathlib.Core.Path.{refl}
 use Prim.Native.Nat.{◌^◌, ◌<◌}
-use borrow.Author.Rules.{rules}
-use Rattle.queue.proofs.Chains.{seen-several}
-use Rattle.queue.proofs.Rows.{low-some, fewer-less, SeenBut, row-begin, row-turn, row-end}
+use Rattle.queue.proofs.Rows.{SeenBut}
 use Rattle.queue.proofs.heads.more_givers.Given as goal
 
 abbrev pub invariant-loop-w : goal.invariant-loop-w

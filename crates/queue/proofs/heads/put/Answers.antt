@@ -1,10 +1,8 @@
 use mathlib.Core.Path.{◌≡◌}
 use Prim.Native.Nat.{◌^◌, ◌<◌}
 use borrow.Author.Rules.{rules}
-use lib.ListN.{length}
 use Rattle.sets.proofs.Digits.{shifted}
-use Rattle.queue.specs.Places.{index_length}
-use Rattle.queue.proofs.Rows.{low-some, fewer-less, Putting, put_first, put-turn, put-done}
+use Rattle.queue.proofs.Rows.{low-some, fewer-less, put_first, put-turn, put-done}
 use Rattle.queue.proofs.heads.put.Goals as goal
 
 pub loop-w-init : goal.loop-w-init

@@ -1,5 +1,4 @@
 use Rattle.queue.proofs.Rows.{heads-put}
-use borrow.Author.Rules.{rules}
 use Rattle.queue.proofs.heads.put_heads.Goals as goal
 
 pub returns : goal.returns

@@ -1,9 +1,7 @@
 use mathlib.Core.Path.{◌≡◌}
 use Prim.Native.Nat.{◌+◌, ◌-◌, ◌≤◌}
 use borrow.Author.Rules.{rules}
-use lib.ListN.{length}
-use Rattle.queue.specs.Places.{index_length}
-use Rattle.queue.proofs.Rows.{RowsTo, rows-many, rows-first, rows-turn, rows-done}
+use Rattle.queue.proofs.Rows.{rows-many, rows-first, rows-turn, rows-done}
 use Rattle.queue.proofs.heads.rows.Goals as goal
 
 pub returns-then-c-n : goal.returns-then-c-n

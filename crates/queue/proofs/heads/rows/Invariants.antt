@@ -1,9 +1,8 @@
 use mathlib.Core.Path.{◌≡◌}
 use Prim.Native.Nat.{◌+◌, ◌-◌, ◌≤◌}
-use borrow.Author.Rules.{rules}
 use lib.ListN.{length}
 use Rattle.queue.specs.Places.{index_length}
-use Rattle.queue.proofs.Rows.{RowsTo, rows-many, rows-first, rows-turn, rows-done}
+use Rattle.queue.proofs.Rows.{RowsTo}
 use Rattle.queue.proofs.heads.rows.Given as goal
 
 abbrev pub invariant-loop-k : goal.invariant-loop-k

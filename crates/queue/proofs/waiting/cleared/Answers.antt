@@ -1,6 +1,5 @@
 use mathlib.Core.Path.{refl}
 use Rattle.sets.proofs.Digits.{shifted}
-use borrow.Author.Rules.{rules}
 use Rattle.queue.proofs.waiting.cleared.Goals as goal
 
 pub returns-then-i-lt64 : goal.returns-then-i-lt64

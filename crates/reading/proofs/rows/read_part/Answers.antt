@@ -1,7 +1,6 @@
 use mathlib.Core.Path.{sym}
 use native.Mathlib.Omega.{arith}
 use lib.Seq.{length-take-le}
-use borrow.Author.Rules.{rules}
 use Rattle.reading.proofs.rows.read_part.Goals as goal
 
 pub slice_bounds-read-end-2 : goal.slice_bounds-read-end-2

@@ -1,5 +1,4 @@
 use Rattle.standing.proofs.Barring.{barred-is}
-use borrow.Author.Rules.{rules}
 use Rattle.standing.proofs.bans.barred.Goals as goal
 
 pub returns : goal.returns

@@ -1,6 +1,6 @@
 use borrow.Author.Rules.{rules}
 use native.Mathlib.Omega.{arith}
-use Rattle.standing.proofs.Barring.{Leaves, leaves_all, leaves-turn}
+use Rattle.standing.proofs.Barring.{leaves_all, leaves-turn}
 use Prim.Native.Nat.{◌-◌, ◌≤◌}
 use Rattle.standing.proofs.bans.by_bans.Goals as goal
 

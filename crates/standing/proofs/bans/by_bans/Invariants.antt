@@ -1,6 +1,4 @@
-use borrow.Author.Rules.{rules}
-use native.Mathlib.Omega.{arith}
-use Rattle.standing.proofs.Barring.{Leaves, leaves_all, leaves-turn}
+use Rattle.standing.proofs.Barring.{Leaves}
 use Prim.Native.Nat.{◌-◌, ◌≤◌}
 use Rattle.standing.proofs.bans.by_bans.Given as goal
 

@@ -1,6 +1,5 @@
-use borrow.Author.Rules.{rules}
 use native.Mathlib.Omega.{arith}
-use Rattle.standing.proofs.Barring.{Spares, spares-all, spares-turn}
+use Rattle.standing.proofs.Barring.{spares-all, spares-turn}
 use Prim.Native.Nat.{◌-◌, ◌≤◌}
 use Rattle.standing.proofs.bans.in_turn.Goals as goal
 

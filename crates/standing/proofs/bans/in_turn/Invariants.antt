@@ -1,6 +1,4 @@
-use borrow.Author.Rules.{rules}
-use native.Mathlib.Omega.{arith}
-use Rattle.standing.proofs.Barring.{Spares, spares-all, spares-turn}
+use Rattle.standing.proofs.Barring.{Spares}
 use Prim.Native.Nat.{◌-◌, ◌≤◌}
 use Rattle.standing.proofs.bans.in_turn.Given as goal
 

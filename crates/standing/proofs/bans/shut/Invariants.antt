@@ -1,8 +1,4 @@
-use borrow.Author.Rules.{rules}
-use native.Mathlib.Omega.{arith}
-use Rattle.standing.proofs.Barring.{shut-turn}
 use Rattle.standing.specs.Standing.{Shut}
-use Rattle.bounds.proofs.Steps.{keeps_same}
 use Rattle.bounds.specs.Sound.{Keeps}
 use Prim.Native.Nat.{◌-◌, ◌≤◌}
 use Rattle.standing.proofs.bans.shut.Given as goal

@@ -1,5 +1,4 @@
 use Rattle.standing.proofs.Barring.{unbanned-is}
-use borrow.Author.Rules.{rules}
 use Rattle.standing.proofs.bans.unbanned.Goals as goal
 
 pub returns : goal.returns

@@ -1,7 +1,6 @@
 use Rattle.standing.proofs.Rows.{free-room}
 use lib.ListN.{length-set}
 use Rattle.standing.proofs.Rows.{free-put}
-use borrow.Author.Rules.{rules}
 use Rattle.standing.proofs.memory.allow.Goals as goal
 
 pub bounds-mem-at-2 : goal.bounds-mem-at-2

@@ -1,7 +1,6 @@
 use Rattle.standing.proofs.Rows.{ban-room}
 use lib.ListN.{length-set}
 use Rattle.standing.proofs.Rows.{ban-put}
-use borrow.Author.Rules.{rules}
 use Rattle.standing.proofs.memory.forbid.Goals as goal
 
 pub bounds-mem-at-2 : goal.bounds-mem-at-2

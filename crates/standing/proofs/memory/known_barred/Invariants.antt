@@ -1,7 +1,3 @@
-use borrow.Author.Rules.{rules}
-use native.Mathlib.Omega.{arith}
-use Rattle.standing.proofs.Domination.{some-ban}
-use Rattle.logic.proofs.Decide.{clash}
 use Prim.Native.Nat.{◌-◌, ◌≤◌}
 use Rattle.standing.proofs.memory.known_barred.Given as goal
 

@@ -1,6 +1,5 @@
 use mathlib.Core.Path.{sym}
 use Rattle.logic.proofs.Decide.{clash}
-use borrow.Author.Rules.{rules}
 use Rattle.ways.proofs.streams.is_last.Goals as goal
 
 pub returns-then-got-ge0 : goal.returns-then-got-ge0

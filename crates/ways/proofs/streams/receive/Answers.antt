@@ -2,7 +2,6 @@ use mathlib.Core.Logic.{⊎_elim}
 use lib.Seq.{length-take-le}
 use Prim.Native.Nat.{◌+◌, ◌-◌, ◌≤◌}
 use mathlib.Core.Path.{◌≡◌, sym}
-use lib.ListN.{length}
 use native.Mathlib.Omega.{arith}
 use borrow.Author.Rules.{rules}
 use Rattle.ways.proofs.streams.receive.Goals as goal

@@ -1,10 +1,6 @@
-use mathlib.Core.Logic.{⊎_elim}
-use lib.Seq.{length-take-le}
 use Prim.Native.Nat.{◌+◌, ◌-◌, ◌≤◌}
-use mathlib.Core.Path.{◌≡◌, sym}
+use mathlib.Core.Path.{◌≡◌}
 use lib.ListN.{length}
-use native.Mathlib.Omega.{arith}
-use borrow.Author.Rules.{rules}
 use Rattle.ways.proofs.streams.receive.Given as goal
 
 abbrev pub invariant-loop-done : goal.invariant-loop-done

@@ -1,7 +1,6 @@
 use mathlib.Core.Logic.{⊎_elim}
 use mathlib.Core.Path.{◌≡◌}
 use Prim.Native.Nat.{◌+◌, ◌-◌, ◌≤◌}
-use lib.ListN.{length}
 use native.Mathlib.Omega.{arith}
 use Rattle.logic.proofs.Decide.{clash}
 use Rattle.ways.proofs.Stands.{next-write, rest-long}

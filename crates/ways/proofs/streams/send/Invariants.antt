@@ -1,11 +1,6 @@
-use mathlib.Core.Logic.{⊎_elim}
 use mathlib.Core.Path.{◌≡◌}
 use Prim.Native.Nat.{◌+◌, ◌-◌, ◌≤◌}
 use lib.ListN.{length}
-use native.Mathlib.Omega.{arith}
-use Rattle.logic.proofs.Decide.{clash}
-use Rattle.ways.proofs.Stands.{next-write, rest-long}
-use borrow.Author.Rules.{rules}
 use Rattle.ways.proofs.streams.send.Given as goal
 
 abbrev pub invariant-loop-done : goal.invariant-loop-done
