@@ -22,18 +22,18 @@ pair_at-requires c =
     omega (arith, at_in s.store.now s.name.bytes l.result l.ensures c.in-At.i c.in-At.is, at_long s.store.now s.name.bytes l.result l.ensures c.in-At.i c.in-At.is)
 
 pub returns-in-Neither : goal.returns-in-Neither
-returns-in-Neither c =    let s = c.args in
+returns-in-Neither c = let s = c.args in
     let l = c.locate-l in
     let q = c.refused.ensures in
     let whole = go-meant s.store.now s.name.bytes (λ k. (c.shared_slice_known-1.given k).fits) _ (go-neither s.store.now s.name.bytes l.result l.ensures _ _ c.in-Neither.is q.0 q.1) in record { value = whole.0; of_store = whole.1 }
 
 pub returns-in-Before : goal.returns-in-Before
-returns-in-Before c =    let s = c.args in
+returns-in-Before c = let s = c.args in
     let l = c.locate-l in
     let q = c.refused-in-Before.ensures in
     let whole = go-meant s.store.now s.name.bytes (λ k. (c.shared_slice_known-1.given k).fits) _ (go-before s.store.now s.name.bytes l.result l.ensures c.in-Before.field-0 c.in-Before.field-1 c.in-Before.is _ q.0 q.1) in record { value = whole.0; of_store = whole.1 }
 
 pub returns-in-At : goal.returns-in-At
-returns-in-At c =    let s = c.args in
+returns-in-At c = let s = c.args in
     let l = c.locate-l in
     let whole = go-meant s.store.now s.name.bytes (λ k. (c.shared_slice_known-1.given k).fits) _ (go-at s.store.now s.name.bytes l.result l.ensures c.in-At.i c.in-At.is _ c.pair_at.ensures) in record { value = whole.0; of_store = whole.1 }

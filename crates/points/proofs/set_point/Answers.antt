@@ -25,7 +25,7 @@ put_pair-requires c =
     omega (arith, at_in s.store.now s.name.bytes l.result l.ensures c.in-At.i c.in-At.is, at_long s.store.now s.name.bytes l.result l.ensures c.in-At.i c.in-At.is)
 
 pub returns-then-k-eq32 : goal.returns-then-k-eq32
-returns-then-k-eq32 c =    let s = c.args in
+returns-then-k-eq32 c = let s = c.args in
     let l = c.locate-l in
     let q = c.refused-then-k-eq32.ensures in
     let g = c.well_formed.1.1.0.1.1 in
@@ -46,7 +46,7 @@ insert-requires c =
 
 pub returns-in-Neither : goal.returns-in-Neither
 unfolding set_told
-returns-in-Neither c =    let s = c.args in
+returns-in-Neither c = let s = c.args in
     let l = c.locate-l in
     let q = c.refused.ensures in
     let g = c.well_formed.1.1.0.1.1 in
@@ -54,14 +54,14 @@ returns-in-Neither c =    let s = c.args in
     let whole = set-meant s.store.now s.name.bytes s.p b (record { taken = g.0.1; held = g.1.0.1; denied = g.1.1.0.1 }) _ _ (keep-neither s.store.now s.name.bytes l.result l.ensures _ _ _ c.in-Neither.is q.0 q.1) in record { met = whole.0; meant = whole.1 }
 
 pub returns-in-At : goal.returns-in-At
-returns-in-At c =    let s = c.args in
+returns-in-At c = let s = c.args in
     let l = c.locate-l in
     let g = c.well_formed.1.1.0.1.1 in
     let b : AreBytes s.store.now = λ k. (c.slice_known-1.given k).fits in
     let whole = set-meant s.store.now s.name.bytes s.p b (record { taken = g.0.1; held = g.1.0.1; denied = g.1.1.0.1 }) _ _ (set_at s.store.now s.name.bytes l.result l.ensures c.in-At.i c.in-At.is _ _ b c.put_pair.ensures) in record { met = whole.0; meant = whole.1 }
 
 pub returns-else-k-eq32 : goal.returns-else-k-eq32
-returns-else-k-eq32 c =    let s = c.args in
+returns-else-k-eq32 c = let s = c.args in
     let l = c.locate-l in
     let g = c.well_formed.1.1.0.1.1 in
     let b : AreBytes s.store.now = λ k. (c.slice_known-1.given k).fits in
