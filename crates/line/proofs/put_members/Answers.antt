@@ -7,6 +7,7 @@ use Rattle.logic.proofs.Stores.{putting-start, putting-end}
 use Rattle.line.specs.Parts.{taken_of}
 use Rattle.line.proofs.PutLaws.{member-put, member-skipped, taken-are, fields-bytes}
 use Rattle.line.proofs.put_members.Goals as goal
+use Rattle.line.proofs.put_members.Goals.{then-member, else-member}
 
 pub loop-i-init : goal.loop-i-init
 loop-i-init c = (omega arith, putting-start _ _ _ _ _ (omega arith))
@@ -45,8 +46,16 @@ pub loop-i-preserved : goal.loop-i-preserved
 loop-i-preserved c =
     let member = c.member in
     let loop = c.loop-i in
-    ⊎_elim (λ w. (omega arith, member-put _ _ _ loop.buf _ _ loop.i loop.invariant.1 (omega arith) member.result member.ensures _ _ (search rules) (w.5 ∙ w.2.ensures) (omega (arith, w.6))))
-    (λ w. (omega arith, member-skipped _ _ _ loop.buf _ _ loop.i loop.invariant.1 (omega arith) member.result member.ensures _ _ (search rules) w.1 (omega (arith, w.2)))) c.if-member.branch
+    elim c.if-member.branch [
+      | then-member w ↦ (
+        omega (arith, w.k-is),
+        member-put _ _ _ loop.buf _ _ loop.i loop.invariant.1 (omega arith) member.result member.ensures _ _ w.if-member.true (w.buf-is ∙ w.put_columns.ensures) (omega (arith, w.k-is)),
+      )
+      | else-member w ↦ (
+        omega (arith, w.k-is),
+        member-skipped _ _ _ loop.buf _ _ loop.i loop.invariant.1 (omega arith) member.result member.ensures _ _ w.if-member.false w.buf-is (omega (arith, w.k-is)),
+      )
+    ]
 
 pub returns : goal.returns
 returns c =
