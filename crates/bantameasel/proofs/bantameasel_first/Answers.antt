@@ -5,4 +5,4 @@ use Rattle.across.specs.Across.{answer_in}
 use Rattle.bantameasel.proofs.bantameasel_first.Goals as goal
 
 pub returns : goal.returns
-returns c = let whole = answer-across _ _ _ ((first-means _ _).0 refl) _ (c.pair_in.ensures ∙ ap answer_in c.first.ensures.0) in record { value = whole.0; means = whole.1 }
+returns c = let whole = answer-across _ _ _ ((first-means _ _).0 refl) _ (c.pair_in.ensures ∙ ap answer_in c.first.ensures.result_value) in record { value = whole.0; means = whole.1 }

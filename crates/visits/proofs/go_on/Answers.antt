@@ -5,10 +5,10 @@ pub returns-in-Refused : goal.returns-in-Refused
 returns-in-Refused c =
     let s = c.args in
     let g = c.go_to-w in
-    gone-not s.text.now s.store.now s.name.bytes g.result g.ensures.0 _ c.in-Refused.is
+    gone-not s.text.now s.store.now s.name.bytes g.result g.ensures.value _ c.in-Refused.is
 
 pub returns-in-Point : goal.returns-in-Point
 returns-in-Point c =
     let s = c.args in
     let g = c.go_to-w in
-    gone_at s.text.now s.store.now s.name.bytes g.result g.ensures.0 c.in-Point.p _ c.in-Point.is c.after.ensures.0
+    gone_at s.text.now s.store.now s.name.bytes g.result g.ensures.value c.in-Point.p _ c.in-Point.is c.after.ensures.result_value

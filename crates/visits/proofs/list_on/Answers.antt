@@ -5,10 +5,10 @@ pub returns-in-Refused : goal.returns-in-Refused
 returns-in-Refused c =
     let s = c.args in
     let g = c.go_to-w in
-    listed-not s.text.now s.store.now s.name.bytes g.result g.ensures.0 _ _ _ _ c.in-Refused.is
+    listed-not s.text.now s.store.now s.name.bytes g.result g.ensures.value _ _ _ _ c.in-Refused.is
 
 pub returns-in-Point : goal.returns-in-Point
 returns-in-Point c =
     let s = c.args in
     let g = c.go_to-w in
-    listed_at s.text.now s.store.now s.name.bytes g.result g.ensures.0 _ _ _ _ _ c.in-Point.p _ c.in-Point.is c.run.ensures
+    listed_at s.text.now s.store.now s.name.bytes g.result g.ensures.value _ _ _ _ _ c.in-Point.p _ c.in-Point.is c.run.ensures
