@@ -1,7 +1,7 @@
 # run:  builds `ways`, proofs and all, and runs it on a book: make run BOOK=examples/gown.book
-# test: the gate. It proves every crate from nothing, tries the must-fail edits and runs the programs (rt ci); then it tests what it has just
-#       proved and built: the examples, the streams of `ways`, the collection program, the C header, the agreement with brute force and
-#       with clingo, the installation.
+# test: the gate. rt ci proves every crate, tries the must-fail edits and runs the programs; then this tests what was proved and built: the
+#       examples, the streams of `ways`, the collection program, the C header, the agreement with brute force and with clingo, the
+#       installation. `proved` and `library` are its first two parts.
 # install, uninstall: see people.mk.
 SHELL := /bin/bash
 .SHELLFLAGS := -euo pipefail -c
@@ -10,17 +10,21 @@ MAKEFLAGS += --no-print-directory
 BOOK ?= examples/gown.book
 LOG := build/ci.log
 PACKAGES := gringo valgrind g++
-JOBS ?= 5
 
 .PHONY: run test packages proved library examples streams collection header agreement installed
 
+# `rt run` looks for what changed, but knows nothing of what `rt ci` built: a `ways` newer than all crates runs as it is.
 run:
 	@mkdir -p build
-	@rt check ways > build/run.log 2>&1 || { cat build/run.log; exit 1; }
-	@target/bin/ways < $(BOOK)
+	@if [ ! -x $(WAYS) ] || [ -n "$$(find crates crates.txt -regex 'crates/[^/]*/out' -prune -o -type f -newer $(WAYS) -print -quit)" ]; then \
+	  (cd crates/ways && rt run < /dev/null) > build/run.log 2>&1 || { cat build/run.log; exit 1; }; fi
+	@$(WAYS) < $(BOOK)
 
-# The last line is rt's own: how many passed, how many failed.
-test: packages proved library
+# One after the other; the last line is rt's own: how many passed, how many failed.
+test:
+	$(MAKE) proved
+	$(MAKE) packages
+	$(MAKE) library
 	$(MAKE) -j2 -O examples streams collection header
 	$(MAKE) agreement
 	$(MAKE) installed
@@ -31,33 +35,37 @@ packages:
 	missing=$$(for package in $(PACKAGES); do dpkg -s $$package > /dev/null 2>&1 || echo $$package; done); \
 	if [ -n "$$missing" ]; then apt-get update -qq && DEBIAN_FRONTEND=noninteractive apt-get install -y -qq $$missing > /dev/null; fi
 
-# rt tries so many crates of one layer, or edits, and waits for all of them: more at a time than there are cores leave fewer cores idle.
+# Fails where rt ci does (pipefail: tee hides nothing), and where a must-fail edit could not be applied or read, which rt ci only tells.
+# build/begun is for tests/archive: when rt ci began, and whether anything had been built before.
 proved:
 	mkdir -p build
-	RT_JOBS=$(JOBS) rt ci 2>&1 | tee $(LOG)
+	if compgen -G 'crates/*/out' > /dev/null; then echo built; else echo clean; fi > build/begun
+	rt ci 2>&1 | tee $(LOG)
+	grep -q '^rt: ok' $(LOG) || { echo 'no line of rt ci says ok' >&2; exit 1; }
+	if grep -E '^rt: ok.*, [0-9]+ bad' $(LOG) >&2; then echo 'must-fail edits are bad: rt ci names them above' >&2; exit 1; fi
 
 library:
-	rt staticlib bantameasel 2>&1 | tail -n 1
+	tests/archive $(LIBRARY)
 
 # Every example prints what is stored beside it; of the long listing the sum is stored.
 examples:
 	count=0; \
 	for book in examples/*.book; do \
 	  stored=$${book%.book}.out; \
-	  if [ -f "$$stored" ]; then target/bin/ways < "$$book" | cmp - "$$stored"; \
-	  else target/bin/ways < "$$book" | sha256sum --quiet -c "$${book%.book}.sum"; fi; \
+	  if [ -f "$$stored" ]; then $(WAYS) < "$$book" | cmp - "$$stored"; \
+	  else $(WAYS) < "$$book" | sha256sum --quiet -c "$${book%.book}.sum"; fi; \
 	  count=$$((count + 1)); \
 	done; \
 	echo "examples: $$count books print what is stored"
-	tests/books_page target/bin/ways docs/BOOKS.md examples
-	tests/symptoms target/bin/ways docs/BOOKS.md examples
+	tests/books_page $(WAYS) docs/BOOKS.md examples
+	tests/symptoms $(WAYS) docs/BOOKS.md examples
 
 # A listing is whole, or cut off and not closed, whatever reads and writes do.
 streams:
 	$(MAKE) -C tests streams
 
 collection:
-	LIB=target/staticlib/libbantameasel.a collection/test.sh
+	LIB=$(LIBRARY) collection/test.sh
 
 header:
 	$(MAKE) -C tests header

@@ -4,14 +4,14 @@
 #
 #   make install PREFIX=path/of/a/folder
 #
-# `rt check` writes WAYS, and `rt staticlib bantameasel` writes LIBRARY, before this runs; only COLLECTION is built here,
-# by the C compiler. DESTDIR is put before every path that is written to, for those who make packages.
+# `make test` makes WAYS and LIBRARY before this runs (`make run` makes WAYS alone, `make library` LIBRARY); only COLLECTION
+# is built here, by the C compiler. DESTDIR is put before every path that is written to, for those who make packages.
 
 PREFIX ?= /usr/local
 DESTDIR ?=
 VERSION ?= 2.5
-WAYS ?= target/bin/ways
-LIBRARY ?= target/staticlib/libbantameasel.a
+WAYS ?= crates/ways/out/ways
+LIBRARY ?= build/libbantameasel.a
 COLLECTION ?= build/collection
 
 prefix := $(abspath $(PREFIX))

@@ -1,4 +1,5 @@
-// The operations for programs in C: only numbers, structs of numbers (crate across) and slices go across the border.
+// The operations for programs in C: only numbers, structs of numbers (crate across) and slices go across the border. The crate bantameasel_c, a static
+// library, exports each of them under its name.
 #![tactic(auto)]
 
 ghost use Rattle.std.specs.Prelude.{◌≡◌, List, ℕ, length};
