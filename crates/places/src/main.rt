@@ -5,15 +5,16 @@
 ghost use Rattle.std.specs.Prelude.{◌^◌, ◌<◌, ◌≤◌};
 ghost use Rattle.order.specs.Formula.{widest};
 
+use std::io;
+
 // A blank and a number.
-fn number(n: u64) {
-    io::write_all(1, b" ");
-    io::print_decimal(1, n);
+fn number(rt: &impl Print, n: u64) -> io::Result<()> {
+    print!(rt; " {n}")
 }
 
 // The line's end.
-fn end() {
-    io::write_all(1, b"\n");
+fn end(rt: &impl Print) -> io::Result<()> {
+    println!(rt; "")
 }
 
 // How many ones a word has, one digit after the other.
@@ -65,7 +66,7 @@ fn sound(x: usize, place: usize) -> u64
 }
 
 // How many exceptions, how many places, how many of them are sound.
-fn all_sound(x: usize)
+fn all_sound(rt: &impl Print, x: usize) -> io::Result<()>
     requires { x ≤ widest }
 {
     let places = order::place_count(x);
@@ -75,58 +76,59 @@ fn all_sound(x: usize)
         count = std::num::wrapping_add_u64(count, sound(x, place));
         place += 1;
     }
-    number(x as u64);
-    number(places as u64);
-    number(count);
-    end();
+    number(rt, x as u64)?;
+    number(rt, places as u64)?;
+    number(rt, count)?;
+    end(rt)
 }
 
 // A place and its set, if there is one.
-fn entry(x: usize, place: usize)
+fn entry(rt: &impl Print, x: usize, place: usize) -> io::Result<()>
     requires { x ≤ widest }
 {
     if order::place_count(x) <= place {
-        return;
+        return Ok(());
     }
-    number(place as u64);
-    io::write_all(1, b":");
-    number(order::set_at(x, place));
+    number(rt, place as u64)?;
+    print!(rt; ":")?;
+    number(rt, order::set_at(x, place))
 }
 
 // The places 0 to 3, three others, and their sets.
-fn named(x: usize, a: usize, b: usize, c: usize)
+fn named(rt: &impl Print, x: usize, a: usize, b: usize, c: usize) -> io::Result<()>
     requires { x ≤ widest }
 {
-    entry(x, 0);
-    entry(x, 1);
-    entry(x, 2);
-    entry(x, 3);
-    entry(x, a);
-    entry(x, b);
-    entry(x, c);
-    end();
+    entry(rt, x, 0)?;
+    entry(rt, x, 1)?;
+    entry(rt, x, 2)?;
+    entry(rt, x, 3)?;
+    entry(rt, x, a)?;
+    entry(rt, x, b)?;
+    entry(rt, x, c)?;
+    end(rt)
 }
 
 // Each set after the other, from the empty one on.
-fn whole(x: usize)
+fn whole(rt: &impl Print, x: usize) -> io::Result<()>
     requires { x ≤ widest }
 {
     let places = order::place_count(x);
     let mut place = 0;
     while place < places {
-        number(order::set_at(x, place));
+        number(rt, order::set_at(x, place))?;
         place += 1;
     }
-    end();
+    end(rt)
 }
 
-fn main() {
+fn main(rt: HostRuntime) -> io::Result<()> {
+    let rt = &rt;
     let mut x = 0;
     while x <= 16 {
-        all_sound(x);
+        all_sound(rt, x)?;
         x += 1;
     }
-    named(12, 13, 14, 4095);
-    named(16, 17, 18, 65535);
-    whole(4);
+    named(rt, 12, 13, 14, 4095)?;
+    named(rt, 16, 17, 18, 65535)?;
+    whole(rt, 4)
 }

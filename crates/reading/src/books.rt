@@ -3,6 +3,7 @@
 ghost use Rattle.std.specs.Prelude.{◌≤◌};
 
 use crate::rows;
+use std::io;
 
 // Room for the texts that are made here, some of which are too long.
 pub const ROOM: usize = 11900;
@@ -10,93 +11,108 @@ pub const ROOM: usize = 11900;
 // ---- the small books
 
 // Small book k: read, and written again.
-fn book(k: u64, text: &[u8]) {
-    rows::letter(b'K');
-    io::print_decimal(1, k);
-    rows::both(text);
+fn book(rt: &impl Print, k: u64, text: &[u8]) -> io::Result<()> {
+    rows::letter(rt, b'K')?;
+    rt.print(k)?;
+    rows::both(rt, text)
 }
 
-fn first_seven() {
-    book(1, b"B   1   1\nZ   0\n");
+fn first_seven(rt: &impl Print) -> io::Result<()> {
+    book(rt, 1, b"B   1   1\nZ   0\n")?;
     book(
+        rt,
         2,
         b"B   1   1\nR   0   0   0   0   0   0   0   0   0\nZ   1\n",
-    );
+    )?;
     book(
+        rt,
         3,
         b"B   1   2\nR   2   0   0   0   0  -1   0   0   0\nZ   1\n",
-    );
+    )?;
     book(
+        rt,
         4,
         b"B   1   2\nR   1   0   0   0   0   2   0   0   0\nR   2   0   0   0   0   1   0   0   0\nZ   2\n",
-    );
+    )?;
     book(
+        rt,
         5,
         b"B   1   1\nR   1   1   0   0   0   0   0   0   0\nZ   1\n",
-    );
+    )?;
     book(
+        rt,
         6,
         b"B   1   1\nR   1   0   0   0   0   0   0   0   0\nR  -1   0   0   0   0   0   0   0   0\nZ   2\n",
-    );
+    )?;
     book(
+        rt,
         7,
         b"B   1   3\nR   0   0   0   0   0   1   2   0   0\nR   3   1   0   0   0   0   0   0   0\nX   1   0   0   0   0   0   0   0   0\nX   2   0   0   0   0   0   0   0   0\nZ   4\n",
-    );
+    )
 }
 
-fn last_seven() {
+fn last_seven(rt: &impl Print) -> io::Result<()> {
     book(
+        rt,
         8,
         b"B   1   3\nR   0   0   0   0   0   1   2   0   0\nR   3   1   0   0   0   0   0   0   0\nX   1   0   0   0   0   0   0   0   0\nX   2   0   0   0   0   0   0   0   0\nP   1   2\nZ   5\n",
-    );
+    )?;
     book(
+        rt,
         9,
         b"B   1   4\nR   0   0   0   0   0   1   2   0   0\nR   0   0   0   0   0   3   4   0   0\nR   0   1   3   0   0   0   0   0   0\nR   0   2   4   0   0   0   0   0   0\nX   1   0   0   0   0   0   0   0   0\nX   2   0   0   0   0   0   0   0   0\nX   3   0   0   0   0   0   0   0   0\nX   4   0   0   0   0   0   0   0   0\nP   1   2\nP   3   4\nZ  10\n",
-    );
+    )?;
     book(
+        rt,
         10,
         b"B   1   1\nR   0   0   0   0   0   1   0   0   0\nX   1   0   0   0   0   0   0   0   0\nP   1   1\nZ   3\n",
-    );
+    )?;
     book(
+        rt,
         11,
         b"B   1   2\nR   0   0   0   0   0   1   0   0   0\nX   1   0   0   0   0   0   0   0   0\nX   2  -1   0   0   0   0   0   0   0\nZ   3\n",
-    );
+    )?;
     book(
+        rt,
         12,
         b"B   1   1\nR   0   0   0   0   0   1   0   0   0\nX   1   0   0   0   0   0   0   0   0\nX   1   0   0   0   0   0   0   0   0\nZ   3\n",
-    );
+    )?;
     book(
+        rt,
         13,
         b"B   1   3\nR   0   0   0   0   0   1   3   0   0\nR   0   2   0   0   0   0   0   0   0\nX   1   0   0   0   0   0   0   0   0\nX   2   0   0   0   0   0   0   0   0\nX   3   0   0   0   0   0   0   0   0\nP   1   2\nP   2   3\nZ   7\n",
-    );
+    )?;
     book(
+        rt,
         14,
         b"B   1   3\nR   0   0   0   0   0   1   2   0   0\nR   0   1   0   0   0   3   0   0   0\nX   1   0   0   0   0   0   0   0   0\nX   2   0   0   0   0   0   0   0   0\nX   3   0   0   0   0   0   0   0   0\nP   1   2\nZ   6\n",
-    );
+    )
 }
 
 // The case of document 02, (e), in the same way.
-fn conditional() {
-    rows::letter(b'e');
+fn conditional(rt: &impl Print) -> io::Result<()> {
+    rows::letter(rt, b'e')?;
     rows::both(
+        rt,
         b"B   1   3\nR   0   0   0   0   0   1   3   0   0\nX   1   0   0   0   0   0   0   0   0\nX   2   0   0   0   0   0   0   0   0\nX   3   0   0   0   0   0   0   0   0\nQ   3   1   0   0   0   0   2   0   0   0\nZ   5\n",
-    );
+    )
 }
 
 // A book with rules of two and of three alternatives, one of them twice, in the same way.
-fn alternatives() {
-    rows::letter(b'g');
+fn alternatives(rt: &impl Print) -> io::Result<()> {
+    rows::letter(rt, b'g')?;
     rows::both(
+        rt,
         b"B   1   3\nR   3   2   0   0   0   0   0   0   0\nO   1   2   0   0   0   0   0   0   0   0   0\nO  -1   0   3   2   0   0   0   1   0   0   0\nO   3   3  -2   0   0   0   0   0   0   0   0\nX   1   0   0   0   0   0   0   0   0\nZ   5\n",
-    );
+    )
 }
 
 // The small books.
-pub fn small() {
-    first_seven();
-    last_seven();
-    conditional();
-    alternatives();
+pub fn small(rt: &impl Print) -> io::Result<()> {
+    first_seven(rt)?;
+    last_seven(rt)?;
+    conditional(rt)?;
+    alternatives(rt)
 }
 
 // ---- texts made line by line
@@ -164,56 +180,88 @@ pub fn filled(buf: &[u8; ROOM], e: usize) -> &[u8] {
 }
 
 // What such a book has.
-fn say(r: usize, o: usize, x: usize, p: usize, q: usize, last: &[u8]) {
-    rows::letter(b'R');
-    rows::number(r);
-    io::write_all(1, b" O");
-    rows::number(o);
-    io::write_all(1, b" X");
-    rows::number(x);
-    io::write_all(1, b" P");
-    rows::number(p);
-    io::write_all(1, b" Q");
-    rows::number(q);
-    rows::letter(b' ');
-    rows::quote(last);
+fn say(
+    rt: &impl Print,
+    r: usize,
+    o: usize,
+    x: usize,
+    p: usize,
+    q: usize,
+    last: &[u8],
+) -> io::Result<()> {
+    rows::letter(rt, b'R')?;
+    rows::number(rt, r)?;
+    rt.write_all(b" O")?;
+    rows::number(rt, o)?;
+    rt.write_all(b" X")?;
+    rows::number(rt, x)?;
+    rt.write_all(b" P")?;
+    rows::number(rt, p)?;
+    rt.write_all(b" Q")?;
+    rows::number(rt, q)?;
+    rows::letter(rt, b' ')?;
+    rows::quote(rt, last)
 }
 
 // Such a book, read and written again.
-fn fits(r: usize, o: usize, x: usize, p: usize, q: usize, last: &[u8; 6]) {
+fn fits(
+    rt: &impl Print,
+    r: usize,
+    o: usize,
+    x: usize,
+    p: usize,
+    q: usize,
+    last: &[u8; 6],
+) -> io::Result<()> {
     let mut buf = [0u8; ROOM];
     let e = fill(&mut buf, r, o, x, p, q, last);
-    say(r, o, x, p, q, last);
-    rows::both(filled(&buf, e));
+    say(rt, r, o, x, p, q, last)?;
+    rows::both(rt, filled(&buf, e))
 }
 
 // Such a book, read only.
-pub fn over(r: usize, o: usize, x: usize, p: usize, q: usize, last: &[u8]) {
+pub fn over(
+    rt: &impl Print,
+    r: usize,
+    o: usize,
+    x: usize,
+    p: usize,
+    q: usize,
+    last: &[u8],
+) -> io::Result<()> {
     let mut buf = [0u8; ROOM];
     let e = fill(&mut buf, r, o, x, p, q, last);
-    say(r, o, x, p, q, last);
-    rows::read_row(filled(&buf, e));
+    say(rt, r, o, x, p, q, last)?;
+    rows::read_row(rt, filled(&buf, e))
 }
 
 // The same, where the last bytes are a Z line.
-pub fn over_by(r: usize, o: usize, x: usize, p: usize, q: usize, last: &[u8; 6]) {
-    over(r, o, x, p, q, last);
+pub fn over_by(
+    rt: &impl Print,
+    r: usize,
+    o: usize,
+    x: usize,
+    p: usize,
+    q: usize,
+    last: &[u8; 6],
+) -> io::Result<()> {
+    over(rt, r, o, x, p, q, last)
 }
 
 // Each limit reached, and passed by one.
-pub fn limits() {
-    fits(0, 0, 0, 0, 0, b"Z   0\n");
-    fits(200, 0, 0, 0, 0, b"Z 200\n");
-    over_by(201, 0, 0, 0, 0, b"Z 201\n");
-    fits(0, 40, 0, 0, 0, b"Z  40\n");
-    over_by(0, 41, 0, 0, 0, b"Z  41\n");
-    fits(0, 0, 13, 0, 0, b"Z  13\n");
-    fits(0, 0, 16, 0, 0, b"Z  16\n");
-    over_by(0, 0, 17, 0, 0, b"Z  17\n");
-    fits(0, 0, 1, 32, 0, b"Z  33\n");
-    over_by(0, 0, 1, 33, 0, b"Z  34\n");
-    fits(0, 0, 1, 0, 32, b"Z  33\n");
-    over_by(0, 0, 1, 0, 33, b"Z  34\n");
-    fits(200, 40, 16, 32, 32, b"Z 320\n");
-    over(200, 40, 16, 32, 32, b"Z 320\n\n");
+pub fn limits(rt: &impl Print) -> io::Result<()> {
+    fits(rt, 0, 0, 0, 0, 0, b"Z   0\n")?;
+    fits(rt, 200, 0, 0, 0, 0, b"Z 200\n")?;
+    over_by(rt, 201, 0, 0, 0, 0, b"Z 201\n")?;
+    fits(rt, 0, 40, 0, 0, 0, b"Z  40\n")?;
+    over_by(rt, 0, 41, 0, 0, 0, b"Z  41\n")?;
+    fits(rt, 0, 0, 13, 0, 0, b"Z  13\n")?;
+    fits(rt, 0, 0, 16, 0, 0, b"Z  16\n")?;
+    over_by(rt, 0, 0, 17, 0, 0, b"Z  17\n")?;
+    fits(rt, 0, 0, 1, 32, 0, b"Z  33\n")?;
+    over_by(rt, 0, 0, 1, 33, 0, b"Z  34\n")?;
+    fits(rt, 0, 0, 1, 0, 32, b"Z  33\n")?;
+    over_by(rt, 0, 0, 1, 0, 33, b"Z  34\n")?;
+    fits(rt, 200, 40, 16, 32, 32, b"Z 320\n")?;
+    over(rt, 200, 40, 16, 32, 32, b"Z 320\n\n")
 }

@@ -3,6 +3,7 @@
 ghost use Rattle.std.specs.Prelude.{◌≤◌};
 
 use crate::{books, rows};
+use std::io;
 
 // A line of the book, or the bytes that stand for it.
 fn line(buf: &mut [u8; books::ROOM], at: usize, other: bool, new: &[u8], own: &[u8]) -> usize
@@ -176,388 +177,412 @@ fn start(k: usize) -> usize
 }
 
 // The row of a whole text.
-fn text(t: &[u8]) {
-    rows::quote(t);
-    rows::read_row(t);
+fn text(rt: &impl Print, t: &[u8]) -> io::Result<()> {
+    rows::quote(rt, t)?;
+    rows::read_row(rt, t)
 }
 
 // The row of the book with these bytes in the place of line k.
-fn with(k: usize, new: &[u8]) {
+fn with(rt: &impl Print, k: usize, new: &[u8]) -> io::Result<()> {
     let mut buf = [0u8; books::ROOM];
     let e = exchange(&mut buf, k, new);
-    io::write_all(1, b"line");
-    rows::number(k);
-    rows::letter(b' ');
-    rows::quote(new);
-    rows::read_row(books::filled(&buf, e));
+    rt.write_all(b"line")?;
+    rows::number(rt, k)?;
+    rows::letter(rt, b' ')?;
+    rows::quote(rt, new)?;
+    rows::read_row(rt, books::filled(&buf, e))
 }
 
 // The row of the book with these bytes in line k, from field f on; the first field is 1.
-fn at_field(k: usize, f: u8, new: &[u8]) {
+fn at_field(rt: &impl Print, k: usize, f: u8, new: &[u8]) -> io::Result<()> {
     if f == 0 {
-        return;
+        return Ok(());
     }
     let mut buf = [0u8; books::ROOM];
     let e = exchange(&mut buf, 0, b"");
     books::put(&mut buf, start(k) + 4 * f as usize - 3, new);
-    io::write_all(1, b"line");
-    rows::number(k);
-    io::write_all(1, b" field");
-    rows::number(f as usize);
-    rows::letter(b' ');
-    rows::quote(new);
-    rows::read_row(books::filled(&buf, e));
+    rt.write_all(b"line")?;
+    rows::number(rt, k)?;
+    rt.write_all(b" field")?;
+    rows::number(rt, f as usize)?;
+    rows::letter(rt, b' ')?;
+    rows::quote(rt, new)?;
+    rows::read_row(rt, books::filled(&buf, e))
 }
 
 // One field.
-fn field(k: usize, f: u8, new: &[u8; 4]) {
-    at_field(k, f, new);
+fn field(rt: &impl Print, k: usize, f: u8, new: &[u8; 4]) -> io::Result<()> {
+    at_field(rt, k, f, new)
 }
 
 // Two fields.
-fn fields(k: usize, f: u8, new: &[u8; 8]) {
-    at_field(k, f, new);
+fn fields(rt: &impl Print, k: usize, f: u8, new: &[u8; 8]) -> io::Result<()> {
+    at_field(rt, k, f, new)
 }
 
 // 1 and 2, the whole text: 1 comes before 2, 2 before 3, 1 before 8, 19 and 22.
-pub fn whole() {
-    text(b"");
-    text(b"B   1   1\nZ   0");
-    text(b"B   1   1\nZ   0\n\r");
-    text(b"B   1   1\nZ   0\n\x00");
-    with(17, b"Z  15");
-    with(17, b"Q");
-    books::over(200, 40, 16, 32, 32, b"Z 320\nZ");
-    books::over(200, 40, 16, 32, 32, b"Z 320 ");
-    books::over(200, 40, 16, 33, 32, b"Z 321\n");
-    books::over(200, 40, 16, 32, 33, b"Z 321\n");
-    books::over(200, 41, 16, 32, 32, b"Z 321\n");
+pub fn whole(rt: &impl Print) -> io::Result<()> {
+    text(rt, b"")?;
+    text(rt, b"B   1   1\nZ   0")?;
+    text(rt, b"B   1   1\nZ   0\n\r")?;
+    text(rt, b"B   1   1\nZ   0\n\x00")?;
+    with(rt, 17, b"Z  15")?;
+    with(rt, 17, b"Q")?;
+    books::over(rt, 200, 40, 16, 32, 32, b"Z 320\nZ")?;
+    books::over(rt, 200, 40, 16, 32, 32, b"Z 320 ")?;
+    books::over(rt, 200, 40, 16, 33, 32, b"Z 321\n")?;
+    books::over(rt, 200, 40, 16, 32, 33, b"Z 321\n")?;
+    books::over(rt, 200, 41, 16, 32, 32, b"Z 321\n")
 }
 
 // 3, the letter, on the first line.
-fn first_letters() {
-    text(b"\n");
-    text(b"Z   0\n");
-    with(0, b"");
-    with(1, b"");
-    with(1, b"b   1   3\n");
-    with(1, b" B   1   3\n");
-    with(1, b"\nB   1   3\n");
+fn first_letters(rt: &impl Print) -> io::Result<()> {
+    text(rt, b"\n")?;
+    text(rt, b"Z   0\n")?;
+    with(rt, 0, b"")?;
+    with(rt, 1, b"")?;
+    with(rt, 1, b"b   1   3\n")?;
+    with(rt, 1, b" B   1   3\n")?;
+    with(rt, 1, b"\nB   1   3\n")
 }
 
 // Between.
-fn middle_letters() {
-    with(2, b"B   1   3\n");
-    with(9, b"\n");
-    with(9, b"\r\n");
-    with(9, b"R   2   0   0   0   0   0   0   0   0\n");
-    with(9, b"S   2   0   0   0   0   0   0   0   0\n");
-    with(9, b"\x00   2   0   0   0   0   0   0   0   0\n");
-    with(9, b"\xd8   2   0   0   0   0   0   0   0   0\n");
-    with(12, b"X   2   0   0   0   0   0   0   0   0\n");
-    with(13, b"R   2   3\n");
-    with(4, b"O   1   2   0   0   0   0   0   0   0   0   0\n");
-    with(3, b"O   1   2   0   0   0   0   0   0   0   0   0\n");
-    with(6, b"o   1   2   0   0   0   0   0   0   0   0   0\n");
-    with(9, b"O   1   2   0   0   0   0   0   0   0   0   0\n");
-    with(15, b"O   1   2   0   0   0   0   0   0   0   0   0\n");
-    with(9, b"Q   1   1   0   0   0   0   0   0   0   0\n");
-    with(12, b"Q   1   1   0   0   0   0   0   0   0   0\n");
-    with(15, b"P   1   1\n");
-    with(16, b"q   2   2   0   0   0   0   0   0   0   0\n");
+fn middle_letters(rt: &impl Print) -> io::Result<()> {
+    with(rt, 2, b"B   1   3\n")?;
+    with(rt, 9, b"\n")?;
+    with(rt, 9, b"\r\n")?;
+    with(rt, 9, b"R   2   0   0   0   0   0   0   0   0\n")?;
+    with(rt, 9, b"S   2   0   0   0   0   0   0   0   0\n")?;
+    with(rt, 9, b"\x00   2   0   0   0   0   0   0   0   0\n")?;
+    with(rt, 9, b"\xd8   2   0   0   0   0   0   0   0   0\n")?;
+    with(rt, 12, b"X   2   0   0   0   0   0   0   0   0\n")?;
+    with(rt, 13, b"R   2   3\n")?;
+    with(rt, 4, b"O   1   2   0   0   0   0   0   0   0   0   0\n")?;
+    with(rt, 3, b"O   1   2   0   0   0   0   0   0   0   0   0\n")?;
+    with(rt, 6, b"o   1   2   0   0   0   0   0   0   0   0   0\n")?;
+    with(rt, 9, b"O   1   2   0   0   0   0   0   0   0   0   0\n")?;
+    with(rt, 15, b"O   1   2   0   0   0   0   0   0   0   0   0\n")?;
+    with(rt, 9, b"Q   1   1   0   0   0   0   0   0   0   0\n")?;
+    with(rt, 12, b"Q   1   1   0   0   0   0   0   0   0   0\n")?;
+    with(rt, 15, b"P   1   1\n")?;
+    with(rt, 16, b"q   2   2   0   0   0   0   0   0   0   0\n")
 }
 
 // On the last line, where it is missing, and after it.
-fn last_letters() {
-    text(b"B   1   1\n");
-    with(9, b"Z   7\n");
-    with(17, b"B   1   3\n");
-    with(17, b"");
-    with(17, b"\n");
-    with(18, b"\n");
-    with(18, b"Z  15\n");
-    with(18, b"P   1   1\n");
-    with(18, b"Q   1   1   0   0   0   0   0   0   0   0\n");
+fn last_letters(rt: &impl Print) -> io::Result<()> {
+    text(rt, b"B   1   1\n")?;
+    with(rt, 9, b"Z   7\n")?;
+    with(rt, 17, b"B   1   3\n")?;
+    with(rt, 17, b"")?;
+    with(rt, 17, b"\n")?;
+    with(rt, 18, b"\n")?;
+    with(rt, 18, b"Z  15\n")?;
+    with(rt, 18, b"P   1   1\n")?;
+    with(rt, 18, b"Q   1   1   0   0   0   0   0   0   0   0\n")
 }
 
 // 3, the letter.
-pub fn letters() {
-    first_letters();
-    middle_letters();
-    last_letters();
+pub fn letters(rt: &impl Print) -> io::Result<()> {
+    first_letters(rt)?;
+    middle_letters(rt)?;
+    last_letters(rt)
 }
 
 // 4, the length, on the first line; it comes before 5.
-fn first_lengths() {
-    with(1, b"B\n");
-    with(1, b"B   1\n");
-    with(1, b"B   1   3   0\n");
-    with(1, b"B   1   3\r\n");
-    with(1, b"B   x\n");
-    with(4, b"R  -1  -2   0   0   0   3   0   0 -3\n");
+fn first_lengths(rt: &impl Print) -> io::Result<()> {
+    with(rt, 1, b"B\n")?;
+    with(rt, 1, b"B   1\n")?;
+    with(rt, 1, b"B   1   3   0\n")?;
+    with(rt, 1, b"B   1   3\r\n")?;
+    with(rt, 1, b"B   x\n")?;
+    with(rt, 4, b"R  -1  -2   0   0   0   3   0   0 -3\n")
 }
 
 // Between and on the last; it comes after 3.
-fn later_lengths() {
-    with(5, b"O   1   2   0   0   0   0   0   0   0\n");
-    with(6, b"O   0  -3   3   1  -2   0   0   0   0   0\n");
-    with(7, b"O   2   2   0   0   0   0   0   3   0   0   0   0\n");
-    with(9, b"X   2   0   0   0   0   0   0   0   0 \n");
-    with(9, b"X   2   0   0   0   0   0   0   0   0\r\n");
-    with(9, b"S    9\n");
-    with(11, b"P   1\n");
-    with(13, b"P   3   3   0\n");
-    with(15, b"Q   3   2\n");
-    with(15, b"Q   3   2  -1   2   0   0   0   0   0\n");
-    with(15, b"Q   3   2  -1   2   0   0   0   0   0  -3   0\n");
-    with(17, b"Z\n");
-    with(17, b"Z  15\r\n");
-    with(17, b"Z   15\n");
+fn later_lengths(rt: &impl Print) -> io::Result<()> {
+    with(rt, 5, b"O   1   2   0   0   0   0   0   0   0\n")?;
+    with(rt, 6, b"O   0  -3   3   1  -2   0   0   0   0   0\n")?;
+    with(
+        rt,
+        7,
+        b"O   2   2   0   0   0   0   0   3   0   0   0   0\n",
+    )?;
+    with(rt, 9, b"X   2   0   0   0   0   0   0   0   0 \n")?;
+    with(rt, 9, b"X   2   0   0   0   0   0   0   0   0\r\n")?;
+    with(rt, 9, b"S    9\n")?;
+    with(rt, 11, b"P   1\n")?;
+    with(rt, 13, b"P   3   3   0\n")?;
+    with(rt, 15, b"Q   3   2\n")?;
+    with(rt, 15, b"Q   3   2  -1   2   0   0   0   0   0\n")?;
+    with(rt, 15, b"Q   3   2  -1   2   0   0   0   0   0  -3   0\n")?;
+    with(rt, 17, b"Z\n")?;
+    with(rt, 17, b"Z  15\r\n")?;
+    with(rt, 17, b"Z   15\n")
 }
 
 // 4, the length.
-pub fn lengths() {
-    first_lengths();
-    later_lengths();
+pub fn lengths(rt: &impl Print) -> io::Result<()> {
+    first_lengths(rt)?;
+    later_lengths(rt)
 }
 
 // 5, 17, 18 and 7 on the first line: each field from the left is tested to its end.
-pub fn editions() {
-    field(1, 1, b"  01");
-    field(1, 1, b"\t  1");
-    field(1, 1, b"1   ");
-    field(1, 2, b"  +3");
-    field(1, 2, b"    ");
-    field(1, 1, b"   0");
-    field(1, 1, b"   2");
-    field(1, 1, b"  -1");
-    fields(1, 1, b"   2  49");
-    fields(1, 1, b"   2  03");
-    fields(1, 1, b"   x  49");
+pub fn editions(rt: &impl Print) -> io::Result<()> {
+    field(rt, 1, 1, b"  01")?;
+    field(rt, 1, 1, b"\t  1")?;
+    field(rt, 1, 1, b"1   ")?;
+    field(rt, 1, 2, b"  +3")?;
+    field(rt, 1, 2, b"    ")?;
+    field(rt, 1, 1, b"   0")?;
+    field(rt, 1, 1, b"   2")?;
+    field(rt, 1, 1, b"  -1")?;
+    fields(rt, 1, 1, b"   2  49")?;
+    fields(rt, 1, 1, b"   2  03")?;
+    fields(rt, 1, 1, b"   x  49")
 }
 
 // 5, a byte that is no space, digit or minus, or a minus out of its place: each way, in a line in the middle.
-pub fn strays() {
-    field(9, 5, b"  +1");
-    field(9, 5, b" - 1");
-    field(9, 5, b"   -");
-    field(9, 5, b"-  1");
-    field(9, 5, b" --1");
-    field(9, 5, b"  1-");
-    field(9, 5, b" 1-1");
-    field(9, 5, b"\t  1");
-    field(9, 5, b"  \x001");
-    field(9, 5, b"  \xb21");
-    field(9, 5, b"   /");
-    field(9, 5, b"   :");
-    field(9, 5, b"1 1x");
-    field(9, 5, b"01 x");
-    fields(9, 5, b"   -   1");
+pub fn strays(rt: &impl Print) -> io::Result<()> {
+    field(rt, 9, 5, b"  +1")?;
+    field(rt, 9, 5, b" - 1")?;
+    field(rt, 9, 5, b"   -")?;
+    field(rt, 9, 5, b"-  1")?;
+    field(rt, 9, 5, b" --1")?;
+    field(rt, 9, 5, b"  1-")?;
+    field(rt, 9, 5, b" 1-1")?;
+    field(rt, 9, 5, b"\t  1")?;
+    field(rt, 9, 5, b"  \x001")?;
+    field(rt, 9, 5, b"  \xb21")?;
+    field(rt, 9, 5, b"   /")?;
+    field(rt, 9, 5, b"   :")?;
+    field(rt, 9, 5, b"1 1x")?;
+    field(rt, 9, 5, b"01 x")?;
+    fields(rt, 9, 5, b"   -   1")
 }
 
 // 17, a blank field or a space after a digit.
-pub fn gaps() {
-    field(9, 5, b"    ");
-    field(9, 5, b"1   ");
-    field(9, 5, b"  1 ");
-    field(9, 5, b" 1 1");
-    field(9, 5, b"1 -1");
-    field(9, 5, b"01 1");
-    field(9, 5, b"0  0");
-    fields(9, 5, b"   4    ");
+pub fn gaps(rt: &impl Print) -> io::Result<()> {
+    field(rt, 9, 5, b"    ")?;
+    field(rt, 9, 5, b"1   ")?;
+    field(rt, 9, 5, b"  1 ")?;
+    field(rt, 9, 5, b" 1 1")?;
+    field(rt, 9, 5, b"1 -1")?;
+    field(rt, 9, 5, b"01 1")?;
+    field(rt, 9, 5, b"0  0")?;
+    fields(rt, 9, 5, b"   4    ")
 }
 
 // 18, a leading zero or "-0".
-pub fn zeros() {
-    field(9, 5, b"  01");
-    field(9, 5, b"0000");
-    field(9, 5, b"  -0");
-    field(9, 5, b" -01");
-    field(9, 5, b" -00");
-    fields(9, 5, b"  01   x");
+pub fn zeros(rt: &impl Print) -> io::Result<()> {
+    field(rt, 9, 5, b"  01")?;
+    field(rt, 9, 5, b"0000")?;
+    field(rt, 9, 5, b"  -0")?;
+    field(rt, 9, 5, b" -01")?;
+    field(rt, 9, 5, b" -00")?;
+    fields(rt, 9, 5, b"  01   x")
 }
 
 // 5, 17 and 18 on the lines around.
-pub fn misspelt() {
-    field(2, 1, b"   o");
-    field(4, 9, b" - 3");
-    field(5, 1, b"  01");
-    field(6, 11, b" - 1");
-    field(7, 3, b"0   ");
-    field(10, 1, b"0  1");
-    field(11, 1, b"  01");
-    field(12, 2, b"3   ");
-    field(13, 2, b"  +3");
-    field(14, 1, b"  01");
-    field(15, 10, b" - 3");
-    field(16, 3, b"0   ");
-    field(17, 1, b"    ");
-    field(17, 1, b"  -0");
+pub fn misspelt(rt: &impl Print) -> io::Result<()> {
+    field(rt, 2, 1, b"   o")?;
+    field(rt, 4, 9, b" - 3")?;
+    field(rt, 5, 1, b"  01")?;
+    field(rt, 6, 11, b" - 1")?;
+    field(rt, 7, 3, b"0   ")?;
+    field(rt, 10, 1, b"0  1")?;
+    field(rt, 11, 1, b"  01")?;
+    field(rt, 12, 2, b"3   ")?;
+    field(rt, 13, 2, b"  +3")?;
+    field(rt, 14, 1, b"  01")?;
+    field(rt, 15, 10, b" - 3")?;
+    field(rt, 16, 3, b"0   ")?;
+    field(rt, 17, 1, b"    ")?;
+    field(rt, 17, 1, b"  -0")
 }
 
 // 6, a number outside its range; the leftmost field that is wrong decides. With n 2 the first number outside is in line 3.
-pub fn ranges() {
-    field(1, 2, b"   0");
-    field(1, 2, b"  -1");
-    field(1, 2, b"  49");
-    field(1, 2, b"9999");
-    field(1, 2, b"   2");
-    field(2, 1, b"   4");
-    field(3, 1, b"  -4");
-    field(4, 9, b"   4");
-    field(5, 1, b"  -4");
-    field(6, 3, b"   4");
-    field(7, 11, b"9999");
-    field(9, 2, b"-999");
-    field(10, 1, b"9999");
-    fields(9, 2, b"  01   4");
-    fields(9, 2, b"   4  01");
-    field(11, 1, b"   0");
-    field(12, 2, b"  17");
-    field(13, 1, b"  -1");
-    field(14, 1, b"   0");
-    field(14, 2, b"  17");
-    field(15, 3, b"  -4");
-    field(15, 10, b"   4");
-    field(17, 1, b" 321");
-    field(17, 1, b"  -1");
+pub fn ranges(rt: &impl Print) -> io::Result<()> {
+    field(rt, 1, 2, b"   0")?;
+    field(rt, 1, 2, b"  -1")?;
+    field(rt, 1, 2, b"  49")?;
+    field(rt, 1, 2, b"9999")?;
+    field(rt, 1, 2, b"   2")?;
+    field(rt, 2, 1, b"   4")?;
+    field(rt, 3, 1, b"  -4")?;
+    field(rt, 4, 9, b"   4")?;
+    field(rt, 5, 1, b"  -4")?;
+    field(rt, 6, 3, b"   4")?;
+    field(rt, 7, 11, b"9999")?;
+    field(rt, 9, 2, b"-999")?;
+    field(rt, 10, 1, b"9999")?;
+    fields(rt, 9, 2, b"  01   4")?;
+    fields(rt, 9, 2, b"   4  01")?;
+    field(rt, 11, 1, b"   0")?;
+    field(rt, 12, 2, b"  17")?;
+    field(rt, 13, 1, b"  -1")?;
+    field(rt, 14, 1, b"   0")?;
+    field(rt, 14, 2, b"  17")?;
+    field(rt, 15, 3, b"  -4")?;
+    field(rt, 15, 10, b"   4")?;
+    field(rt, 17, 1, b" 321")?;
+    field(rt, 17, 1, b"  -1")
 }
 
 // 8, a line over its limit: before 9, 10 and what is wrong in a later line; after 6.
-pub fn overs() {
-    books::over_by(201, 0, 16, 1, 0, b"Z 218\n");
-    books::over_by(200, 0, 17, 0, 0, b"Z 217\n");
-    books::over_by(0, 0, 16, 33, 0, b"Z  49\n");
-    books::over(0, 0, 17, 0, 0, b"R\n");
-    books::over(0, 0, 16, 0, 0, b"X   0   0   0   0   0   0   0   0   0\n");
-    books::over(0, 0, 16, 0, 0, b"X  49   0   0   0   0   0   0   0   0\n");
-    books::over(0, 0, 1, 32, 0, b"P   2   2\n");
+pub fn overs(rt: &impl Print) -> io::Result<()> {
+    books::over_by(rt, 201, 0, 16, 1, 0, b"Z 218\n")?;
+    books::over_by(rt, 200, 0, 17, 0, 0, b"Z 217\n")?;
+    books::over_by(rt, 0, 0, 16, 33, 0, b"Z  49\n")?;
+    books::over(rt, 0, 0, 17, 0, 0, b"R\n")?;
+    books::over(
+        rt,
+        0,
+        0,
+        16,
+        0,
+        0,
+        b"X   0   0   0   0   0   0   0   0   0\n",
+    )?;
+    books::over(
+        rt,
+        0,
+        0,
+        16,
+        0,
+        0,
+        b"X  49   0   0   0   0   0   0   0   0\n",
+    )?;
+    books::over(rt, 0, 0, 1, 32, 0, b"P   2   2\n")
 }
 
 // 22, an O line over its limit, in the same places: before 23, after 4 and 6.
-pub fn alternative_overs() {
-    books::over_by(200, 41, 16, 0, 33, b"Z 290\n");
-    books::over_by(0, 41, 17, 0, 0, b"Z  58\n");
-    books::over_by(201, 41, 0, 0, 0, b"Z 242\n");
-    books::over(0, 41, 0, 0, 0, b"R\n");
+pub fn alternative_overs(rt: &impl Print) -> io::Result<()> {
+    books::over_by(rt, 200, 41, 16, 0, 33, b"Z 290\n")?;
+    books::over_by(rt, 0, 41, 17, 0, 0, b"Z  58\n")?;
+    books::over_by(rt, 201, 41, 0, 0, 0, b"Z 242\n")?;
+    books::over(rt, 0, 41, 0, 0, 0, b"R\n")?;
     books::over(
+        rt,
         0,
         40,
         0,
         0,
         0,
         b"O   1   0   0   0   0   0   0   0   0   0   0\n",
-    );
+    )?;
     books::over(
+        rt,
         0,
         40,
         0,
         0,
         0,
         b"O   1   0   0   0   0   0   0   0   0   0  49\n",
-    );
-    books::over(0, 40, 0, 0, 0, b"O   1   0\n");
+    )?;
+    books::over(rt, 0, 40, 0, 0, 0, b"O   1   0\n")
 }
 
 // 19, a Q line over its limit, in the same places; after 4.
-pub fn conditional_overs() {
-    books::over_by(200, 0, 16, 0, 33, b"Z 249\n");
-    books::over_by(0, 0, 1, 33, 33, b"Z  67\n");
-    books::over(0, 0, 1, 0, 33, b"P\n");
+pub fn conditional_overs(rt: &impl Print) -> io::Result<()> {
+    books::over_by(rt, 200, 0, 16, 0, 33, b"Z 249\n")?;
+    books::over_by(rt, 0, 0, 1, 33, 33, b"Z  67\n")?;
+    books::over(rt, 0, 0, 1, 0, 33, b"P\n")?;
     books::over(
+        rt,
         0,
         0,
         1,
         0,
         32,
         b"Q   2   2   0   0   0   0   0   0   0   0\n",
-    );
+    )?;
     books::over(
+        rt,
         0,
         0,
         1,
         0,
         32,
         b"Q   2   2   0   0   0   0   0   0   0  49\n",
-    );
-    books::over(0, 0, 1, 0, 32, b"Q   1   1\n");
+    )?;
+    books::over(rt, 0, 0, 1, 0, 32, b"Q   1   1\n")
 }
 
 // 9 and 10: an exception without head, a P or Q line that names a missing one; 6 comes before them.
-pub fn heads() {
-    fields(8, 1, b"   0   1");
-    field(9, 1, b"   0");
-    field(10, 1, b"   0");
-    fields(9, 1, b"   0   4");
-    field(11, 1, b"   4");
-    field(12, 2, b"   4");
-    field(12, 2, b"  13");
-    fields(13, 1, b"  16  16");
-    fields(11, 1, b"   4  17");
-    field(14, 1, b"   4");
-    field(15, 2, b"  16");
-    fields(16, 1, b"   4  17");
-    with(15, b"Q   4   2  -1   2   0   0   0   0   0  -4\n");
-    with(8, b"P   1   1\n");
-    with(8, b"Q   1   1   0   0   0   0   0   0   0   0\n");
-    with(10, b"");
+pub fn heads(rt: &impl Print) -> io::Result<()> {
+    fields(rt, 8, 1, b"   0   1")?;
+    field(rt, 9, 1, b"   0")?;
+    field(rt, 10, 1, b"   0")?;
+    fields(rt, 9, 1, b"   0   4")?;
+    field(rt, 11, 1, b"   4")?;
+    field(rt, 12, 2, b"   4")?;
+    field(rt, 12, 2, b"  13")?;
+    fields(rt, 13, 1, b"  16  16")?;
+    fields(rt, 11, 1, b"   4  17")?;
+    field(rt, 14, 1, b"   4")?;
+    field(rt, 15, 2, b"  16")?;
+    fields(rt, 16, 1, b"   4  17")?;
+    with(rt, 15, b"Q   4   2  -1   2   0   0   0   0   0  -4\n")?;
+    with(rt, 8, b"P   1   1\n")?;
+    with(rt, 8, b"Q   1   1   0   0   0   0   0   0   0   0\n")?;
+    with(rt, 10, b"")
 }
 
 // 23, an O line with fewer than two heads filled; 6 comes before it. Heads may have gaps, stand twice, or be opposed.
-pub fn alternative_heads() {
-    field(5, 1, b"   0");
-    field(5, 2, b"   0");
-    field(6, 2, b"   0");
-    fields(7, 1, b"   0   0");
-    with(5, b"O   0   0   0   1   2   3   0   1   2   3   0\n");
-    fields(5, 1, b"   0   4");
-    field(6, 3, b"   0");
-    with(7, b"O   1   0   0   0   0   0   0   0   0   0  -4\n");
-    fields(5, 2, b"   0   2");
-    field(5, 2, b"   1");
-    field(5, 2, b"  -1");
-    fields(7, 3, b"   2   2");
+pub fn alternative_heads(rt: &impl Print) -> io::Result<()> {
+    field(rt, 5, 1, b"   0")?;
+    field(rt, 5, 2, b"   0")?;
+    field(rt, 6, 2, b"   0")?;
+    fields(rt, 7, 1, b"   0   0")?;
+    with(rt, 5, b"O   0   0   0   1   2   3   0   1   2   3   0\n")?;
+    fields(rt, 5, 1, b"   0   4")?;
+    field(rt, 6, 3, b"   0")?;
+    with(rt, 7, b"O   1   0   0   0   0   0   0   0   0   0  -4\n")?;
+    fields(rt, 5, 2, b"   0   2")?;
+    field(rt, 5, 2, b"   1")?;
+    field(rt, 5, 2, b"  -1")?;
+    fields(rt, 7, 3, b"   2   2")
 }
 
 // 11, Z's number wrong.
-pub fn totals() {
-    text(b"B   1   1\nZ   1\n");
-    field(17, 1, b"  14");
-    field(17, 1, b"  16");
-    field(17, 1, b"  12");
-    field(17, 1, b"   9");
-    field(17, 1, b"   0");
-    field(17, 1, b" 320");
-    with(7, b"");
-    with(13, b"");
-    with(16, b"");
-    with(17, b"Z  14\n\n");
+pub fn totals(rt: &impl Print) -> io::Result<()> {
+    text(rt, b"B   1   1\nZ   1\n")?;
+    field(rt, 17, 1, b"  14")?;
+    field(rt, 17, 1, b"  16")?;
+    field(rt, 17, 1, b"  12")?;
+    field(rt, 17, 1, b"   9")?;
+    field(rt, 17, 1, b"   0")?;
+    field(rt, 17, 1, b" 320")?;
+    with(rt, 7, b"")?;
+    with(rt, 13, b"")?;
+    with(rt, 16, b"")?;
+    with(rt, 17, b"Z  14\n\n")
 }
 
 // Small book k read into a slice of m numbers.
-fn book_into(k: u64, t: &[u8], m: usize) {
-    rows::letter(b'K');
-    io::print_decimal(1, k);
-    rows::read_short(t, m);
+fn book_into(rt: &impl Print, k: u64, t: &[u8], m: usize) -> io::Result<()> {
+    rows::letter(rt, b'K')?;
+    rt.print(k)?;
+    rows::read_short(rt, t, m)
 }
 
 // A text read into a slice of m numbers.
-fn text_into(t: &[u8], m: usize) {
-    rows::quote(t);
-    rows::read_short(t, m);
+fn text_into(rt: &impl Print, t: &[u8], m: usize) -> io::Result<()> {
+    rows::quote(rt, t)?;
+    rows::read_short(rt, t, m)
 }
 
 // 15, the lent slice: one number short, just enough, one more; after all else.
-pub fn lent() {
+pub fn lent(rt: &impl Print) -> io::Result<()> {
     let k1 = b"B   1   1\nZ   0\n";
-    book_into(1, k1, 0);
-    book_into(1, k1, 5);
-    book_into(1, k1, 6);
+    book_into(rt, 1, k1, 0)?;
+    book_into(rt, 1, k1, 5)?;
+    book_into(rt, 1, k1, 6)?;
     let k7 =
         b"B   1   3\nR   0   0   0   0   0   1   2   0   0\nR   3   1   0   0   0   0   0   0   0\nX   1   0   0   0   0   0   0   0   0\nX   2   0   0   0   0   0   0   0   0\nZ   4\n";
-    book_into(7, k7, 41);
-    book_into(7, k7, 42);
-    book_into(7, k7, 43);
-    text_into(b"B   1   1\nZ   1\n", 3);
-    text_into(b"", 0);
+    book_into(rt, 7, k7, 41)?;
+    book_into(rt, 7, k7, 42)?;
+    book_into(rt, 7, k7, 43)?;
+    text_into(rt, b"B   1   1\nZ   1\n", 3)?;
+    text_into(rt, b"", 0)
 }

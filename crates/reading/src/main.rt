@@ -7,30 +7,33 @@ mod lines;
 mod rows;
 mod tables;
 
-fn main() {
-    books::small();
-    books::limits();
-    lines::whole();
-    lines::letters();
-    lines::lengths();
-    lines::editions();
-    lines::strays();
-    lines::gaps();
-    lines::zeros();
-    lines::misspelt();
-    lines::ranges();
-    lines::overs();
-    lines::alternative_overs();
-    lines::conditional_overs();
-    lines::heads();
-    lines::alternative_heads();
-    lines::totals();
-    lines::lent();
-    tables::good();
-    tables::few();
-    tables::counts();
-    tables::lines();
-    tables::alternative_lines();
-    tables::conditional_lines();
-    tables::lent();
+use std::io;
+
+fn main(rt: HostRuntime) -> io::Result<()> {
+    let rt = &rt;
+    books::small(rt)?;
+    books::limits(rt)?;
+    lines::whole(rt)?;
+    lines::letters(rt)?;
+    lines::lengths(rt)?;
+    lines::editions(rt)?;
+    lines::strays(rt)?;
+    lines::gaps(rt)?;
+    lines::zeros(rt)?;
+    lines::misspelt(rt)?;
+    lines::ranges(rt)?;
+    lines::overs(rt)?;
+    lines::alternative_overs(rt)?;
+    lines::conditional_overs(rt)?;
+    lines::heads(rt)?;
+    lines::alternative_heads(rt)?;
+    lines::totals(rt)?;
+    lines::lent(rt)?;
+    tables::good(rt)?;
+    tables::few(rt)?;
+    tables::counts(rt)?;
+    tables::lines(rt)?;
+    tables::alternative_lines(rt)?;
+    tables::conditional_lines(rt)?;
+    tables::lent(rt)
 }

@@ -1,6 +1,7 @@
 // Rows of the output. After what was tried comes A with n and the counts, or W with the length, or F with a refusal's number and line; then
 // how many places of the lent slice changed.
 use book::Book;
+use std::io;
 use text::{Reading, Refusal, Writing};
 
 // What a lent slice holds before a call: a number that is in no table, a byte that is in no text.
@@ -11,101 +12,90 @@ const MARK_BYTE: u8 = 255;
 // ---- words
 
 // One letter.
-pub fn letter(c: u8) {
-    let b = [c];
-    io::write_all(1, &b);
+pub fn letter(rt: &impl Print, c: u8) -> io::Result<()> {
+    rt.write_all(&[c])
 }
 
 // A blank and a number.
-pub fn number(x: usize) {
-    letter(b' ');
-    io::print_decimal(1, x as u64);
+pub fn number(rt: &impl Print, x: usize) -> io::Result<()> {
+    print!(rt; " {x}")
 }
 
 // The number of a byte.
-fn code(c: u8) {
-    letter(b'<');
-    io::print_decimal(1, c as u64);
-    letter(b'>');
+fn code(rt: &impl Print, c: u8) -> io::Result<()> {
+    print!(rt; "<{c}>")
 }
 
 // A byte as it is, or its number if that cannot be seen.
-fn byte(c: u8) {
+fn byte(rt: &impl Print, c: u8) -> io::Result<()> {
     if c < b' ' {
-        code(c);
-        return;
+        return code(rt, c);
     }
     if c > b'~' {
-        code(c);
-        return;
+        return code(rt, c);
     }
-    letter(c);
+    letter(rt, c)
 }
 
 // Bytes in quotes.
-pub fn quote(b: &[u8]) {
-    letter(b'"');
+pub fn quote(rt: &impl Print, b: &[u8]) -> io::Result<()> {
+    letter(rt, b'"')?;
     let mut i = 0;
     while i < b.len() {
-        byte(b[i]);
+        byte(rt, b[i])?;
         i += 1;
     }
-    letter(b'"');
+    letter(rt, b'"')
 }
 
 // F, the refusal's number and line.
-fn refusal(r: Refusal) {
-    letter(b'F');
-    number(r.number as usize);
-    number(r.line);
+fn refusal(rt: &impl Print, r: Refusal) -> io::Result<()> {
+    letter(rt, b'F')?;
+    number(rt, r.number as usize)?;
+    number(rt, r.line)
 }
 
 // What Read answers.
-fn reading(r: Reading) {
-    io::write_all(1, b": ");
+fn reading(rt: &impl Print, r: Reading) -> io::Result<()> {
+    rt.write_all(b": ")?;
     match r {
         Reading::Accepted(s) => {
-            letter(b'A');
-            number(s.statements);
-            number(s.plain);
-            number(s.exceptions);
-            number(s.preferences);
-            number(s.conditionals);
-            number(s.alternatives);
+            letter(rt, b'A')?;
+            number(rt, s.statements)?;
+            number(rt, s.plain)?;
+            number(rt, s.exceptions)?;
+            number(rt, s.preferences)?;
+            number(rt, s.conditionals)?;
+            number(rt, s.alternatives)
         }
-        Reading::Refused(q) => {
-            refusal(q);
-        }
+        Reading::Refused(q) => refusal(rt, q),
     }
 }
 
 // What Write answers.
-fn writing(w: Writing) {
-    io::write_all(1, b": ");
+fn writing(rt: &impl Print, w: Writing) -> io::Result<()> {
+    rt.write_all(b": ")?;
     match w {
         Writing::Written(n) => {
-            letter(b'W');
-            number(n);
+            letter(rt, b'W')?;
+            number(rt, n)
         }
-        Writing::Refused(q) => {
-            refusal(q);
-        }
+        Writing::Refused(q) => refusal(rt, q),
     }
 }
 
 // How many places changed.
-fn touched(k: usize) {
-    io::write_all(1, b", changed");
-    number(k);
+fn touched(rt: &impl Print, k: usize) -> io::Result<()> {
+    rt.write_all(b", changed")?;
+    number(rt, k)
 }
 
 // Whether what came out is what was to come, and the end of the row.
-fn verdict(same: bool) {
+fn verdict(rt: &impl Print, same: bool) -> io::Result<()> {
     if same {
-        io::write_all(1, b", same\n");
-        return;
+        return rt.write_all(b", same\n");
     }
-    io::write_all(1, b", DIFFERENT\n");
+    rt.write_all(b", DIFFERENT\n")
 }
 
 // ---- slices
@@ -185,89 +175,89 @@ pub fn front_bytes(b: &[u8], m: usize) -> &[u8] {
 // ---- Read
 
 // Read into a slice that is long enough.
-pub fn read_row(text: &[u8]) {
+pub fn read_row(rt: &impl Print, text: &[u8]) -> io::Result<()> {
     let mut t = [MARK; Book::NUMBERS];
     let r = read::read(text, &mut t);
-    reading(r);
-    touched(changed(&t));
-    letter(b'\n');
+    reading(rt, r)?;
+    touched(rt, changed(&t))?;
+    letter(rt, b'\n')
 }
 
 // Read into the first m numbers of a slice.
-fn read_part(text: &[u8], t: &mut [i32], m: usize) {
+fn read_part(rt: &impl Print, text: &[u8], t: &mut [i32], m: usize) -> io::Result<()> {
     if t.len() < m {
-        return;
+        return Ok(());
     }
     let r = read::read(text, &mut t[..m]);
-    reading(r);
-    touched(changed(t));
-    letter(b'\n');
+    reading(rt, r)?;
+    touched(rt, changed(t))?;
+    letter(rt, b'\n')
 }
 
 // Read into a slice of m numbers, m at most 100.
-pub fn read_short(text: &[u8], m: usize) {
+pub fn read_short(rt: &impl Print, text: &[u8], m: usize) -> io::Result<()> {
     let mut t = [MARK; 100];
-    io::write_all(1, b" into");
-    number(m);
-    read_part(text, &mut t, m);
+    rt.write_all(b" into")?;
+    number(rt, m)?;
+    read_part(rt, text, &mut t, m)
 }
 
 // Read, and whether the table is this one.
-pub fn read_same(text: &[u8], table: &[i32]) {
+pub fn read_same(rt: &impl Print, text: &[u8], table: &[i32]) -> io::Result<()> {
     let mut t = [MARK; Book::NUMBERS];
     let r = read::read(text, &mut t);
-    reading(r);
-    touched(changed(&t));
-    verdict(starts(&t, table));
+    reading(rt, r)?;
+    touched(rt, changed(&t))?;
+    verdict(rt, starts(&t, table))
 }
 
 // ---- Write
 
 // Write into a slice that is long enough.
-pub fn write_row(t: &[i32]) {
+pub fn write_row(rt: &impl Print, t: &[i32]) -> io::Result<()> {
     let mut b = [MARK_BYTE; Book::TEXT];
     let w = write::write(t, &mut b);
-    writing(w);
-    touched(changed_bytes(&b));
-    letter(b'\n');
+    writing(rt, w)?;
+    touched(rt, changed_bytes(&b))?;
+    letter(rt, b'\n')
 }
 
 // Write into the first m bytes of a slice.
-fn write_part(t: &[i32], b: &mut [u8], m: usize) {
+fn write_part(rt: &impl Print, t: &[i32], b: &mut [u8], m: usize) -> io::Result<()> {
     if b.len() < m {
-        return;
+        return Ok(());
     }
     let w = write::write(t, &mut b[..m]);
-    writing(w);
-    touched(changed_bytes(b));
-    letter(b'\n');
+    writing(rt, w)?;
+    touched(rt, changed_bytes(b))?;
+    letter(rt, b'\n')
 }
 
 // Write into a slice of m bytes, m at most 600.
-pub fn write_short(t: &[i32], m: usize) {
+pub fn write_short(rt: &impl Print, t: &[i32], m: usize) -> io::Result<()> {
     let mut b = [MARK_BYTE; 600];
-    io::write_all(1, b" into");
-    number(m);
-    write_part(t, &mut b, m);
+    rt.write_all(b" into")?;
+    number(rt, m)?;
+    write_part(rt, t, &mut b, m)
 }
 
 // Write, and whether the text is this one.
-pub fn write_same(t: &[i32], text: &[u8]) {
+pub fn write_same(rt: &impl Print, t: &[i32], text: &[u8]) -> io::Result<()> {
     let mut b = [MARK_BYTE; Book::TEXT];
-    io::write_all(1, b" back");
+    rt.write_all(b" back")?;
     let w = write::write(t, &mut b);
-    writing(w);
-    touched(changed_bytes(&b));
-    verdict(starts_with(&b, text));
+    writing(rt, w)?;
+    touched(rt, changed_bytes(&b))?;
+    verdict(rt, starts_with(&b, text))
 }
 
 // Read, and Write of the table that was read: as many numbers as changed.
-pub fn both(text: &[u8]) {
+pub fn both(rt: &impl Print, text: &[u8]) -> io::Result<()> {
     let mut t = [MARK; Book::NUMBERS];
     let r = read::read(text, &mut t);
-    reading(r);
+    reading(rt, r)?;
     let m = changed(&t);
-    touched(m);
-    letter(b'\n');
-    write_same(front(&t, m), text);
+    touched(rt, m)?;
+    letter(rt, b'\n')?;
+    write_same(rt, front(&t, m), text)
 }

@@ -8,17 +8,23 @@ ghost use Rattle.answers.specs.Ways.{most_lines};
 ghost use Rattle.listing.specs.Parts.{Midway};
 ghost use Rattle.ways.specs.Stands.{Printed, Stood};
 
+use arrayvec::ArrayString;
 use book::{Book, Shape};
 use engine::{Ranks, Words};
 use listing::Part;
 use sets::Pair;
+use std::fmt::Write;
+use std::io;
+use std::process::ExitCode;
+use std::rt::Stdout;
 use streams::{Output, Sent};
 
-// Where a listing stands: the output, whether no write failed, whether more is to be printed, and the last pair printed then.
+// Where a listing stands: the output, whether no write failed, why one failed, whether more is to be printed, and the last pair printed then.
 #[derive(Clone, Copy)]
 pub struct Stand {
     pub to: Output,
     pub whole: bool,
+    pub cause: Option<io::Error>,
     pub more: bool,
     pub last: Pair,
 }
@@ -26,14 +32,17 @@ pub struct Stand {
 // Where it stands after a part. If not all of the part was written, the listing is cut off: nothing more is printed.
 fn after(part: Part, sent: Sent) -> Stand
     ensures to_value { (result.to ≡ sent.to) × (result.whole ≡ sent.whole) × (result.last ≡ part.last) }
+    ensures cause_value { result.cause ≡ sent.cause }
     ensures more_value { (sent.whole ≡ true → result.more ≡ part.full) × (sent.whole ≡ false → result.more ≡ false) }
 {
     let to = sent.to;
+    let cause = sent.cause;
     let last = part.last;
     if sent.whole {
         return Stand {
             to,
             whole: true,
+            cause,
             more: part.full,
             last,
         };
@@ -41,6 +50,7 @@ fn after(part: Part, sent: Sent) -> Stand
     Stand {
         to,
         whole: false,
+        cause,
         more: false,
         last,
     }
@@ -74,7 +84,7 @@ fn rest(text: &[u8], words: &Words, ranks: &Ranks, s: Shape, from: Stand) -> Sta
 }
 
 // All that is printed for a text.
-fn print(text: &[u8]) -> Stand
+fn print(stdout: Stdout, text: &[u8]) -> Stand
     ensures { Printed text.now result }
 {
     let mut words = [0u64; (Book::RULES + Book::CONDITIONALS) * 8];
@@ -82,21 +92,37 @@ fn print(text: &[u8]) -> Stand
     let mut out = [0u8; listing::PART * listing::LONGEST + listing::CLOSING];
     let b = listing::begin(text, &mut words, &mut ranks, &mut out);
     let part = b.part;
-    let sent = streams::send(text, streams::untouched(), &out[..part.bytes]);
+    let sent = streams::send(text, streams::untouched(stdout), &out[..part.bytes]);
     let from = after(part, sent);
     rest(text, &words, &ranks, b.shape, from)
 }
 
+// Says in a line on standard error what failed, and why in the system's words, without the number that std adds to them in brackets. If standard
+// error takes nothing either, nothing is left to be done.
+fn fail(rt: &impl Eprint, what: &str, cause: Option<io::Error>) -> ExitCode {
+    let mut words = ArrayString::<128>::new();
+    if let Some(e) = cause {
+        let _ = write!(words, "{e}");
+    }
+    let said = words.as_str();
+    let why = match said.split_once(" (os error ") {
+        Some((front, _)) => front,
+        None => said,
+    };
+    let _ = eprintln!(rt; "ways: {what}: {why}");
+    ExitCode::FAILURE
+}
+
 // One byte more than a book may have is enough to know that a text is too long.
-fn main() {
+fn main(rt: HostRuntime) -> ExitCode {
     let mut text = [0u8; Book::TEXT + 1];
-    let got = streams::receive(&mut text);
+    let got = streams::receive(rt.stdin(), &mut text);
     if !got.whole {
-        os::fail(b"ways: the book cannot be read");
-        return;
+        return fail(&rt, "the book cannot be read", got.cause);
     }
-    let stand = print(&text[..got.bytes]);
+    let stand = print(rt.stdout(), &text[..got.bytes]);
     if !stand.whole {
-        os::fail(b"ways: the listing is cut off");
+        return fail(&rt, "the listing is cut off", stand.cause);
     }
+    ExitCode::SUCCESS
 }

@@ -1,41 +1,46 @@
 // Standard input and output. A call that a signal interrupted is made again, as long as there is patience; any other that fails is the last.
-ghost use Rattle.std.specs.Prelude.{◌+◌, ◌<◌, ◌≤◌, ◌^◌, true, false, ◌≡◌, length};
-ghost use Rattle.io.specs.Counts.{IsPrefixLen, clamp_len};
+ghost use Rattle.std.specs.Prelude.{◌+◌, ◌<◌, ◌≤◌, ◌^◌, true, false, ◌≡◌, length, take};
+ghost use Rattle.std.specs.Result.{result_unwrap_or};
 ghost use Rattle.listing.specs.Parts.{Next};
+
+use std::io;
+use std::io::{ErrorKind, Read, Write};
+use std::rt::{Stdin, Stdout};
 
 // How many interruptions are borne as the book is read, or as a part is written: at a million in a second they last more than an hour.
 const PATIENCE: u64 = 4294967295;
 
 // A call that moved no byte and answered this is the last, unless it was only interrupted and there is patience left.
-fn is_last(got: isize, patience: u64) -> bool
+fn is_last(got: io::Result<usize>, patience: u64) -> bool
     ensures { result ≡ false → 0 < patience }
 {
-    if got >= 0 {
+    let Err(e) = got else {
         return true;
-    }
+    };
     if patience == 0 {
         return true;
     }
-    os::errno() != libc::EINTR
+    e.kind() != ErrorKind::Interrupted
 }
 
-// Standard output, by how many bytes it has taken. Only the two functions below make one.
+// Standard output, and how many bytes it has taken. Only the two functions below make one.
 #[derive(Clone, Copy)]
 pub struct Output {
+    stdout: Stdout,
     taken: usize,
 }
 
 // Standard output before the first write.
-pub fn untouched() -> Output
+pub fn untouched(stdout: Stdout) -> Output
     ensures { result.taken ≡ 0 }
 {
-    Output { taken: 0 }
+    Output { stdout, taken: 0 }
 }
 
 // What a write answered, how many bytes it took, and the output after it.
 #[derive(Clone, Copy)]
 struct Wrote {
-    got: isize,
+    got: io::Result<usize>,
     put: usize,
     to: Output,
 }
@@ -43,23 +48,34 @@ struct Wrote {
 // One write. The bytes are the next of those that are printed for the text; the text stands here for this alone.
 fn write_next(text: &[u8], to: Output, bytes: &[u8]) -> Wrote
     requires { Next text.now to.taken bytes.now × (to.taken + length bytes.now < 2 ^ 64) }
-    ensures { (result.put ≡ clamp_len result.got (length bytes.now)) × (result.put ≤ length bytes.now) × (result.to.taken ≡ to.taken + result.put) }
+    ensures { (result.put ≡ result_unwrap_or result.got 0) × (result.put ≤ length bytes.now) × (result.to.taken ≡ to.taken + result.put) }
 {
-    let got = libc::write(libc::STDOUT_FILENO, bytes);
-    let put = io::count(got, bytes);
+    let mut stdout = to.stdout;
+    let got = stdout.write(bytes);
+    let put = got.unwrap_or(0);
     Wrote {
         got,
         put,
         to: Output {
+            stdout,
             taken: to.taken + put,
         },
     }
 }
 
-// Whether all bytes were written, and the output then.
+// Why a write that took no byte and answered this is the last.
+fn why(got: io::Result<usize>) -> io::Error {
+    match got {
+        Ok(_) => io::Error::new(ErrorKind::WriteZero, "no byte was taken"),
+        Err(e) => e,
+    }
+}
+
+// Whether all bytes were written, or why not, and the output then.
 #[derive(Clone, Copy)]
 pub struct Sent {
     pub whole: bool,
+    pub cause: Option<io::Error>,
     pub to: Output,
 }
 
@@ -78,6 +94,7 @@ pub fn send(text: &[u8], to: Output, bytes: &[u8]) -> Sent
             if is_last(wrote.got, patience) {
                 return Sent {
                     whole: false,
+                    cause: Some(why(wrote.got)),
                     to: out,
                 };
             }
@@ -89,32 +106,35 @@ pub fn send(text: &[u8], to: Output, bytes: &[u8]) -> Sent
     }
     Sent {
         whole: true,
+        cause: None,
         to: out,
     }
 }
 
-// What was read: how many bytes, and whether no read failed.
+// What was read: how many bytes, and whether no read failed, or why one did.
 #[derive(Clone, Copy)]
 pub struct Received {
     pub bytes: usize,
     pub whole: bool,
+    pub cause: Option<io::Error>,
 }
 
 // Reads until the room is full or the input ends; or stops at the first read that fails.
-pub fn receive(room: &mut [u8]) -> Received
-    ensures { IsPrefixLen result.bytes room.new }
+pub fn receive(stdin: Stdin, room: &mut [u8]) -> Received
+    ensures { (result.bytes ≤ length room.new) × (result.bytes ≡ length (take result.bytes room.new)) }
 {
+    let mut from = stdin;
     let mut done = 0;
     let mut patience = PATIENCE;
     while done < room.len() {
-        let rest = &mut room[done..];
-        let got = libc::read(libc::STDIN_FILENO, rest);
-        let put = io::count(got, rest);
+        let got = from.read(&mut room[done..]);
+        let put = got.unwrap_or(0);
         if put == 0 {
             if is_last(got, patience) {
                 return Received {
                     bytes: done,
-                    whole: got == 0,
+                    whole: got.is_ok(),
+                    cause: got.err(),
                 };
             }
             patience -= 1;
@@ -124,5 +144,6 @@ pub fn receive(room: &mut [u8]) -> Received
     Received {
         bytes: done,
         whole: true,
+        cause: None,
     }
 }

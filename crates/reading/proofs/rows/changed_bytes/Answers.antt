@@ -1,4 +1,0 @@
-use borrow.Author.Rules.{rules}
-use Prim.Native.Nat.{◌≤◌, ◌-◌}
-use mathlib.Core.Logic.{⊎_elim}
-use Rattle.reading.proofs.rows.changed_bytes.Goals as goal
