@@ -15,7 +15,6 @@ use listing::Part;
 use sets::Pair;
 use std::fmt::Write;
 use std::io;
-use std::process::ExitCode;
 use std::rt::Stdout;
 use streams::{Output, Sent};
 
@@ -99,7 +98,7 @@ fn print(stdout: Stdout, text: &[u8]) -> Stand
 
 // Says in a line on standard error what failed, and why in the system's words, without the number that std adds to them in brackets. If standard
 // error takes nothing either, nothing is left to be done.
-fn fail(rt: &impl Eprint, what: &str, cause: Option<io::Error>) -> ExitCode {
+fn fail(rt: &impl Eprint, what: &str, cause: Option<io::Error>) {
     let mut words = ArrayString::<128>::new();
     if let Some(e) = cause {
         let _ = write!(words, "{e}");
@@ -110,19 +109,18 @@ fn fail(rt: &impl Eprint, what: &str, cause: Option<io::Error>) -> ExitCode {
         None => said,
     };
     let _ = eprintln!(rt; "ways: {what}: {why}");
-    ExitCode::FAILURE
 }
 
 // One byte more than a book may have is enough to know that a text is too long.
-fn main(rt: HostRuntime) -> ExitCode {
+fn main(rt: HostRuntime) {
     let mut text = [0u8; Book::TEXT + 1];
     let got = streams::receive(rt.stdin(), &mut text);
     if !got.whole {
-        return fail(&rt, "the book cannot be read", got.cause);
+        fail(&rt, "the book cannot be read", got.cause);
+        return;
     }
     let stand = print(rt.stdout(), &text[..got.bytes]);
     if !stand.whole {
-        return fail(&rt, "the listing is cut off", stand.cause);
+        fail(&rt, "the listing is cut off", stand.cause);
     }
-    ExitCode::SUCCESS
 }
