@@ -1,6 +1,7 @@
 // Standard input and output. A call that a signal interrupted is made again, as long as there is patience; any other that fails is the last.
-ghost use Rattle.std.specs.Prelude.{◌+◌, ◌<◌, ◌≤◌, ◌^◌, true, false, ◌≡◌, length, take};
+ghost use Rattle.std.specs.Prelude.{◌+◌, ◌<◌, ◌≤◌, ◌^◌, true, false, ◌≡◌, length, take, is_none, IfErr, IsErrAnd};
 ghost use Rattle.std.specs.Result.{result_unwrap_or};
+ghost use Rattle.std.specs.IoError.{error_kind};
 ghost use Rattle.listing.specs.Parts.{Next};
 
 use std::io;
@@ -12,7 +13,8 @@ const PATIENCE: u64 = 4294967295;
 
 // A call that moved no byte and answered this is the last, unless it was only interrupted and there is patience left.
 fn is_last(got: io::Result<usize>, patience: u64) -> bool
-    ensures { result ≡ false → 0 < patience }
+    ensures patient { result ≡ false → 0 < patience }
+    ensures interrupted { result ≡ false → IsErrAnd got (λ e. error_kind e ≡ ErrorKind.Interrupted) }
 {
     let Err(e) = got else {
         return true;
@@ -64,7 +66,9 @@ fn write_next(text: &[u8], to: Output, bytes: &[u8]) -> Wrote
 }
 
 // Why a write that took no byte and answered this is the last.
-fn why(got: io::Result<usize>) -> io::Error {
+fn why(got: io::Result<usize>) -> io::Error
+    ensures { IfErr got (λ e. result ≡ e) }
+{
     match got {
         Ok(_) => io::Error::new(ErrorKind::WriteZero, "no byte was taken"),
         Err(e) => e,
@@ -83,7 +87,8 @@ pub struct Sent {
 // have been written.
 pub fn send(text: &[u8], to: Output, bytes: &[u8]) -> Sent
     requires { Next text.now to.taken bytes.now × (to.taken + length bytes.now < 2 ^ 64) }
-    ensures { result.whole ≡ true → result.to.taken ≡ to.taken + length bytes.now }
+    ensures taken { result.whole ≡ true → result.to.taken ≡ to.taken + length bytes.now }
+    ensures cause { result.whole ≡ is_none result.cause }
 {
     let mut out = to;
     let mut done = 0;
@@ -121,7 +126,8 @@ pub struct Received {
 
 // Reads until the room is full or the input ends; or stops at the first read that fails.
 pub fn receive(stdin: Stdin, room: &mut [u8]) -> Received
-    ensures { (result.bytes ≤ length room.new) × (result.bytes ≡ length (take result.bytes room.new)) }
+    ensures bytes { (result.bytes ≤ length room.new) × (result.bytes ≡ length (take result.bytes room.new)) }
+    ensures cause { result.whole ≡ is_none result.cause }
 {
     let mut from = stdin;
     let mut done = 0;

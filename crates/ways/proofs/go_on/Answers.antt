@@ -19,4 +19,4 @@ returns c =
     let l = c.go_on-part.ensures in
     let f = c.requires in
     let a = c.after.ensures in
-    stood _ _ _ _ _ _ _ _ c.send-sent.result c.after.result (step _ _ _ _ _ _ _ f _ _ l) l.fits c.send-sent.ensures a.to_value.0 a.to_value.1 a.to_value.2 a.more_value.0 a.more_value.1
+    stood _ _ _ _ _ _ _ _ c.send-sent.result c.after.result (step _ _ _ _ _ _ _ f _ _ l) l.fits c.send-sent.ensures.taken a.to_value.0 a.to_value.1 a.to_value.2 a.more_value.0 a.more_value.1

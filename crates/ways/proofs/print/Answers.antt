@@ -24,4 +24,4 @@ rest-requires c =
     let b = c.begin-b.ensures in
     let z = c.untouched.ensures in
     let a = c.after-from.ensures in
-    stood _ _ _ _ _ _ _ _ c.send-sent.result c.after-from.result (first_step _ _ _ _ _ b _ z) b.fits c.send-sent.ensures a.to_value.0 a.to_value.1 a.to_value.2 a.more_value.0 a.more_value.1
+    stood _ _ _ _ _ _ _ _ c.send-sent.result c.after-from.result (first_step _ _ _ _ _ b _ z) b.fits c.send-sent.ensures.taken a.to_value.0 a.to_value.1 a.to_value.2 a.more_value.0 a.more_value.1
