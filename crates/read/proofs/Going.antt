@@ -266,11 +266,11 @@ pub lost-is : (text : List ℕ) (q lno : ℕ) (l : List ℤ) (r : Refusal) → r
 unfolding front_is
 lost-is text q lno l r e = rw e
 
--- The refusal of a line, with its line.
-pub turned : (x : Result (ℕ × ℕ) ℕ) (y : Result (ℕ × ℕ) Refusal) (r : Refusal) (lno : ℕ) (P : ℕ → Refusal → Type 0) → ((q : ℕ) (r : Refusal) → P q r → r ≡ refusal q lno) → y ≡ Err r
+-- A refusal's number, with the line that it is given.
+pub turned : {A : Type 0} (x : Result A ℕ) (y : Result A Refusal) (r : Refusal) (lno : ℕ) (P : ℕ → Refusal → Type 0) → ((q : ℕ) (r : Refusal) → P q r → r ≡ refusal q lno) → y ≡ Err r
     → MatchResult x (λ v. y ≡ Ok v) (λ q. IsErrAnd y (P q)) → (q : ℕ) × (x ≡ Err q) × (r ≡ refusal q lno)
-turned (Ok v) y r lno P f e m = absurd (let z : ◌≡◌ {A = Result (ℕ × ℕ) Refusal} (Ok v) (Err r) = sym m ∙ e in let w : ◌≡◌ {A = ℕ} 0 1 = cc in omega arith)
-turned (Err q) y r lno P f e m = let p = err_from_is_err_and y m in let z : p.0 ≡ r = (let w : ◌≡◌ {A = Result (ℕ × ℕ) Refusal} (Err p.0) (Err r) = sym p.1 ∙ e in cc) in (q, refl, sym z ∙ f q p.0 p.2)
+turned {A} (Ok v) y r lno P f e m = absurd (let z : ◌≡◌ {A = Result A Refusal} (Ok v) (Err r) = sym m ∙ e in let w : ◌≡◌ {A = ℕ} 0 1 = cc in omega arith)
+turned {A} (Err q) y r lno P f e m = let p = err_from_is_err_and y m in let z : p.0 ≡ r = (let w : ◌≡◌ {A = Result A Refusal} (Err p.0) (Err r) = sym p.1 ∙ e in cc) in (q, refl, sym z ∙ f q p.0 p.2)
 
 -- An answer that was refused, as an outcome.
 pub refused-is : (q lno : ℕ) (l : List ℤ) (r : Refusal) → r ≡ refusal q lno → outcome_of (Err r) l ≡ refused q lno
