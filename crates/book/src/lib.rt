@@ -1,9 +1,10 @@
 // The book as a type: its limits, its kinds of line, the empty book.
 #![tactic(auto)]
 
-ghost use Rattle.std.specs.Prelude.{◌≡◌, true, false, ◌<◌, ◌≤◌, length, get_or};
+ghost use Rattle.std.specs.Prelude.{◌≡◌, ℕ, true, false, ◌<◌, ◌≤◌, length, get_or};
 ghost use Rattle.book.specs.Kinds.{kind, none, contents, bytes, row_once};
-ghost use Rattle.book.specs.Counts.{all_counts, front_of, count_at, shape_from, measured as measured_of, sum_to, start_of, row_numbers, text_bytes, total as total_of, InLimits};
+ghost use Rattle.book.specs.Counts.{all_counts, front_of, count_at, shape_from, sum_to, start_of, row_numbers, text_bytes, total as total_of, InLimits};
+ghost use Rattle.book.specs.declared.Kind.{Kind};
 ghost use Rattle.book.specs.declared.Content.TheVariants.{Edition};
 ghost use Rattle.book.specs.Shapes.{limits as limits_of, empty_book};
 
@@ -330,50 +331,26 @@ pub fn kind_at(k: usize) -> Kind
     KINDS[k]
 }
 
-// The letter of the kind at place k; whether it is a row of the number table; how many numbers of the table it gives.
-pub fn letter_at(k: usize) -> u8
-    requires { k < none }
-    ensures { result ≡ (kind k).letter }
-{
-    let x = kind_at(k);
-    x.letter
-}
-
-pub fn is_row(k: usize) -> bool
-    requires { k < none }
-    ensures { result ≡ (kind k).row }
-{
-    let x = kind_at(k);
-    x.row
-}
-
+// What a line of the kind at place k comes to: numbers of the number table; bytes, with its line feed; 1 for a row of the table, else 0.
 pub fn numbers_at(k: usize) -> usize
     requires { k < none }
     ensures { result ≡ (kind k).numbers }
 {
-    let x = kind_at(k);
-    x.numbers
+    kind_at(k).numbers
 }
 
-// The bytes of a line of the kind at place k, with its line feed.
 pub fn line_bytes(k: usize) -> usize
     requires { k < none }
     ensures { result ≡ bytes (kind k) }
 {
-    let x = kind_at(k);
-    Book::ENDS + Book::COLUMNS * x.fields
+    Book::ENDS + Book::COLUMNS * kind_at(k).fields
 }
 
-// 1 for a kind that is a row of the number table, else 0.
 pub fn row_once(k: usize) -> usize
     requires { k < none }
     ensures { result ≡ row_once (kind k) }
 {
-    let x = kind_at(k);
-    if x.row {
-        return 1;
-    }
-    0
+    usize::from(kind_at(k).row)
 }
 
 // What stands at a place of the list of contents: field i of kind x stands at x.from + i.
@@ -434,40 +411,19 @@ pub fn count_of(s: Shape, k: usize) -> usize
     requires { k < none }
     ensures { result ≡ count_at s k }
 {
-    let counts = counts_of(s);
-    counts[k]
+    counts_of(s)[k]
 }
 
-// What a line comes to, by its kind: a row of the number table or none, numbers of the table, bytes.
-#[derive(Clone, Copy)]
-pub enum Measure {
-    Rows,
-    Numbers,
-    Bytes,
-}
-
-// What a line of the kind at place k comes to.
-pub fn measured(m: Measure, k: usize) -> usize
-    requires { k < none }
-    ensures { result ≡ measured_of m (kind k) }
+// What the lines of the kinds before place k come to in a book of this shape, each coming to what `each` gives for the place of its kind.
+pub fn sum_to<F: Fn(usize) -> usize>(s: Shape, k: usize, each: F) -> usize
+    requires places { (k ≤ none) × InLimits s }
+    requires callable { (i : ℕ) → i < none → F.pre each i }
+    requires small { (i r : ℕ) → i < none → F.post each i r → r ≤ 100 }
+    ensures { (f : Kind → ℕ) → ((i r : ℕ) → i < none → F.post each i r → r ≡ f (kind i)) → result ≡ sum_to f s k }
 {
-    match m {
-        Measure::Rows => row_once(k),
-        Measure::Numbers => numbers_at(k),
-        Measure::Bytes => line_bytes(k),
-    }
-}
-
-// What the lines of the kinds before place k come to in a book of this shape.
-pub fn sum_to(m: Measure, s: Shape, k: usize) -> usize
-    requires { (k ≤ none) × InLimits s }
-    ensures { result ≡ sum_to (measured_of m) s k }
-{
-    let mut i = 0;
     let mut n = 0;
-    while i < k {
-        n = n + count_of(s, i) * measured(m, i);
-        i += 1;
+    for i in 0..k {
+        n += count_of(s, i) * each(i);
     }
     n
 }
@@ -477,7 +433,7 @@ pub fn start_of(s: Shape, k: usize) -> usize
     requires { (k ≤ none) × InLimits s }
     ensures { result ≡ start_of s k }
 {
-    sum_to(Measure::Numbers, s, k)
+    sum_to(s, k, numbers_at)
 }
 
 // How many numbers the rows of a book of this shape have.
@@ -493,12 +449,12 @@ pub fn total(s: Shape) -> usize
     requires { InLimits s }
     ensures { result ≡ total_of s }
 {
-    sum_to(Measure::Rows, s, Book::KINDS)
+    sum_to(s, Book::KINDS, row_once)
 }
 
 pub fn text_bytes(s: Shape) -> usize
     requires { InLimits s }
     ensures { result ≡ text_bytes s }
 {
-    sum_to(Measure::Bytes, s, Book::KINDS)
+    sum_to(s, Book::KINDS, line_bytes)
 }
