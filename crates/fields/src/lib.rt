@@ -21,13 +21,11 @@ use book::{Book, Content, Kind};
 pub fn digit(b: u8) -> u32
     ensures { (result ≡ digit_of b) × (result ≤ 9) }
 {
-    if b < b'0' {
-        return 0;
+    if b.is_ascii_digit() {
+        u32::from(b - b'0')
+    } else {
+        0
     }
-    if b'9' < b {
-        return 0;
-    }
-    (b - b'0') as u32
 }
 
 // The byte in the column worth `scale` of a number of size m, negative or not.
@@ -35,16 +33,11 @@ pub fn column(neg: bool, m: u32, scale: u32) -> u8
     requires { (0 < scale) × (m < 10000) }
     ensures { result ≡ column_of neg m scale }
 {
-    if scale == 1 {
-        return b'0' + ((m / scale % 10) as u8);
+    if scale == 1 || scale <= m {
+        return b'0' + (m / scale % 10) as u8;
     }
-    if scale <= m {
-        return b'0' + ((m / scale % 10) as u8);
-    }
-    if neg {
-        if scale <= m * 10 {
-            return b'-';
-        }
+    if neg && scale <= m * 10 {
+        return b'-';
     }
     b' '
 }
@@ -53,13 +46,7 @@ pub fn column(neg: bool, m: u32, scale: u32) -> u8
 pub fn minus_in(a: u8, b: u8, c: u8) -> bool
     ensures { result ≡ minus_in a b c }
 {
-    if a == b'-' {
-        return true;
-    }
-    if b == b'-' {
-        return true;
-    }
-    c == b'-'
+    (a == b'-') | (b == b'-') | (c == b'-')
 }
 
 // The number of this sign and size.
@@ -67,10 +54,8 @@ pub fn to_signed(neg: bool, v: u32) -> i32
     requires { v < 10000 }
     ensures { result ≡ signed neg v }
 {
-    if neg {
-        return 0 - (v as i32);
-    }
-    v as i32
+    let m = v as i32;
+    if neg { -m } else { m }
 }
 
 // The size of the number that the digits of four columns make.
@@ -85,38 +70,23 @@ pub fn columns_are(neg: bool, m: u32, a: u8, b: u8, c: u8, d: u8) -> bool
     requires { m < 10000 }
     ensures { result ≡ same (columns neg m) (a ∷ b ∷ c ∷ d ∷ []) }
 {
-    if column(neg, m, 1000) != a {
-        return false;
-    }
-    if column(neg, m, 100) != b {
-        return false;
-    }
-    if column(neg, m, 10) != c {
-        return false;
-    }
-    column(neg, m, 1) == d
+    (column(neg, m, 1000) == a)
+        & (column(neg, m, 100) == b)
+        & (column(neg, m, 10) == c)
+        & (column(neg, m, 1) == d)
 }
 
 // ---- four columns misspelt
-
-// A byte is a digit.
-pub fn is_digit(b: u8) -> bool
-    ensures { result ≡ is_digit b }
-{
-    (b'0' <= b) & (b <= b'9')
-}
 
 // A byte, between its neighbours, is no space, digit or minus, or is a minus out of its place.
 pub fn is_stray(before: u8, b: u8, after: u8) -> bool
     ensures { result ≡ stray_byte before b after }
 {
-    if b == b'-' {
-        return is_digit(before) | !is_digit(after);
+    match b {
+        b'-' => before.is_ascii_digit() | !after.is_ascii_digit(),
+        b' ' => false,
+        _ => !b.is_ascii_digit(),
     }
-    if b == b' ' {
-        return false;
-    }
-    !is_digit(b)
 }
 
 // Some column has such a byte: 5.
@@ -130,7 +100,7 @@ pub fn has_stray(a: u8, b: u8, c: u8, d: u8) -> bool
 pub fn is_gap(before: u8, b: u8) -> bool
     ensures { result ≡ both (is_digit before) (is_space b) }
 {
-    is_digit(before) & (b == b' ')
+    before.is_ascii_digit() & (b == b' ')
 }
 
 // The columns are blank, or a space follows a digit: 17.
@@ -164,7 +134,7 @@ pub fn misspelling(a: u8, b: u8, c: u8, d: u8) -> u32
 pub fn is_usual(a: u8, b: u8, c: u8, d: u8) -> bool
     ensures { result ≡ true → is_number a b c d ≡ true }
 {
-    if (a != b' ') | !is_digit(d) {
+    if (a != b' ') | !d.is_ascii_digit() {
         return false;
     }
     if (b'1' <= c) & (c <= b'9') {
@@ -202,13 +172,11 @@ pub fn read_field(text: &[u8], at: usize) -> Result<i32, u32>
 pub fn in_range(low: i32, high: i32, fault: u32, v: i32) -> Result<(), u32>
     ensures { result ≡ number_is (range low high fault) v }
 {
-    if v < low {
-        return Err(fault);
+    if low <= v && v <= high {
+        Ok(())
+    } else {
+        Err(fault)
     }
-    if high < v {
-        return Err(fault);
-    }
-    Ok(())
 }
 
 // A number against what a field of this content may hold in a book of n statements.
@@ -219,7 +187,7 @@ pub fn check_number(content: Content, n: usize, v: i32) -> Result<(), u32>
     match content {
         Content::Edition => in_range(1, 1, 7, v),
         Content::Statements => in_range(1, Book::STATEMENTS as i32, 6, v),
-        Content::Literal => in_range(0 - (n as i32), n as i32, 6, v),
+        Content::Literal => in_range(-(n as i32), n as i32, 6, v),
         Content::Exception => in_range(1, Book::EXCEPTIONS as i32, 6, v),
         Content::Total => in_range(0, Book::ROWS as i32, 6, v),
     }
@@ -229,10 +197,7 @@ pub fn check_number(content: Content, n: usize, v: i32) -> Result<(), u32>
 pub fn to_nat(v: i32) -> usize
     ensures { (result ≡ to_nat v) × (result < 2147483648) }
 {
-    if v < 0 {
-        return 0;
-    }
-    v as usize
+    usize::try_from(v).unwrap_or(0)
 }
 
 // A number is at most a count.
@@ -240,10 +205,7 @@ pub fn at_most(v: i32, m: usize) -> bool
     requires { m < 2147483648 }
     ensures { result ≡ le_z v (pos m) }
 {
-    if (m as i32) < v {
-        return false;
-    }
-    true
+    v <= m as i32
 }
 
 // A number is a count.
@@ -251,13 +213,7 @@ pub fn is_count(v: i32, m: usize) -> bool
     requires { m < 2147483648 }
     ensures { result ≡ between (pos m) (pos m) v }
 {
-    if v < (m as i32) {
-        return false;
-    }
-    if (m as i32) < v {
-        return false;
-    }
-    true
+    v == m as i32
 }
 
 // What the numbers of a line say beside their ranges: n, an exception that is missing, a wrong number of rows.
@@ -273,63 +229,42 @@ pub fn see(s: Seen, content: Content, exceptions: usize, rows: usize, v: i32) ->
     requires { (exceptions < 2147483648) × (rows < 2147483648) }
     ensures { result ≡ see_of s content exceptions rows v }
 {
-    let statements = s.statements;
-    let missing = s.missing;
-    let miscounted = s.miscounted;
     match content {
         Content::Statements => Seen {
             statements: to_nat(v),
-            missing,
-            miscounted,
+            ..s
         },
         Content::Exception => Seen {
-            statements,
-            missing: missing | !at_most(v, exceptions),
-            miscounted,
+            missing: s.missing | !at_most(v, exceptions),
+            ..s
         },
         Content::Total => Seen {
-            statements,
-            missing,
-            miscounted: miscounted | !is_count(v, rows),
+            miscounted: s.miscounted | !is_count(v, rows),
+            ..s
         },
-        Content::Edition => s,
-        Content::Literal => s,
+        Content::Edition | Content::Literal => s,
     }
 }
 
-// How many of w numbers of a slice, from a place on, are filled: not 0.
-pub fn filled_in(t: &[i32], from: usize, w: usize) -> usize
-    requires { from + w ≤ length t.now }
-    ensures { result ≡ filled_in (take w (drop from t.now)) }
+// How many numbers of a slice are filled: not 0.
+pub fn filled_in(t: &[i32]) -> usize
+    ensures { result ≡ filled_in t.now }
 {
-    let mut i = w;
     let mut n = 0;
-    while i > 0 {
-        i -= 1;
-        if !is_count(number_at(t, from + i), 0) {
+    for &v in t {
+        if v != 0 {
             n += 1;
         }
     }
     n
 }
 
-// A line of kind x, its numbers in a slice from a place on, has fewer heads filled than it must have.
-pub fn is_headless(t: &[i32], from: usize, x: Kind) -> bool
-    requires { from + x.heads ≤ length t.now }
-    ensures { result ≡ headless x (drop from t.now) }
+// A line of kind x, its numbers in front of a slice, has fewer heads filled than it must have.
+pub fn is_headless(t: &[i32], x: Kind) -> bool
+    requires { x.heads ≤ length t.now }
+    ensures { result ≡ headless x t.now }
 {
-    if x.filled == 0 {
-        return false;
-    }
-    filled_in(t, from, x.heads) < x.filled
-}
-
-// The number at a place of a slice.
-pub fn number_at(t: &[i32], k: usize) -> i32
-    requires { k < length t.now }
-    ensures { result ≡ get_or t.now k (pos 0) }
-{
-    t[k]
+    x.filled != 0 && filled_in(&t[..x.heads]) < x.filled
 }
 
 // ---- four columns written
@@ -362,10 +297,7 @@ pub fn put_numbers(buf: &mut [u8], at: usize, t: &[i32], from: usize, w: usize)
     requires { all_short (take w (drop from t.now)) × (from + w ≤ length t.now) × (at + w * 4 ≤ length buf.old) }
     ensures { buf.new ≡ sets buf.old at (written_all (take w (drop from t.now))) }
 {
-    let mut i = 0;
-    while i < w {
-        let v = number_at(t, from + i);
-        put_number(buf, at + i * 4, v);
-        i += 1;
+    for i in 0..w {
+        put_number(buf, at + i * Book::COLUMNS, t[from + i]);
     }
 }

@@ -14,11 +14,10 @@ use mir.Facts.{to_z_pos}
 use borrow.Author.Tests.{eq-eqb, ne_eqb, lt-ltb, le-ltb}
 use Rattle.std.specs.Prelude.{Result, Ok, Err}
 use Rattle.logic.specs.Tests.{pick}
-use Rattle.book.specs.declared.Measure.TheVariants.{Numbers}
 use Rattle.book.specs.declared.Shape.{Shape}
 use Rattle.book.specs.Kinds.{longest, front}
-use Rattle.book.specs.Counts.{front_of, row_numbers, InLimits, measured}
-use Rattle.book.proofs.Counts.{front-small, sum-all, measured-most}
+use Rattle.book.specs.Counts.{front_of, row_numbers, InLimits, numbers_each}
+use Rattle.book.proofs.Counts.{front-small, sum-all, numbers-most}
 use Rattle.logic.proofs.Stores.{sets-append, pieces}
 use Rattle.text.specs.declared.Refusal.{Refusal}
 use Rattle.text.specs.Lines.{lines}
@@ -145,7 +144,7 @@ module _ (bs : List ℕ) (l rows : List ℤ) (r : Result Shape Refusal) (p : Par
     book-limits = book.limits
 
     pub few-numbers : row_numbers s ≤ 100000
-    few-numbers = omega (arith, sum-all (measured Numbers) s book.limits, measured-most Numbers)
+    few-numbers = omega (arith, sum-all numbers_each s book.limits, numbers-most)
 
     book-long : length (table_of s (take (row_numbers s) rows)) ≡ front + row_numbers s
     book-long = table-long s (take (row_numbers s) rows) ∙ ap (λ (m : ℕ). front + m) book.size

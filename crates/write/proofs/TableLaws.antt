@@ -18,13 +18,12 @@ use mir.Facts.{to_z-of_z}
 use borrow.Author.Tests.{lt-ltb, le-ltb, eqb-true, eqb-false, eq-eqb, ne_eqb, ltb-true}
 use Rattle.std.specs.Prelude.{Result, Ok, Err, ⊤}
 use Rattle.logic.specs.Tests.{both, pick, some}
-use Rattle.book.specs.declared.Measure.TheVariants.{Numbers}
 use Rattle.book.specs.declared.Kind.{Kind}
 use Rattle.book.specs.declared.Shape.{Shape}
 use Rattle.book.specs.declared.Content.TheVariants.{Statements}
 use Rattle.book.specs.Kinds.{kinds, kind, unknown, none, first, last, front, range_of}
-use Rattle.book.specs.Counts.{counts_of, count_at, shape_from, sum_to, start_of, row_numbers, InLimits, measured}
-use Rattle.book.proofs.Counts.{many, sum-next, sum-up, sum-all, measured-most}
+use Rattle.book.specs.Counts.{counts_of, count_at, shape_from, sum_to, start_of, row_numbers, InLimits, numbers_each}
+use Rattle.book.proofs.Counts.{many, sum-next, sum-up, sum-all, numbers-most}
 use Rattle.text.specs.declared.Refusal.{Refusal}
 use Rattle.text.specs.Lines.{Line, between, inside}
 use Rattle.text.specs.Lines.Line.{line, wrong}
@@ -239,11 +238,11 @@ come-none s k h = rw (drop_of_length-le (counts_of s) {i = k - 1} (omega (arith,
 -- The rows of the kind at place k end before the table does.
 pub rows_in : (t : List ℤ) (s : Shape) (k from c : ℕ) → length t ≡ front + row_numbers s → k < none → from ≡ front + start_of s k → c ≡ count_at s k → from + c * (kind k).numbers ≤ length t
 rows_in t s k from c l h ef ec =
-    let n = sum-next (measured Numbers) s k (start_of s k) c (kind k).numbers refl ec refl in
-    omega (arith, n, sum-up (measured Numbers) s (k + 1) (omega arith), ef, l)
+    let n = sum-next numbers_each s k (start_of s k) c (kind k).numbers refl ec refl in
+    omega (arith, n, sum-up numbers_each s (k + 1) (omega arith), ef, l)
 
 pub start-on : (s : Shape) (k from c w : ℕ) → from ≡ front + start_of s k → c ≡ count_at s k → w ≡ (kind k).numbers → from + c * w ≡ front + start_of s (k + 1)
-start-on s k from c w ef ec ew = let n = sum-next (measured Numbers) s k (start_of s k) c w refl ec ew in omega (arith, n, ef)
+start-on s k from c w ef ec ew = let n = sum-next numbers_each s k (start_of s k) c w refl ec ew in omega (arith, n, ef)
 
 pub start_first : (s : Shape) → front ≡ front + start_of s 1
 unfolding sum_to kind kinds
@@ -311,7 +310,7 @@ module _ (t : List ℤ) where
         shape-bounded = rw es (shape-limits t h n (sym ea ∙ f))
 
         pub few-numbers : row_numbers s ≤ 100000
-        few-numbers = omega (arith, sum-all (measured Numbers) s shape-bounded, measured-most Numbers)
+        few-numbers = omega (arith, sum-all numbers_each s shape-bounded, numbers-most)
 
         pub table-long : (r : Refusal) (m : ℕ) → m ≡ row_numbers s → (length t ≡ front + m → ⊥) → r ≡ refusal 16 0 → Err r ≡ read_answer (test_table t)
         unfolding test_table pick read_answer
