@@ -285,11 +285,7 @@ pub fn put_number(buf: &mut [u8], at: usize, v: i32)
     requires { Short v × (at + 4 ≤ length buf.old) }
     ensures { buf.new ≡ sets buf.old at (written v) }
 {
-    if v < 0 {
-        put_columns(buf, at, true, (0 - v) as u32);
-        return;
-    }
-    put_columns(buf, at, false, v as u32);
+    put_columns(buf, at, v < 0, v.unsigned_abs());
 }
 
 // The fields of w numbers of t from a place on, at a place of a buffer.
