@@ -21,10 +21,11 @@ pub fn kind_for(next: usize, b: u8) -> Option<usize>
     ensures { MatchOption result (kind_for next b ≡ none) (λ k. (k ≡ kind_for next b) × (k < none)) }
 {
     for k in next..Book::KINDS {
-        if book::letter_at(k) == b {
+        let x = book::kind_at(k);
+        if x.letter == b {
             return Some(k);
         }
-        if !book::is_row(k) {
+        if !x.row {
             return None;
         }
     }
@@ -113,23 +114,15 @@ pub fn read_line(
         return Err(4);
     }
     let seen = read_fields(text, at + 1, x, st, t, to)?;
-    line_fault(x, st.counts[k], fields::is_headless(t, to, x), seen)?;
+    line_fault(x, st.counts[k], fields::is_headless(&t[to..], x), seen)?;
     Ok((k, seen.statements))
 }
 
 // The bytes before the next line feed.
-pub fn line_length(text: &[u8], at: usize) -> usize
-    requires { at ≤ length text.now }
-    ensures { (result ≡ until_feed (drop at text.now)) × (at + result ≤ length text.now) }
+pub fn line_length(text: &[u8]) -> usize
+    ensures { (result ≡ until_feed text.now) × (result ≤ length text.now) }
 {
-    let mut n = 0;
-    while at + n < text.len() {
-        if text[at + n] == b'\n' {
-            return n;
-        }
-        n += 1;
-    }
-    n
+    text.iter().position(|&b| b == b'\n').unwrap_or(text.len())
 }
 
 // The state before the first line.
@@ -150,8 +143,8 @@ pub fn stepped(st: State, k: usize, n: usize) -> State
     ensures { result ≡ step_with st k n }
 {
     let mut counts = st.counts;
-    counts[k] = counts[k] + 1;
-    if book::is_row(k) {
+    counts[k] += 1;
+    if book::kind_at(k).row {
         return State {
             next: k,
             statements: n,
@@ -190,11 +183,11 @@ pub fn read_book(text: &[u8], from: Cursor, t: &mut [i32]) -> Result<(Shape, Cur
         if st.next == Book::KINDS {
             return ended(st, c);
         }
-        let len = line_length(text, c.at);
+        let len = line_length(&text[c.at..]);
         let (k, n) = read_line(text, c.at, len, st, t, to).map_err(|q| Refusal::new(q, c.line))?;
         st = stepped(st, k, n);
         to += book::numbers_at(k);
-        c = c.past(len);
+        c.advance(len);
     }
     ended(st, c)
 }
@@ -228,38 +221,23 @@ pub fn parse(text: &[u8], rows: &mut [i32; Book::ROOM]) -> Result<Shape, Refusal
     read_lines(text, rows)
 }
 
-// The first m numbers of rows, into t from a place on.
-pub fn put_rows(t: &mut [i32], at: usize, rows: &[i32; Book::ROOM], m: usize)
-    requires { (at + m ≤ length t.old) × (m ≤ length rows.now) }
-    ensures { t.new ≡ sets t.old at (take m rows.now) }
-{
-    let mut i = 0;
-    while i < m {
-        t[at + i] = fields::number_at(rows, i);
-        i += 1;
-    }
-}
-
 // The numbers before a table's rows, in front of a slice that is long enough.
 pub fn put_front(table: &mut [i32], s: Shape)
     requires { (front ≤ length table.old) × InLimits s }
     ensures { table.new ≡ sets table.old 0 (table_of s []) }
 {
-    let numbers = book::front_of(s);
-    let mut i = 0;
-    while i < Book::FRONT {
-        table[i] = numbers[i] as i32;
-        i += 1;
+    for (i, &number) in book::front_of(s).iter().enumerate() {
+        table[i] = number as i32;
     }
 }
 
 // The number table of a book in front of a slice that is long enough.
-pub fn put_table(table: &mut [i32], s: Shape, rows: &[i32; Book::ROOM], m: usize)
-    requires { (front + m ≤ length table.old) × (m ≤ length rows.now) × InLimits s }
-    ensures { table.new ≡ over table.old (table_of s (take m rows.now)) }
+pub fn put_table(table: &mut [i32], s: Shape, rows: &[i32])
+    requires { (front + length rows.now ≤ length table.old) × InLimits s }
+    ensures { table.new ≡ over table.old (table_of s rows.now) }
 {
     put_front(table, s);
-    put_rows(table, Book::FRONT, rows, m);
+    table[Book::FRONT..Book::FRONT + rows.len()].copy_from_slice(rows);
 }
 
 // Read: from a text to the number table in front of the lent slice. It answers the numbers before the table's rows, or the refusal;
@@ -273,6 +251,7 @@ pub fn read(text: &[u8], table: &mut [i32]) -> Result<Shape, Refusal>
     if table.len() < Book::FRONT + m {
         return Err(Refusal::new(15, 0));
     }
-    put_table(table, s, &scratch.rows, m);
+    let rows = &scratch.rows[..m];
+    put_table(table, s, rows);
     Ok(s)
 }
