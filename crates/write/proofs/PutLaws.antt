@@ -20,7 +20,7 @@ use Rattle.logic.proofs.Stores.{sets-append, pieces, Putting}
 use Rattle.book.specs.declared.Kind.{Kind}
 use Rattle.book.specs.declared.Shape.{Shape}
 use Rattle.book.specs.Kinds.{kinds, kind, none, first, last, front, bytes, row_once, most}
-use Rattle.book.specs.Counts.{counts_of, all_counts, count_at, sum_to, start_of, row_numbers, text_bytes, total, InLimits, numbers_each}
+use Rattle.book.specs.Counts.{counts_of, all_counts, count_at, sum_to, start_of, row_numbers, text_bytes, total, InLimits}
 use Rattle.book.proofs.Counts.{sum-next, sum-all}
 use Rattle.text.specs.Fields.{written_all, Short}
 use Rattle.text.specs.Lines.{line_of, unlines}

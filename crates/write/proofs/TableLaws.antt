@@ -1,7 +1,7 @@
 -- The test of a table: what each return of its functions is by the definition.
 -- Rows of one kind: what is left to test, from here, gives the final answer, whatever rows follow; then kind after kind.
 use mathlib.Core.Path.{◌≡◌, refl, sym, ap, ◌∙◌}
-use mathlib.Core.Bool.{Bool, true, false, not}
+use mathlib.Core.Bool.{Bool, true, false, not, ◌&&◌, ◌||◌}
 use mathlib.Core.List.{List, [], ◌∷◌, ◌++◌, map}
 use Prim.Native.Nat.{ℕ, zero, suc, ◌+◌, ◌-◌, ◌*◌, ◌<◌, ◌≤◌}
 use native.Mathlib.Nat.{add-zero, suc-mul, zero-mul}
@@ -40,21 +40,14 @@ use Rattle.write.specs.Testing.{line_is, row_is, on_tested}
 
 -- ---- n and the counts
 module _ (t : List ℤ) (x : Kind) where
-  pub count_none : x.row ≡ false → false ≡ miscount t x
-  unfolding miscount both
-  count_none e = rw e
-
-  module _ (e : x.row ≡ true) (v : ℤ) (f : SFits w32 v) (ev : v ≡ get_or t x.count (pos 0)) where
-    count_same : back v ≡ get_or t x.count (pos 0)
-    count_same = to_z-of_z f ∙ ev
-
-    pub count-negative : lt_z (back v) (pos 0) ≡ true → true ≡ miscount t x
-    unfolding miscount between both
-    count-negative l = rw (e, lt-le (get_or t x.count (pos 0)) (pos 0) (rw count_same at l))
-
-    pub count-limit : (r : Bool) → lt_z (back v) (pos 0) ≡ false → r ≡ le_z (back v) (pos x.limit) → not r ≡ miscount t x
-    unfolding miscount between both
-    count-limit r l er = rw (er, count_same, e, ge-le (get_or t x.count (pos 0)) (pos 0) (rw count_same at l))
+  pub count-is : (v : ℤ) (r : Bool) → SFits w32 v → v ≡ get_or t x.count (pos 0) → r ≡ le_z (back v) (pos x.limit) → x.row && (lt_z (back v) (pos 0) || not r) ≡ miscount t x
+  unfolding miscount between both
+  count-is v r f ev er = rw (er, to_z-of_z f, ← ev) (go x.row (lt_z v (pos 0)) refl)
+    where
+      go : (a b : Bool) → lt_z v (pos 0) ≡ b → a && (b || not (le_z v (pos x.limit))) ≡ both a (not (both (le_z (pos 0) v) (le_z v (pos x.limit))))
+      go false b p = refl
+      go true true p = rw (lt-le v (pos 0) p)
+      go true false p = rw (ge-le v (pos 0) p)
 
 pub kind-limit : (x : Kind) (k : ℕ) → x ≡ kind k → k < none → x.limit < 2147483648
 kind-limit x k e h = rw e (omega (arith, limit-small k h))

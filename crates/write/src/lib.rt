@@ -35,7 +35,7 @@ pub fn test_fields(t: &[i32], from: usize, x: Kind, n: usize, m: usize) -> Resul
     };
     for i in 0..x.numbers {
         let content = book::content_at(x.from + i);
-        let v = fields::number_at(t, from + i);
+        let v = t[from + i];
         fields::check_number(content, n, v)?;
         seen = fields::see(seen, content, m, 0, v);
     }
@@ -49,7 +49,7 @@ pub fn test_row(t: &[i32], from: usize, k: usize, n: usize, m: usize) -> Result<
 {
     let x = book::kind_at(k);
     let seen = test_fields(t, from, x, n, m)?;
-    if fields::is_headless(t, from, x) {
+    if fields::is_headless(&t[from..], x) {
         return Err(x.unfilled);
     }
     if seen.missing {
@@ -106,14 +106,8 @@ pub fn count_over(t: &[i32], x: Kind) -> bool
     requires { (x.count < length t.now) × (x.limit < 2147483648) }
     ensures { result ≡ miscount t.now x }
 {
-    if !x.row {
-        return false;
-    }
-    let v = fields::number_at(t, x.count);
-    if v < 0 {
-        return true;
-    }
-    !fields::at_most(v, x.limit)
+    let v = t[x.count];
+    x.row & ((v < 0) | !fields::at_most(v, x.limit))
 }
 
 // Some count of the table is.
@@ -138,11 +132,9 @@ pub fn shape_in(t: &[i32]) -> Shape
     let mut counts = [0usize; Book::KINDS];
     for k in 0..Book::KINDS {
         let x = book::kind_at(k);
-        let v = fields::number_at(t, x.count);
-        counts[k] = fields::to_nat(v);
+        counts[k] = fields::to_nat(t[x.count]);
     }
-    let n = fields::number_at(t, 0);
-    book::shape_from(fields::to_nat(n), counts)
+    book::shape_from(fields::to_nat(t[0]), counts)
 }
 
 // The test of a table whose n is right: the counts, the length, the rows.
@@ -167,8 +159,7 @@ pub fn test_table(t: &[i32]) -> Result<Shape, Refusal>
     if t.len() < Book::FRONT {
         return Err(Refusal::new(16, 0));
     }
-    let n = fields::number_at(t, 0);
-    fields::check_number(Content::Statements, 0, n).map_err(|q| Refusal::new(q, 1))?;
+    fields::check_number(Content::Statements, 0, t[0]).map_err(|q| Refusal::new(q, 1))?;
     test_counts(t)
 }
 

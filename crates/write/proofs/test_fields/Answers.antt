@@ -20,21 +20,19 @@ pub returns-in_err-check_number : goal.returns-in_err-check_number
 unfolding numbers_of
 returns-in_err-check_number c =
     let check-number = c.check_number in
-    let number_at = c.number_at-v in
     let content-at = c.content_at-content in
     let loop = c.loop-i in
     let args = c.args in
     let p = err_from_is_err_and c.from_residual.result c.from_residual.ensures.1 in
-    rw (p.1, p.2) (rest-wrong args.t.now args.from (part args.x.from args.x.numbers) _ _ loop.i loop.seen (rw (part-long args.x.from args.x.numbers (omega arith)) (omega arith)) (omega arith) (search rules) content-at.result (part_at args.x.from args.x.numbers _ _ (omega arith) (search rules)) number_at.result number_at.ensures number_at.type_inv check-number.result check-number.ensures _ (search rules))
+    rw (p.1, p.2) (rest-wrong args.t.now args.from (part args.x.from args.x.numbers) _ _ loop.i loop.seen (rw (part-long args.x.from args.x.numbers (omega arith)) (omega arith)) (omega arith) (search rules) content-at.result (part_at args.x.from args.x.numbers _ _ (omega arith) (search rules)) _ refl (search rules) check-number.result check-number.ensures _ (search rules))
 
 pub loop-i-preserved : goal.loop-i-preserved
 loop-i-preserved c =
     let check-number = c.check_number in
-    let number_at = c.number_at-v in
     let content-at = c.content_at-content in
     let loop = c.loop-i in
     let args = c.args in
-    rest-next args.t.now args.from (part args.x.from args.x.numbers) _ _ loop.i loop.seen (rw (part-long args.x.from args.x.numbers (omega arith)) (omega arith)) (omega arith) (search rules) content-at.result (part_at args.x.from args.x.numbers _ _ (omega arith) (search rules)) number_at.result number_at.ensures number_at.type_inv check-number.result check-number.ensures _ (search rules) c.see-seen.ensures
+    rest-next args.t.now args.from (part args.x.from args.x.numbers) _ _ loop.i loop.seen (rw (part-long args.x.from args.x.numbers (omega arith)) (omega arith)) (omega arith) (search rules) content-at.result (part_at args.x.from args.x.numbers _ _ (omega arith) (search rules)) _ refl (search rules) check-number.result check-number.ensures _ (search rules) c.see-seen.ensures
 
 pub returns : goal.returns
 unfolding numbers_of
