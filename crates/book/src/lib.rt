@@ -2,6 +2,7 @@
 #![tactic(auto)]
 
 ghost use Rattle.std.specs.Prelude.{◌≡◌, ℕ, true, false, ◌<◌, ◌≤◌, length, get_or};
+ghost use Rattle.book.specs.Faults.{number};
 ghost use Rattle.book.specs.Kinds.{kind, none, contents, bytes, row_once};
 ghost use Rattle.book.specs.Counts.{all_counts, front_of, count_at, shape_from, sum_to, start_of, row_numbers, text_bytes, total as total_of, InLimits};
 ghost use Rattle.book.specs.declared.Kind.{Kind};
@@ -173,6 +174,75 @@ impl Book {
     }
 }
 
+// What is wrong with a text or a number table: one variant for each refusal of Read and Write.
+#[derive(Clone, Copy, Debug, PartialEq, Eq)]
+pub enum Fault {
+    // The text is longer than any book's.
+    TooLong,
+    // The text is empty, or its last byte is no line feed.
+    NoLineFeed,
+    // A line that may not stand here, or none where one must.
+    NotAllowed,
+    // A line of the wrong length.
+    LineLength,
+    // A byte that no field has, or a minus out of its place.
+    StrayByte,
+    // A number outside its range.
+    OutOfRange,
+    // Another edition than 1.
+    Edition,
+    // More lines of a kind than a book may have.
+    TooMany,
+    // An exception with no head.
+    NoHead,
+    // A field names an exception that the book lacks.
+    NoException,
+    // Z does not count the rows.
+    WrongTotal,
+    // The lent buffer is shorter than the answer.
+    BufferShort,
+    // The number table's length differs from its counts.
+    TableLength,
+    // A blank field, or a space after a digit.
+    Gap,
+    // A leading zero, or "-0".
+    WrongZero,
+    // More Q lines than a book may have.
+    TooManyConditionals,
+    // More O lines than a book may have.
+    TooManyAlternatives,
+    // An O line with fewer than two heads.
+    FewHeads,
+}
+
+impl Fault {
+    // The number that the documents give the refusal.
+    pub fn number(self) -> u32
+        ensures { result ≡ number self }
+    {
+        match self {
+            Fault::TooLong => 1,
+            Fault::NoLineFeed => 2,
+            Fault::NotAllowed => 3,
+            Fault::LineLength => 4,
+            Fault::StrayByte => 5,
+            Fault::OutOfRange => 6,
+            Fault::Edition => 7,
+            Fault::TooMany => 8,
+            Fault::NoHead => 9,
+            Fault::NoException => 10,
+            Fault::WrongTotal => 11,
+            Fault::BufferShort => 15,
+            Fault::TableLength => 16,
+            Fault::Gap => 17,
+            Fault::WrongZero => 18,
+            Fault::TooManyConditionals => 19,
+            Fault::TooManyAlternatives => 22,
+            Fault::FewHeads => 23,
+        }
+    }
+}
+
 // What a field of a line holds.
 #[derive(Clone, Copy)]
 pub enum Content {
@@ -194,11 +264,11 @@ pub struct Kind {
     pub from: usize,
     pub numbers: usize,
     pub limit: usize,
-    pub over: u32,
+    pub over: Fault,
     pub row: bool,
     pub heads: usize,
     pub filled: usize,
-    pub unfilled: u32,
+    pub unfilled: Fault,
     pub count: usize,
 }
 
@@ -236,11 +306,11 @@ const KINDS: [Kind; Book::KINDS] = [
         from: 0,
         numbers: 0,
         limit: 1,
-        over: 8,
+        over: Fault::TooMany,
         row: false,
         heads: 0,
         filled: 0,
-        unfilled: 9,
+        unfilled: Fault::NoHead,
         count: 0,
     },
     Kind {
@@ -249,11 +319,11 @@ const KINDS: [Kind; Book::KINDS] = [
         from: 2,
         numbers: Book::RULE_NUMBERS,
         limit: Book::PLAIN,
-        over: 8,
+        over: Fault::TooMany,
         row: true,
         heads: 1,
         filled: 0,
-        unfilled: 9,
+        unfilled: Fault::NoHead,
         count: 1,
     },
     Kind {
@@ -262,11 +332,11 @@ const KINDS: [Kind; Book::KINDS] = [
         from: 2,
         numbers: Book::ALTERNATIVE_NUMBERS,
         limit: Book::ALTERNATIVES,
-        over: 22,
+        over: Fault::TooManyAlternatives,
         row: true,
         heads: Book::HEADS,
         filled: 2,
-        unfilled: 23,
+        unfilled: Fault::FewHeads,
         count: 5,
     },
     Kind {
@@ -275,11 +345,11 @@ const KINDS: [Kind; Book::KINDS] = [
         from: 2,
         numbers: Book::RULE_NUMBERS,
         limit: Book::EXCEPTIONS,
-        over: 8,
+        over: Fault::TooMany,
         row: true,
         heads: 1,
         filled: 1,
-        unfilled: 9,
+        unfilled: Fault::NoHead,
         count: 2,
     },
     Kind {
@@ -288,11 +358,11 @@ const KINDS: [Kind; Book::KINDS] = [
         from: 13,
         numbers: Book::PREFERENCE_NUMBERS,
         limit: Book::PREFERENCES,
-        over: 8,
+        over: Fault::TooMany,
         row: true,
         heads: 0,
         filled: 0,
-        unfilled: 9,
+        unfilled: Fault::NoHead,
         count: 3,
     },
     Kind {
@@ -301,11 +371,11 @@ const KINDS: [Kind; Book::KINDS] = [
         from: 13,
         numbers: Book::CONDITIONAL_NUMBERS,
         limit: Book::CONDITIONALS,
-        over: 19,
+        over: Fault::TooManyConditionals,
         row: true,
         heads: 0,
         filled: 0,
-        unfilled: 9,
+        unfilled: Fault::NoHead,
         count: 4,
     },
     Kind {
@@ -314,11 +384,11 @@ const KINDS: [Kind; Book::KINDS] = [
         from: 23,
         numbers: 0,
         limit: 1,
-        over: 8,
+        over: Fault::TooMany,
         row: false,
         heads: 0,
         filled: 0,
-        unfilled: 9,
+        unfilled: Fault::NoHead,
         count: 0,
     },
 ];

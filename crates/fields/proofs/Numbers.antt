@@ -21,6 +21,9 @@ use Rattle.logic.proofs.Decide.{clash}
 use Rattle.logic.proofs.Tests.{or-either, both_left, both_right}
 use Rattle.book.specs.declared.Content.{Content}
 use Rattle.book.specs.declared.Content.TheVariants.{Edition, Statements, Literal, Exception, Total}
+use Rattle.book.specs.declared.Fault.{Fault}
+use Rattle.book.specs.declared.Fault.TheVariants.{OutOfRange, Edition as WrongEdition}
+use Rattle.book.specs.Faults.{number}
 use Rattle.book.specs.Limits as limit
 use Rattle.book.specs.Kinds.{Range, range_of, kinds, most, row_once, most_rows}
 use Rattle.text.specs.Lines.{inside, between}
@@ -30,12 +33,12 @@ use Rattle.fields.specs.Checks.{number_is, range, see_of}
 use Rattle.fields.proofs.Columns.{back, lt-le, ge-le}
 
 -- ---- one number
-module _ (low high v : ℤ) (q : ℕ) (b : Bool) (f : b ≡ between low high v) where
+module _ (low high v : ℤ) (q : Fault) (b : Bool) (f : b ≡ between low high v) where
   pub number_in : b ≡ true → Ok tt ≡ number_is (range low high q) v
   unfolding number_is inside pick
   number_in g = rw (← f, g)
 
-  pub number-out : b ≡ false → Err q ≡ number_is (range low high q) v
+  pub number-out : b ≡ false → Err (number q) ≡ number_is (range low high q) v
   unfolding number_is inside pick
   number-out g = rw (← f, g)
 
@@ -90,23 +93,23 @@ module _ (c d : Content) (n : ℕ) (v : ℤ) (y : Result ⊤ ℕ) (s : SFits w32
   pub number_of : (r : Range) → r ≡ range_of d n → y ≡ number_is r (back v) → y ≡ number_is (range_of c n) v
   number_of r f g = g ∙ ap (number_is r) (to_z-of_z s) ∙ ap (λ (x : Range). number_is x v) (f ∙ ap (λ (x : Content). range_of x n) (sym e))
 
-pub literal-range : (n : ℕ) → n < 2147483648 → range (back (pos 0 -ℤ to_z w32 n)) (to_z w32 n) 6 ≡ range_of Literal n
+pub literal-range : (n : ℕ) → n < 2147483648 → range (back (pos 0 -ℤ to_z w32 n)) (to_z w32 n) OutOfRange ≡ range_of Literal n
 unfolding range_of
 literal-range n h = rw (flip_is n h, to_z_pos w32 {n = n} (omega arith))
 
-pub edition-range : (n : ℕ) → range (pos 1) (pos 1) 7 ≡ range_of Edition n
+pub edition-range : (n : ℕ) → range (pos 1) (pos 1) WrongEdition ≡ range_of Edition n
 unfolding range_of
 edition-range n = refl
 
-pub statements-range : (n : ℕ) → range (pos 1) (to_z w32 limit.statements) 6 ≡ range_of Statements n
+pub statements-range : (n : ℕ) → range (pos 1) (to_z w32 limit.statements) OutOfRange ≡ range_of Statements n
 unfolding range_of
 statements-range n = refl
 
-pub exception-range : (n : ℕ) → range (pos 1) (to_z w32 limit.exceptions) 6 ≡ range_of Exception n
+pub exception-range : (n : ℕ) → range (pos 1) (to_z w32 limit.exceptions) OutOfRange ≡ range_of Exception n
 unfolding range_of
 exception-range n = refl
 
-pub total-range : (n : ℕ) → range (pos 0) (to_z w32 (limit.plain + limit.alternatives + limit.exceptions + limit.preferences + limit.conditionals)) 6 ≡ range_of Total n
+pub total-range : (n : ℕ) → range (pos 0) (to_z w32 (limit.plain + limit.alternatives + limit.exceptions + limit.preferences + limit.conditionals)) OutOfRange ≡ range_of Total n
 unfolding range_of most_rows most kinds row_once pick
 total-range n = refl
 

@@ -5,6 +5,7 @@ ghost use Rattle.std.specs.Prelude.{◌≡◌, true, false, [], ◌∷◌, ◌+�
 ghost use Rattle.std.proofs.lemmas.List.Edits.{sets};
 ghost use Rattle.std.specs.Int.Signed.{le_z};
 ghost use Rattle.logic.specs.Tests.{both};
+ghost use Rattle.book.specs.Faults.{number, numbered};
 ghost use Rattle.book.specs.Kinds.{range_of};
 ghost use Rattle.text.specs.Fields.{digit_of, column_of, columns, minus_in, signed, size_of, same, spelt, first_field, written, written_all, Short};
 ghost use Rattle.text.specs.Fields.{is_space, is_digit, stray_byte, stray, gapped, misspelling as misspelling_of, is_number};
@@ -13,7 +14,7 @@ ghost use Rattle.text.specs.Reading.{to_nat};
 ghost use Rattle.fields.specs.Checks.{number_is, range, see_of};
 ghost use Rattle.fields.specs.Short.{all_short};
 
-use book::{Book, Content, Kind};
+use book::{Book, Content, Fault, Kind};
 
 // ---- four columns read
 
@@ -112,19 +113,19 @@ pub fn has_gap(a: u8, b: u8, c: u8, d: u8) -> bool
 }
 
 // The refusal of columns that are misspelt: 5, 17, and for all that is left 18.
-pub fn misspelling(a: u8, b: u8, c: u8, d: u8) -> u32
+pub fn misspelling(a: u8, b: u8, c: u8, d: u8) -> Fault
     requires { is_number a b c d ≡ false }
-    ensures { result ≡ misspelling_of (a ∷ b ∷ c ∷ d ∷ []) }
+    ensures { number result ≡ misspelling_of (a ∷ b ∷ c ∷ d ∷ []) }
 {
     let stray = has_stray(a, b, c, d);
     let gap = has_gap(a, b, c, d);
     if stray {
-        return 5;
+        return Fault::StrayByte;
     }
     if gap {
-        return 17;
+        return Fault::Gap;
     }
-    18
+    Fault::WrongZero
 }
 
 // ---- a field
@@ -143,9 +144,9 @@ pub fn is_usual(a: u8, b: u8, c: u8, d: u8) -> bool
     (b == b' ') & ((c == b' ') | ((c == b'-') & (d != b'0')))
 }
 
-// What four columns are: a number, or misspelt, with the number of the refusal. The number of a usual field is made apart: what the look has told of its columns makes that cheap.
-pub fn spell(a: u8, b: u8, c: u8, d: u8) -> Result<i32, u32>
-    ensures { result ≡ spelt a b c d }
+// What four columns are: a number, or misspelt, with what is wrong. The number of a usual field is made apart: what the look has told of its columns makes that cheap.
+pub fn spell(a: u8, b: u8, c: u8, d: u8) -> Result<i32, Fault>
+    ensures { numbered result ≡ spelt a b c d }
 {
     if is_usual(a, b, c, d) {
         return Ok(to_signed(minus_in(a, b, c), size(a, b, c, d)));
@@ -159,18 +160,18 @@ pub fn spell(a: u8, b: u8, c: u8, d: u8) -> Result<i32, u32>
 }
 
 // The field that starts at a place of the text.
-pub fn read_field(text: &[u8], at: usize) -> Result<i32, u32>
+pub fn read_field(text: &[u8], at: usize) -> Result<i32, Fault>
     requires { at + 4 ≤ length text.now }
-    ensures { result ≡ first_field (drop at text.now) }
+    ensures { numbered result ≡ first_field (drop at text.now) }
 {
     spell(text[at], text[at + 1], text[at + 2], text[at + 3])
 }
 
 // ---- the number of a field
 
-// A number against a range: the number of the refusal if it lies outside.
-pub fn in_range(low: i32, high: i32, fault: u32, v: i32) -> Result<(), u32>
-    ensures { result ≡ number_is (range low high fault) v }
+// A number against a range: what is wrong if it lies outside.
+pub fn in_range(low: i32, high: i32, fault: Fault, v: i32) -> Result<(), Fault>
+    ensures { numbered result ≡ number_is (range low high fault) v }
 {
     if low <= v && v <= high {
         Ok(())
@@ -180,16 +181,16 @@ pub fn in_range(low: i32, high: i32, fault: u32, v: i32) -> Result<(), u32>
 }
 
 // A number against what a field of this content may hold in a book of n statements.
-pub fn check_number(content: Content, n: usize, v: i32) -> Result<(), u32>
+pub fn check_number(content: Content, n: usize, v: i32) -> Result<(), Fault>
     requires { n < 2147483648 }
-    ensures { result ≡ number_is (range_of content n) v }
+    ensures { numbered result ≡ number_is (range_of content n) v }
 {
     match content {
-        Content::Edition => in_range(1, 1, 7, v),
-        Content::Statements => in_range(1, Book::STATEMENTS as i32, 6, v),
-        Content::Literal => in_range(-(n as i32), n as i32, 6, v),
-        Content::Exception => in_range(1, Book::EXCEPTIONS as i32, 6, v),
-        Content::Total => in_range(0, Book::ROWS as i32, 6, v),
+        Content::Edition => in_range(1, 1, Fault::Edition, v),
+        Content::Statements => in_range(1, Book::STATEMENTS as i32, Fault::OutOfRange, v),
+        Content::Literal => in_range(-(n as i32), n as i32, Fault::OutOfRange, v),
+        Content::Exception => in_range(1, Book::EXCEPTIONS as i32, Fault::OutOfRange, v),
+        Content::Total => in_range(0, Book::ROWS as i32, Fault::OutOfRange, v),
     }
 }
 

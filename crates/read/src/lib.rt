@@ -3,6 +3,7 @@
 
 ghost use Rattle.std.specs.Prelude.{◌≡◌, [], ◌+◌, ◌*◌, ◌<◌, ◌≤◌, length, get_or, drop, take, MatchOption};
 ghost use Rattle.std.proofs.lemmas.List.Edits.{sets};
+ghost use Rattle.book.specs.Faults.{numbered};
 ghost use Rattle.book.specs.Kinds.{none, range_of, contents, fields_of, widest, front, longest, room, exception};
 ghost use Rattle.book.specs.Counts.{InLimits};
 ghost use Rattle.text.specs.Fields.{first_field};
@@ -11,7 +12,7 @@ ghost use Rattle.text.specs.Reading.{start, last_byte, read_lines, read_book, ta
 ghost use Rattle.read.specs.Storing.{number_of, answer_fields, store_fields, whole_is, answer_line, store_line, step_with, until_feed, end_of, front_is, outcome_of};
 ghost use Rattle.read.specs.Parsing.{Parsing, Met};
 
-use book::{Book, Content, Kind, Shape};
+use book::{Book, Content, Fault, Kind, Shape};
 use cursor::Cursor;
 use fields::Seen;
 use text::{Refusal, State};
@@ -33,9 +34,9 @@ pub fn kind_for(next: usize, b: u8) -> Option<usize>
 }
 
 // The field at a place of the text, tested by what its content may hold: its number, or the refusal.
-pub fn read_number(text: &[u8], at: usize, content: Content, n: usize) -> Result<i32, u32>
+pub fn read_number(text: &[u8], at: usize, content: Content, n: usize) -> Result<i32, Fault>
     requires { (at + 4 ≤ length text.now) × (n < 2147483648) }
-    ensures { result ≡ number_of (first_field (drop at text.now)) (range_of content n) }
+    ensures { numbered result ≡ number_of (first_field (drop at text.now)) (range_of content n) }
 {
     let v = fields::read_field(text, at)?;
     fields::check_number(content, n, v)?;
@@ -50,9 +51,9 @@ pub fn read_fields(
     st: State,
     t: &mut [i32],
     to: usize,
-) -> Result<Seen, u32>
+) -> Result<Seen, Fault>
     requires { (at + x.fields * 4 ≤ length text.now) × (to + x.fields ≤ length t.old) × (x.from + x.fields ≤ length contents) × (st.statements < 2147483648) × (get_or st.counts exception 0 < 2147483648) × (st.rows < 2147483648) }
-    ensures { answer_fields result t.new ≡ store_fields st.statements (get_or st.counts exception 0) st.rows (fields_of x) t.old to (drop at text.now) }
+    ensures { answer_fields (numbered result) t.new ≡ store_fields st.statements (get_or st.counts exception 0) st.rows (fields_of x) t.old to (drop at text.now) }
 {
     let n = st.statements;
     let exceptions = st.counts[Book::AT_EXCEPTION];
@@ -72,8 +73,8 @@ pub fn read_fields(
 
 // The test of a line as a whole: 8 (for Q lines 19, for O lines 22), 9 (for O lines 23), 10, 11 in this order, the first two being its
 // kind's own.
-pub fn line_fault(x: Kind, count: usize, headless: bool, seen: Seen) -> Result<(), u32>
-    ensures { result ≡ whole_is x count headless seen }
+pub fn line_fault(x: Kind, count: usize, headless: bool, seen: Seen) -> Result<(), Fault>
+    ensures { numbered result ≡ whole_is x count headless seen }
 {
     if x.limit <= count {
         return Err(x.over);
@@ -82,10 +83,10 @@ pub fn line_fault(x: Kind, count: usize, headless: bool, seen: Seen) -> Result<(
         return Err(x.unfilled);
     }
     if seen.missing {
-        return Err(10);
+        return Err(Fault::NoException);
     }
     if seen.miscounted {
-        return Err(11);
+        return Err(Fault::WrongTotal);
     }
     Ok(())
 }
@@ -99,19 +100,19 @@ pub fn read_line(
     st: State,
     t: &mut [i32],
     to: usize,
-) -> Result<(usize, usize), u32>
+) -> Result<(usize, usize), Fault>
     requires { (at + len ≤ length text.now) × (to + widest ≤ length t.old) × (st.statements < 2147483648) × (get_or st.counts exception 0 < 2147483648) × (st.rows < 2147483648) }
-    ensures { answer_line result t.new ≡ store_line st t.old to (read_line st (take len (drop at text.now))) }
+    ensures { answer_line (numbered result) t.new ≡ store_line st t.old to (read_line st (take len (drop at text.now))) }
 {
     if len == 0 {
-        return Err(3);
+        return Err(Fault::NotAllowed);
     }
     let Some(k) = kind_for(st.next, text[at]) else {
-        return Err(3);
+        return Err(Fault::NotAllowed);
     };
     let x = book::kind_at(k);
     if len - 1 != x.fields * Book::COLUMNS {
-        return Err(4);
+        return Err(Fault::LineLength);
     }
     let seen = read_fields(text, at + 1, x, st, t, to)?;
     line_fault(x, st.counts[k], fields::is_headless(&t[to..], x), seen)?;
@@ -165,7 +166,7 @@ pub fn ended(st: State, c: Cursor) -> Result<(Shape, Cursor), Refusal>
     ensures { result ≡ end_of st c }
 {
     if st.next != Book::KINDS {
-        return Err(Refusal::new(3, c.line));
+        return Err(Refusal::of(Fault::NotAllowed, c.line));
     }
     Ok((book::shape_from(st.statements, st.counts), c))
 }
@@ -184,7 +185,7 @@ pub fn read_book(text: &[u8], from: Cursor, t: &mut [i32]) -> Result<(Shape, Cur
             return ended(st, c);
         }
         let len = line_length(&text[c.at..]);
-        let (k, n) = read_line(text, c.at, len, st, t, to).map_err(|q| Refusal::new(q, c.line))?;
+        let (k, n) = read_line(text, c.at, len, st, t, to).map_err(|fault| Refusal::of(fault, c.line))?;
         st = stepped(st, k, n);
         to += book::numbers_at(k);
         c.advance(len);
@@ -199,7 +200,7 @@ pub fn read_lines(text: &[u8], t: &mut [i32]) -> Result<Shape, Refusal>
 {
     let (s, c) = read_book(text, Cursor::first(), t)?;
     if c.at < text.len() {
-        return Err(Refusal::new(3, c.line));
+        return Err(Refusal::of(Fault::NotAllowed, c.line));
     }
     Ok(s)
 }
@@ -210,13 +211,13 @@ pub fn parse(text: &[u8], rows: &mut [i32; Book::ROOM]) -> Result<Shape, Refusal
     ensures { Parsing text.now result rows.new }
 {
     if Book::TEXT < text.len() {
-        return Err(Refusal::new(1, 0));
+        return Err(Refusal::of(Fault::TooLong, 0));
     }
     if text.len() == 0 {
-        return Err(Refusal::new(2, 0));
+        return Err(Refusal::of(Fault::NoLineFeed, 0));
     }
     if text[text.len() - 1] != b'\n' {
-        return Err(Refusal::new(2, 0));
+        return Err(Refusal::of(Fault::NoLineFeed, 0));
     }
     read_lines(text, rows)
 }
@@ -249,7 +250,7 @@ pub fn read(text: &[u8], table: &mut [i32]) -> Result<Shape, Refusal>
     let s = parse(text, &mut scratch.rows)?;
     let m = book::row_numbers(s);
     if table.len() < Book::FRONT + m {
-        return Err(Refusal::new(15, 0));
+        return Err(Refusal::of(Fault::BufferShort, 0));
     }
     let rows = &scratch.rows[..m];
     put_table(table, s, rows);

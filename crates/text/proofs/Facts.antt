@@ -19,6 +19,7 @@ use Rattle.logic.proofs.Tests.{both_left, both_right}
 use Rattle.book.specs.declared.Shape.{Shape}
 use Rattle.book.specs.declared.Content.{Content}
 use Rattle.book.specs.declared.Content.TheVariants.{Edition, Literal, Exception}
+use Rattle.book.specs.Faults.{number}
 use Rattle.book.specs.Kinds.{kinds, kind, contents, fields_of, numbers_of, none, first, last, plain, alternative, exception, preference, conditional, entries_each, rule_numbers, alternative_numbers, preference_numbers, conditional_numbers, range_of}
 use Rattle.book.specs.Counts.{counts_of, count_at, sum_to, start_of, row_numbers, text_bytes, numbers_each}
 use Rattle.book.proofs.Counts.{sum-next, sum-up}
@@ -78,7 +79,7 @@ fault-parts : (m k : ℕ) (vs : List ℤ) → k < none → row_fault m (kind k) 
 unfolding row_fault pick
 fault-parts m k vs h e = go (headless (kind k) vs) (missing m (kind k) vs) refl refl e
   where
-    go : (a b : Bool) → headless (kind k) vs ≡ a → missing m (kind k) vs ≡ b → ◌≡◌ {A = ℕ} (pick a (kind k).unfilled (pick b 10 0)) 0 → (headless (kind k) vs ≡ false) × (missing m (kind k) vs ≡ false)
+    go : (a b : Bool) → headless (kind k) vs ≡ a → missing m (kind k) vs ≡ b → ◌≡◌ {A = ℕ} (pick a (number (kind k).unfilled) (pick b 10 0)) 0 → (headless (kind k) vs ≡ false) × (missing m (kind k) vs ≡ false)
     go true b p q e = absurd (omega (arith, unfilled-some k h))
     go false true p q e = absurd (omega arith)
     go false false p q e = (p, q)

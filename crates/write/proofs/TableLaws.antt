@@ -21,6 +21,7 @@ use Rattle.logic.specs.Tests.{both, pick, some}
 use Rattle.book.specs.declared.Kind.{Kind}
 use Rattle.book.specs.declared.Shape.{Shape}
 use Rattle.book.specs.declared.Content.TheVariants.{Statements}
+use Rattle.book.specs.Faults.{number}
 use Rattle.book.specs.Kinds.{kinds, kind, unknown, none, first, last, front, range_of}
 use Rattle.book.specs.Counts.{counts_of, count_at, shape_from, sum_to, start_of, row_numbers, InLimits, numbers_each}
 use Rattle.book.proofs.Counts.{many, sum-next, sum-up, sum-all, numbers-most}
@@ -82,7 +83,7 @@ module _ (t : List ℤ) (v : ℤ) (ev : v ≡ get_or t 0 (pos 0)) (b : mag v < 2
   unfolding number_is pick
   statements-in g = go (inside (range_of Statements 0) (get_or t 0 (pos 0))) (sym g ∙ number_is_lem)
     where
-      go : (b : Bool) → Ok (tt {0}) ≡ pick b (Ok (tt {0})) (Err (range_of Statements 0).fault) → b ≡ true
+      go : (b : Bool) → Ok (tt {0}) ≡ pick b (Ok (tt {0})) (Err (number (range_of Statements 0).fault)) → b ≡ true
       go true p = refl
       go false p = absurd (let z : ◌≡◌ {A = ℕ} 0 1 = cc in omega arith)
 

@@ -23,7 +23,7 @@ pub returns-then-table-m : goal.returns-then-table-m
 returns-then-table-m c =
     let row-numbers = c.row_numbers-m in
     let parse = c.parse in
-    read_short _ _ _ _ parse.ensures c.in_ok-s.s (search rules) row-numbers.result _ row-numbers.ensures (search rules) c.new.ensures
+    read_short _ _ _ _ parse.ensures c.in_ok-s.s (search rules) row-numbers.result _ row-numbers.ensures (search rules) c.of.ensures
 
 pub put_table-requires : goal.put_table-requires
 put_table-requires c =

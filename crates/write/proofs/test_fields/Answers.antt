@@ -5,6 +5,8 @@ use borrow.Author.Rules.{rules}
 use Rattle.read.specs.Storing.{none_seen}
 use Rattle.read.proofs.FieldLaws.{part, part_at, part-long}
 use Rattle.std.proofs.lemmas.Result.{err_from_is_err_and}
+use Rattle.book.specs.Faults.{numbered}
+use Rattle.book.proofs.Faults.{numbered-ok, numbered-err}
 use Rattle.write.proofs.RowLaws.{rest-start, rest-wrong, rest-next, rest_end}
 use Rattle.write.proofs.test_fields.Goals as goal
 
@@ -24,7 +26,7 @@ returns-in_err-check_number c =
     let loop = c.loop-i in
     let args = c.args in
     let p = err_from_is_err_and c.from_residual.result c.from_residual.ensures.1 in
-    rw (p.1, p.2) (rest-wrong args.t.now args.from (part args.x.from args.x.numbers) _ _ loop.i loop.seen (rw (part-long args.x.from args.x.numbers (omega arith)) (omega arith)) (omega arith) (search rules) content-at.result (part_at args.x.from args.x.numbers _ _ (omega arith) (search rules)) _ refl (search rules) check-number.result check-number.ensures _ (search rules))
+    rw (p.1, p.2) (rest-wrong args.t.now args.from (part args.x.from args.x.numbers) _ _ loop.i loop.seen (rw (part-long args.x.from args.x.numbers (omega arith)) (omega arith)) (omega arith) (search rules) content-at.result (part_at args.x.from args.x.numbers _ _ (omega arith) (search rules)) _ refl (search rules) (numbered check-number.result) check-number.ensures _ (numbered-err _ _ c.in_err-check_number.was))
 
 pub loop-i-preserved : goal.loop-i-preserved
 loop-i-preserved c =
@@ -32,7 +34,7 @@ loop-i-preserved c =
     let content-at = c.content_at-content in
     let loop = c.loop-i in
     let args = c.args in
-    rest-next args.t.now args.from (part args.x.from args.x.numbers) _ _ loop.i loop.seen (rw (part-long args.x.from args.x.numbers (omega arith)) (omega arith)) (omega arith) (search rules) content-at.result (part_at args.x.from args.x.numbers _ _ (omega arith) (search rules)) _ refl (search rules) check-number.result check-number.ensures _ (search rules) c.see-seen.ensures
+    rest-next args.t.now args.from (part args.x.from args.x.numbers) _ _ loop.i loop.seen (rw (part-long args.x.from args.x.numbers (omega arith)) (omega arith)) (omega arith) (search rules) content-at.result (part_at args.x.from args.x.numbers _ _ (omega arith) (search rules)) _ refl (search rules) (numbered check-number.result) check-number.ensures _ (numbered-ok _ _ c.in_ok-check_number.was) c.see-seen.ensures
 
 pub returns : goal.returns
 unfolding numbers_of
