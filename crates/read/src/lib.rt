@@ -185,7 +185,9 @@ pub fn read_book(text: &[u8], from: Cursor, t: &mut [i32]) -> Result<(Shape, Cur
             return ended(st, c);
         }
         let len = line_length(&text[c.at..]);
-        let (k, n) = read_line(text, c.at, len, st, t, to).map_err(|fault| Refusal::of(fault, c.line))?;
+        let (k, n) = read_line(text, c.at, len, st, t, to).map_err(|fault| Refusal::of(
+            fault, c.line,
+        ))?;
         st = stepped(st, k, n);
         to += book::numbers_at(k);
         c.advance(len);

@@ -7,7 +7,7 @@ use lib.ListN.{length, length-drop}
 use Rattle.std.proofs.lemmas.Slice.{between_to_end}
 use Rattle.cursor.specs.declared.Cursor.{Cursor}
 use Rattle.book.specs.Faults.{numbered}
-use Rattle.book.proofs.Faults.{numbered-ok, numbered-err}
+use Rattle.book.proofs.Faults.{numbered-ok}
 use Rattle.read.proofs.Going.{going_start, going-bad, going-kind, going_next, going_done, going_end, lost-is, turned, longest-small, going-line, going-n, going-count, going-rows, going-room, going-to, row_small}
 use Rattle.read.proofs.read_book.Goals as goal
 

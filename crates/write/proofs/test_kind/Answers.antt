@@ -7,7 +7,7 @@ use Rattle.book.specs.declared.Kind.{Kind}
 use Rattle.std.proofs.lemmas.Result.{err_from_is_err_and}
 use Rattle.read.proofs.Going.{turned}
 use Rattle.book.specs.Faults.{numbered}
-use Rattle.book.proofs.Faults.{numbered-ok, numbered-err}
+use Rattle.book.proofs.Faults.{numbered-ok}
 use Rattle.write.proofs.TableLaws.{rest-start, rest-next, rest-failed, rest-passed, spread-start, spread-next, spread-in}
 use Rattle.write.proofs.test_kind.Goals as goal
 

@@ -4,7 +4,7 @@ use borrow.Author.Rules.{rules}
 use Rattle.std.proofs.lemmas.Result.{err_from_is_err_and}
 use Rattle.read.proofs.Going.{turned}
 use Rattle.book.specs.Faults.{numbered}
-use Rattle.book.proofs.Faults.{numbered-ok, numbered-err}
+use Rattle.book.proofs.Faults.{numbered-ok}
 use Rattle.write.proofs.TableLaws.{statements-in, statements-out, table-short, table-n}
 use Rattle.write.proofs.test_table.Goals as goal
 
