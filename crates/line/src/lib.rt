@@ -9,7 +9,7 @@ ghost use Rattle.answers.specs.Operations.{line_answer};
 ghost use Rattle.line.specs.Parts.{fields_of, taken_of, line_bytes};
 ghost use Rattle.line.specs.Promise.{Met, part_of};
 
-use book::Book;
+use book::{Book, Fault};
 use sets::Pair;
 use text::Refusal;
 
@@ -124,7 +124,7 @@ pub fn line(text: &[u8], p: Pair, buf: &mut [u8]) -> Result<usize, Refusal>
     let w = line_fields(s.exceptions);
     let m = line_bytes(w, s.statements);
     if buf.len() < m {
-        return Err(Refusal::new(15, 0));
+        return Err(Refusal::of(Fault::BufferShort, 0));
     }
     put_line(buf, w, s.statements, p);
     Ok(m)
