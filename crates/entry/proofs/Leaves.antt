@@ -14,7 +14,7 @@ use borrow.Author.Tests.{eq-eqb, ne_eqb}
 use Rattle.logic.specs.Tests.{both, either}
 use Rattle.logic.proofs.Tests.{and_both}
 use Rattle.std.specs.Char.{is_ascii_digit, is_ascii_uppercase}
-use Rattle.std.specs.List.{list_all}
+use Rattle.std.specs.List.{between, list_all}
 use Rattle.std.specs.Int.{to_le_bytes, from_le_bytes}
 use mir.Syntax.{w64}
 use Rattle.entry.specs.Names.{letter, follows, chain, name_spelt}
@@ -55,7 +55,7 @@ part-next s n i h g =
     rw (e, f, drop-cons s i 0 (omega arith))
 
 -- The part from a place on, as the program cuts it.
-pub rest_is : (s : List ℕ) (i : ℕ) → take (length s - i) (drop i s) ≡ drop i s
+pub rest_is : (s : List ℕ) (i : ℕ) → between i (length s) s ≡ drop i s
 rest_is s i = between_to_end s i (length s) (omega arith)
 
 -- ---- names
