@@ -16,8 +16,8 @@ use mir.Val.{to_z, of_z, SFits}
 use mir.Facts.{to_z_pos, to_z-of_z}
 use borrow.Author.Rules.{sfits_of}
 use borrow.Author.Tests.{eq-eqb, ne_eqb, lt-ltb, le-ltb, le-leb, lt-leb, ltb-true, ltb-false}
+use Rattle.std.specs.Prelude.{Ok, Err}
 use Rattle.logic.specs.Tests.{both, either, pick}
-use Rattle.text.specs.declared.Field.TheVariants.{Value, Misspelt}
 use Rattle.text.specs.Fields.{column_of, columns, digit_of, size_of, minus_in, signed, same, read_columns, spelt, first_field, misspelling, is_number, in_columns}
 use Rattle.text.specs.Lines.{between}
 
@@ -128,20 +128,20 @@ module _ (a b c d m : ℕ) (neg t : Bool) (em : m ≡ size_of a b c d) (en : neg
   unfolding spelt
   spelt_is = rw (em, en)
 
-  pub is-spelt : (v : ℤ) → t ≡ true → v ≡ signed neg m → Value v ≡ spelt a b c d
+  pub is-spelt : (v : ℤ) → t ≡ true → v ≡ signed neg m → Ok v ≡ spelt a b c d
   unfolding read_columns pick
   is-spelt v e f = sym (spelt_is ∙ rw (← et, e, f))
 
   pub not_right : t ≡ false → is_number a b c d ≡ false
   not_right e = rw (← em, ← en, ← et) e
 
-  pub is-misspelt : (q : ℕ) → t ≡ false → q ≡ misspelling (a ∷ b ∷ c ∷ d ∷ []) → Misspelt q ≡ spelt a b c d
+  pub is-misspelt : (q : ℕ) → t ≡ false → q ≡ misspelling (a ∷ b ∷ c ∷ d ∷ []) → Err q ≡ spelt a b c d
   unfolding read_columns pick
   is-misspelt q e f = sym (spelt_is ∙ rw (← et, e, f))
 
 -- Columns that are known to be so.
 pub usual-spelt : (a b c d m : ℕ) (neg t : Bool) → m ≡ size_of a b c d → neg ≡ minus_in a b c → t ≡ true
-    → (t ≡ true → is_number a b c d ≡ true) → (v : ℤ) → v ≡ signed neg m → Value v ≡ spelt a b c d
+    → (t ≡ true → is_number a b c d ≡ true) → (v : ℤ) → v ≡ signed neg m → Ok v ≡ spelt a b c d
 usual-spelt a b c d m neg t em en et right v ev = is-spelt a b c d m neg true em en (rw (em, en) (sym (right et))) v refl ev
 
 -- ---- ranges

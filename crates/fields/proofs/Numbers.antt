@@ -11,6 +11,7 @@ use mir.Val.{to_z, SFits}
 use mir.Facts.{to_z-of_z, to_z_pos}
 use borrow.Author.Rules.{sfits_of}
 use borrow.Author.Tests.{ltb-true}
+use Rattle.std.specs.Prelude.{Result, Ok, Err, ⊤}
 use Rattle.logic.specs.Tests.{both, pick}
 use Rattle.logic.proofs.Tests.{or-either}
 use Rattle.book.specs.declared.Content.{Content}
@@ -19,19 +20,17 @@ use Rattle.book.specs.Limits as limit
 use Rattle.book.specs.Kinds.{Range, range_of, kinds, most, row_once, most_rows}
 use Rattle.text.specs.Lines.{inside, between}
 use Rattle.text.specs.Reading.{to_nat}
-use Rattle.fields.specs.declared.Checked.{Checked}
-use Rattle.fields.specs.declared.Checked.TheVariants.{Fine, Refused}
 use Rattle.fields.specs.declared.Seen.{Seen}
 use Rattle.fields.specs.Checks.{number_is, range, see_of}
 use Rattle.fields.proofs.Columns.{back, lt-le, ge-le}
 
 -- ---- one number
 module _ (low high v : ℤ) (q : ℕ) (b : Bool) (f : b ≡ between low high v) where
-  pub number_in : b ≡ true → Fine ≡ number_is (range low high q) v
+  pub number_in : b ≡ true → Ok tt ≡ number_is (range low high q) v
   unfolding number_is inside pick
   number_in g = rw (← f, g)
 
-  pub number-out : b ≡ false → Refused q ≡ number_is (range low high q) v
+  pub number-out : b ≡ false → Err q ≡ number_is (range low high q) v
   unfolding number_is inside pick
   number-out g = rw (← f, g)
 
@@ -69,7 +68,7 @@ flip_is n h = to_z-of_z (flip-fits n h) ∙ flip-eq n h
 
 -- ---- a number against its content's range
 -- A number that a parameter holds, where the content is known.
-module _ (c d : Content) (n : ℕ) (v : ℤ) (y : Checked) (s : SFits w32 v) (e : c ≡ d) where
+module _ (c d : Content) (n : ℕ) (v : ℤ) (y : Result ⊤ ℕ) (s : SFits w32 v) (e : c ≡ d) where
   pub number_of : (r : Range) → r ≡ range_of d n → y ≡ number_is r (back v) → y ≡ number_is (range_of c n) v
   number_of r f g = g ∙ ap (number_is r) (to_z-of_z s) ∙ ap (λ (x : Range). number_is x v) (f ∙ ap (λ (x : Content). range_of x n) (sym e))
 

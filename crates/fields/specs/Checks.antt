@@ -1,5 +1,5 @@
 -- A number tested as the number of a field, and what the numbers of a line say beside their ranges.
-use Rattle.std.specs.Prelude.{ℕ, not, List, [], ◌∷◌, ℤ, pos}
+use Rattle.std.specs.Prelude.{ℕ, not, List, [], ◌∷◌, ℤ, pos, Result, Ok, Err, ⊤}
 use Rattle.std.specs.Int.Signed.{le_z}
 use Rattle.logic.specs.Tests.{pick, either}
 use Rattle.book.specs.declared.Content.{Content}
@@ -7,16 +7,14 @@ use Rattle.book.specs.declared.Content.TheVariants.{Edition, Statements, Literal
 use Rattle.book.specs.Kinds.{Range}
 use Rattle.text.specs.Lines.{inside, between}
 use Rattle.text.specs.Reading.{to_nat}
-use Rattle.fields.specs.declared.Checked.{Checked}
-use Rattle.fields.specs.declared.Checked.TheVariants.{Fine, Refused}
 use Rattle.fields.specs.declared.Seen.{Seen}
 
 abbrev pub range : ℤ → ℤ → ℕ → Range
 range a b q = record { low = a; high = b; fault = q }
 
--- Fine in the range, else refused by the range's number.
-unfoldable pub number_is : Range → ℤ → Checked
-number_is r v = pick (inside r v) Fine (Refused r.fault)
+-- Ok in the range, else refused by the range's number.
+unfoldable pub number_is : Range → ℤ → Result ⊤ ℕ
+number_is r v = pick (inside r v) (Ok tt) (Err r.fault)
 
 -- What is known after one number more, in a field of this content, with so many exceptions and rows.
 unfoldable pub see_of : Seen → Content → ℕ → ℕ → ℤ → Seen

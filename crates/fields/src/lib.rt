@@ -14,7 +14,6 @@ ghost use Rattle.fields.specs.Checks.{number_is, range, see_of};
 ghost use Rattle.fields.specs.Short.{all_short};
 
 use book::{Book, Content, Kind};
-use text::Field;
 
 // ---- four columns read
 
@@ -174,23 +173,23 @@ pub fn is_usual(a: u8, b: u8, c: u8, d: u8) -> bool
     (b == b' ') & ((c == b' ') | ((c == b'-') & (d != b'0')))
 }
 
-// What four columns are. The number of a usual field is made apart: what the look has told of its columns makes that cheap.
-pub fn spell(a: u8, b: u8, c: u8, d: u8) -> Field
+// What four columns are: a number, or misspelt, with the number of the refusal. The number of a usual field is made apart: what the look has told of its columns makes that cheap.
+pub fn spell(a: u8, b: u8, c: u8, d: u8) -> Result<i32, u32>
     ensures { result ≡ spelt a b c d }
 {
     if is_usual(a, b, c, d) {
-        return Field::Value(to_signed(minus_in(a, b, c), size(a, b, c, d)));
+        return Ok(to_signed(minus_in(a, b, c), size(a, b, c, d)));
     }
     let m = size(a, b, c, d);
     let neg = minus_in(a, b, c);
     if columns_are(neg, m, a, b, c, d) {
-        return Field::Value(to_signed(neg, m));
+        return Ok(to_signed(neg, m));
     }
-    Field::Misspelt(misspelling(a, b, c, d))
+    Err(misspelling(a, b, c, d))
 }
 
 // The field that starts at a place of the text.
-pub fn read_field(text: &[u8], at: usize) -> Field
+pub fn read_field(text: &[u8], at: usize) -> Result<i32, u32>
     requires { at + 4 ≤ length text.now }
     ensures { result ≡ first_field (drop at text.now) }
 {
@@ -199,28 +198,21 @@ pub fn read_field(text: &[u8], at: usize) -> Field
 
 // ---- the number of a field
 
-// What a test came to: fine, or the number of the refusal.
-#[derive(Clone, Copy)]
-pub enum Checked {
-    Fine,
-    Refused(u32),
-}
-
-// A number against a range.
-pub fn in_range(low: i32, high: i32, fault: u32, v: i32) -> Checked
+// A number against a range: the number of the refusal if it lies outside.
+pub fn in_range(low: i32, high: i32, fault: u32, v: i32) -> Result<(), u32>
     ensures { result ≡ number_is (range low high fault) v }
 {
     if v < low {
-        return Checked::Refused(fault);
+        return Err(fault);
     }
     if high < v {
-        return Checked::Refused(fault);
+        return Err(fault);
     }
-    Checked::Fine
+    Ok(())
 }
 
 // A number against what a field of this content may hold in a book of n statements.
-pub fn check_number(content: Content, n: usize, v: i32) -> Checked
+pub fn check_number(content: Content, n: usize, v: i32) -> Result<(), u32>
     requires { n < 2147483648 }
     ensures { result ≡ number_is (range_of content n) v }
 {

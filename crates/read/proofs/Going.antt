@@ -13,6 +13,8 @@ use lib.Signed.{le_z}
 use lib.ListN.{get_or, drop, take, set, length, replicate, length-drop, length-append, drop_of_length-le}
 use lib.Seq.{sets, sets-eq, length-sets, take_at, length-take-le}
 use borrow.Author.Tests.{eqb-true, eqb-false, eq-eqb, ne_eqb, leb-true}
+use Rattle.std.specs.Prelude.{Result, Ok, Err, MatchResult, IsErrAnd}
+use Rattle.std.proofs.lemmas.Result.{err_from_is_err_and}
 use Rattle.logic.specs.Tests.{pick, cons_if}
 use Rattle.book.specs.declared.Content.{Content}
 use Rattle.book.specs.declared.Content.TheVariants.{Edition, Statements, Literal, Exception, Total}
@@ -22,14 +24,11 @@ use Rattle.book.specs.Counts.{row_numbers}
 use Rattle.book.specs.declared.Shape.{Shape}
 use Rattle.book.proofs.Counts.{narrow}
 use Rattle.text.specs.declared.State.{State}
-use Rattle.text.specs.declared.Field.TheVariants.{Value}
-use Rattle.text.specs.declared.Reading.{Reading}
-use Rattle.text.specs.declared.Reading.TheVariants.{Accepted, Refused as Turned}
 use Rattle.text.specs.declared.Refusal.{Refusal}
 use Rattle.text.specs.Lines.{Line, between, inside, code, numbers_in, line_of, lines, read_line}
 use Rattle.text.specs.Lines.Numbers.{numbers}
 use Rattle.text.specs.Lines.Line.{line, wrong}
-use Rattle.text.specs.Reading.{Front, start, to_nat, last_or, step, row_of, shape_of, read_lines, with_row, on_front, read_book, alone, last_byte}
+use Rattle.text.specs.Reading.{Front, start, to_nat, last_or, step, row_of, shape_of, read_lines, with_row, on_front, read_book, alone, last_byte, refusal}
 use Rattle.text.specs.Reading.Outcome.{refused}
 use Rattle.text.specs.Reading.Front.{found, stopped}
 use Rattle.text.specs.Tables.{test_fields}
@@ -38,19 +37,15 @@ use Rattle.text.proofs.KindFacts.{width_is, numbers-are}
 use Rattle.text.proofs.Lines.{row-passed, read-line, fields-length, first-numbers}
 use Rattle.text.proofs.Fronts.{alone-lines, book-size}
 use Rattle.text.proofs.Books.{in-first}
-use Rattle.read.specs.declared.Found.{Found}
-use Rattle.read.specs.declared.Found.TheVariants.{Book, Refused}
-use Rattle.read.specs.declared.LineIs.{LineIs}
-use Rattle.read.specs.declared.LineIs.TheVariants.{Of, Bad}
 use Rattle.cursor.specs.declared.Cursor.{Cursor}
 use Rattle.cursor.specs.Places.{first_cursor, past_line}
-use Rattle.read.specs.Storing.{store_line, answer_line, step_with, until_feed, no_reading, end_of, front_is, outcome_of}
+use Rattle.read.specs.Storing.{store_line, answer_line, step_with, until_feed, end_of, front_is, outcome_of}
 use Rattle.read.specs.Storing.LineLeft.{kept_line, lost_line}
 use Rattle.read.proofs.Feeds.{line-in, line-split}
 use Rattle.read.proofs.States.{step-with}
 
 -- ---- what read_line left
-line_kept : (st : State) (l₀ l : List ℤ) (to : ℕ) (x : Line) (r : LineIs) (k n : ℕ) → answer_line r l ≡ store_line st l₀ to x → r ≡ Of k n → (vs : List ℤ) × (x ≡ line k vs) × (l ≡ sets l₀ to vs) × (n ≡ (step st k vs).statements)
+line_kept : (st : State) (l₀ l : List ℤ) (to : ℕ) (x : Line) (r : Result (ℕ × ℕ) ℕ) (k n : ℕ) → answer_line r l ≡ store_line st l₀ to x → r ≡ Ok (k, n) → (vs : List ℤ) × (x ≡ line k vs) × (l ≡ sets l₀ to vs) × (n ≡ (step st k vs).statements)
 unfolding answer_line store_line
 line_kept st l₀ l to (line j vs) r k n e f =
     let z : kept_line k n l ≡ kept_line j (step st j vs).statements (sets l₀ to vs) = rw f at e in
@@ -58,7 +53,7 @@ line_kept st l₀ l to (line j vs) r k n e f =
     (vs, rw q, cc, rw (← q) cc)
 line_kept st l₀ l to (wrong q) r k n e f = let z : kept_line k n l ≡ lost_line q = rw f at e in absurd (let y : ◌≡◌ {A = ℕ} 0 1 = cc in omega arith)
 
-line-lost : (st : State) (l₀ l : List ℤ) (to : ℕ) (x : Line) (r : LineIs) (q : ℕ) → answer_line r l ≡ store_line st l₀ to x → r ≡ Bad q → x ≡ wrong q
+line-lost : (st : State) (l₀ l : List ℤ) (to : ℕ) (x : Line) (r : Result (ℕ × ℕ) ℕ) (q : ℕ) → answer_line r l ≡ store_line st l₀ to x → r ≡ Err q → x ≡ wrong q
 unfolding answer_line store_line
 line-lost st l₀ l to (line j vs) r q e f = let z : lost_line q ≡ kept_line j (step st j vs).statements (sets l₀ to vs) = rw f at e in absurd (let y : ◌≡◌ {A = ℕ} 0 1 = cc in omega arith)
 line-lost st l₀ l to (wrong p) r q e f = let z : lost_line q ≡ lost_line p = rw f at e in let w : p ≡ q = cc in rw w
@@ -75,12 +70,12 @@ unfolding test_fields last_or numbers_in cons_if code
 last-small [] n vs us s e h = h
 last-small (c ∷ cs) n [] us s e h = h
 last-small (Statements ∷ cs) n (v ∷ vs) us s e h =
-    let g = first-numbers (Value v) (range_of Statements n) (test_fields cs n vs) us e in
+    let g = first-numbers (Ok v) (range_of Statements n) (test_fields cs n vs) us e in
     last-small cs n vs g.1 (to_nat v) g.3 (in-limit n v (in-first (range_of Statements n) v (test_fields cs n vs) us e))
-last-small (Edition ∷ cs) n (v ∷ vs) us s e h = let g = first-numbers (Value v) (range_of Edition n) (test_fields cs n vs) us e in last-small cs n vs g.1 s g.3 h
-last-small (Literal ∷ cs) n (v ∷ vs) us s e h = let g = first-numbers (Value v) (range_of Literal n) (test_fields cs n vs) us e in last-small cs n vs g.1 s g.3 h
-last-small (Exception ∷ cs) n (v ∷ vs) us s e h = let g = first-numbers (Value v) (range_of Exception n) (test_fields cs n vs) us e in last-small cs n vs g.1 s g.3 h
-last-small (Total ∷ cs) n (v ∷ vs) us s e h = let g = first-numbers (Value v) (range_of Total n) (test_fields cs n vs) us e in last-small cs n vs g.1 s g.3 h
+last-small (Edition ∷ cs) n (v ∷ vs) us s e h = let g = first-numbers (Ok v) (range_of Edition n) (test_fields cs n vs) us e in last-small cs n vs g.1 s g.3 h
+last-small (Literal ∷ cs) n (v ∷ vs) us s e h = let g = first-numbers (Ok v) (range_of Literal n) (test_fields cs n vs) us e in last-small cs n vs g.1 s g.3 h
+last-small (Exception ∷ cs) n (v ∷ vs) us s e h = let g = first-numbers (Ok v) (range_of Exception n) (test_fields cs n vs) us e in last-small cs n vs g.1 s g.3 h
+last-small (Total ∷ cs) n (v ∷ vs) us s e h = let g = first-numbers (Ok v) (range_of Total n) (test_fields cs n vs) us e in last-small cs n vs g.1 s g.3 h
 
 step_small : (st : State) (k : ℕ) (vs : List ℤ) → st.statements ≤ limit.statements → test_fields (fields_of (kind k)) st.statements vs ≡ numbers vs → (step st k vs).statements ≤ limit.statements
 unfolding step
@@ -172,16 +167,16 @@ going_start text from t₀ st e h g =
 
 -- ---- the turn
 module _ (text : List ℕ) (from : Cursor) (t₀ t t' : List ℤ) (st : State) (c : Cursor) (to len : ℕ) (g : Going text from t₀ t st c to) (h : c.at < length text) (e : last_byte text ≡ 10) (more : st.next ≡ none → ⊥)
-    (el : len ≡ until_feed (drop c.at text)) (found-is : LineIs) (ef : answer_line found-is t' ≡ store_line st t to (read_line st (take len (drop c.at text)))) where
+    (el : len ≡ until_feed (drop c.at text)) (found-is : Result (ℕ × ℕ) ℕ) (ef : answer_line found-is t' ≡ store_line st t to (read_line st (take len (drop c.at text)))) where
   opened : with_row (take to t) (on_front (read_line st (take len (drop c.at text))) c.line (λ k vs. read_book (lines (drop (c.at + len + 1) text)) (step st k vs) (suc c.line))) ≡ book_from text from start
   unfolding read_book pick
   opened = rw (ne_eqb st.next none more) at (rw (line-split text c.at len h e el) at g.rest)
 
-  pub going-bad : (q : ℕ) → found-is ≡ Bad q → stopped q c.line ≡ book_from text from start
+  pub going-bad : (q : ℕ) → found-is ≡ Err q → stopped q c.line ≡ book_from text from start
   unfolding on_front with_row
   going-bad q f = rw (line-lost st t t' to (read_line st (take len (drop c.at text))) found-is q ef f) at opened
 
-  module _ (k n : ℕ) (f : found-is ≡ Of k n) where
+  module _ (k n : ℕ) (f : found-is ≡ Ok (k, n)) where
     pub going-kind : k < none
     going-kind =
         let v = line_kept st t t' to (read_line st (take len (drop c.at text))) found-is k n ef f in
@@ -245,7 +240,7 @@ end-no st lno us f = rw (ne_eqb st.next none f)
 
 module _ (text : List ℕ) (from : Cursor) (t₀ t : List ℤ) (st : State) (c : Cursor) (to : ℕ) (g : Going text from t₀ t st c to) (short : length text ≤ longest) (room_in : room ≤ length t₀) where
   -- The rows of a book are as many numbers as its shape says.
-  found-end : st.next ≡ none → front_is text (Book (shape_of st) c) t ≡ book_from text from start
+  found-end : st.next ≡ none → front_is text (Ok (shape_of st, c)) t ≡ book_from text from start
   unfolding front_is
   found-end n =
       let r : found (shape_of st) (take to t) (lines (drop c.at text)) c.line ≡ book_from text from start = sym (end-yes (lines (drop c.at text)) st c.line (take to t) n) ∙ g.rest in
@@ -253,7 +248,7 @@ module _ (text : List ℕ) (from : Cursor) (t₀ t : List ℤ) (st : State) (c :
       let q : to ≡ row_numbers (shape_of st) = sym (length-take-le to t (omega (arith, g.few-numbers, g.same_size, g.in-text, div-add-mod' longest 4, mod-lt longest {m = 4} (omega arith)))) ∙ z in
       ap (λ (m : ℕ). found (shape_of st) (take m t) (lines (drop c.at text)) c.line) (sym q) ∙ r
 
-  module _ (r : Found) (er : r ≡ end_of st c) where
+  module _ (r : Result (Shape × Cursor) Refusal) (er : r ≡ end_of st c) where
     pub going_done : st.next ≡ none → front_is text r t ≡ book_from text from start
     unfolding end_of pick
     going_done n = rw (er, eq-eqb st.next none n) (found-end n)
@@ -262,34 +257,40 @@ module _ (text : List ℕ) (from : Cursor) (t₀ t : List ℤ) (st : State) (c :
     unfolding end_of pick front_is
     going_end h = go (eqb st.next none) refl er (rw (drop_of_length-le text {i = c.at} h) at g.rest)
       where
-        go : (b : Bool) → eqb st.next none ≡ b → r ≡ pick b (Book (shape_of st) c) (Refused (record { number = 3; line = c.line })) → with_row (take to t) (read_book (lines []) st c.line) ≡ book_from text from start → front_is text r t ≡ book_from text from start
+        go : (b : Bool) → eqb st.next none ≡ b → r ≡ pick b (Ok (shape_of st, c)) (Err (refusal 3 c.line)) → with_row (take to t) (read_book (lines []) st c.line) ≡ book_from text from start → front_is text r t ≡ book_from text from start
         go true b e p = going_done (eqb-true st.next none b)
         go false b e p = rw e (sym (end-no st c.line (take to t) (eqb-false st.next none b)) ∙ p)
 
 -- A refusal in front of a text.
-pub lost-is : (text : List ℕ) (q lno : ℕ) (l : List ℤ) → front_is text (Refused (record { number = q; line = lno })) l ≡ stopped q lno
+pub lost-is : (text : List ℕ) (q lno : ℕ) (l : List ℤ) (r : Refusal) → r ≡ refusal q lno → front_is text (Err r) l ≡ stopped q lno
 unfolding front_is
-lost-is text q lno l = refl
+lost-is text q lno l r e = rw e
+
+-- A refusal's number, with the line that it is given.
+pub turned : {A : Type 0} (x : Result A ℕ) (y : Result A Refusal) (r : Refusal) (lno : ℕ) (P : ℕ → Refusal → Type 0) → ((q : ℕ) (r : Refusal) → P q r → r ≡ refusal q lno) → y ≡ Err r
+    → MatchResult x (λ v. y ≡ Ok v) (λ q. IsErrAnd y (P q)) → (q : ℕ) × (x ≡ Err q) × (r ≡ refusal q lno)
+turned {A} (Ok v) y r lno P f e m = absurd (let z : ◌≡◌ {A = Result A Refusal} (Ok v) (Err r) = sym m ∙ e in let w : ◌≡◌ {A = ℕ} 0 1 = cc in omega arith)
+turned {A} (Err q) y r lno P f e m = let p = err_from_is_err_and y m in let z : p.0 ≡ r = (let w : ◌≡◌ {A = Result A Refusal} (Err p.0) (Err r) = sym p.1 ∙ e in cc) in (q, refl, sym z ∙ f q p.0 p.2)
 
 -- An answer that was refused, as an outcome.
-pub refused-is : (q lno : ℕ) (l : List ℤ) (r : Reading) → r ≡ no_reading q lno → outcome_of r l ≡ refused q lno
+pub refused-is : (q lno : ℕ) (l : List ℤ) (r : Refusal) → r ≡ refusal q lno → outcome_of (Err r) l ≡ refused q lno
 unfolding outcome_of
 refused-is q lno l r e = rw e
 
 -- ---- nothing after the book
-module _ (text : List ℕ) (x : Found) (l : List ℤ) (first : Cursor) (ef : first ≡ first_cursor) (e : front_is text x l ≡ book_from text first start) (z : last_byte text ≡ 10) where
+module _ (text : List ℕ) (x : Result (Shape × Cursor) Refusal) (l : List ℤ) (first : Cursor) (ef : first ≡ first_cursor) (e : front_is text x l ≡ book_from text first start) (z : last_byte text ≡ 10) where
   all_lines : alone (front_is text x l) ≡ read_lines (lines text) start 1
   all_lines = ap alone (e ∙ ap (λ (c : Cursor). book_from text c start) ef) ∙ alone-lines (lines text) start 1
 
-  pub alone-refused : (r : Refusal) → x ≡ Refused r → outcome_of (Turned r) l ≡ read_lines (lines text) start 1
+  pub alone-refused : (r : Refusal) → x ≡ Err r → outcome_of (Err r) l ≡ read_lines (lines text) start 1
   unfolding outcome_of front_is alone
   alone-refused r f = rw f at all_lines
 
-  pub alone-more : (s : Shape) (c : Cursor) (r : Reading) → x ≡ Book s c → c.at < length text → r ≡ no_reading 3 c.line → outcome_of r l ≡ read_lines (lines text) start 1
+  pub alone-more : (s : Shape) (c : Cursor) (r : Refusal) → x ≡ Ok (s, c) → c.at < length text → r ≡ refusal 3 c.line → outcome_of (Err r) l ≡ read_lines (lines text) start 1
   unfolding front_is alone
   alone-more s c r f h er = refused-is 3 c.line l r er ∙ rw (line-split text c.at (until_feed (drop c.at text)) h z refl) at (rw f at all_lines)
 
-  pub alone-whole : (s : Shape) (c : Cursor) → x ≡ Book s c → length text ≤ c.at → outcome_of (Accepted s) l ≡ read_lines (lines text) start 1
+  pub alone-whole : (s : Shape) (c : Cursor) → x ≡ Ok (s, c) → length text ≤ c.at → outcome_of (Ok s) l ≡ read_lines (lines text) start 1
   unfolding outcome_of front_is alone lines
   alone-whole s c f h = rw (drop_of_length-le text {i = c.at} h) at (rw f at all_lines)
 

@@ -6,17 +6,20 @@ use mathlib.Core.List.{List, [], ◌∷◌, ◌++◌, append_assoc}
 use Prim.Native.Nat.{ℕ, zero, suc, ◌+◌, ◌-◌, ◌*◌, ◌<◌, ◌≤◌}
 use native.Mathlib.Numerals.{add-one}
 use native.Mathlib.Omega.{arith}
+use lib.Dec.{ltb, leb}
 use lib.IntN.{ℤ, pos}
 use lib.Signed.{le_z}
 use lib.ListN.{get_or, drop, take, length, length-drop}
 use lib.Seq.{sets, drop-cons, drop_at, length-take-le, sets-eq, get_or-take, take-append-le}
-use borrow.Author.Tests.{eq-eqb, ne_eqb, lt-ltb, le-ltb, le-leb, lt-leb}
-use Rattle.logic.specs.Tests.{either, pick, cons_if, some}
+use borrow.Author.Tests.{ltb-true, eq-eqb, ne_eqb, lt-ltb, le-ltb, le-leb, lt-leb}
+use Rattle.std.specs.Prelude.{Result, Ok, Err, ⊤}
+use Rattle.logic.specs.Tests.{either, both, pick, cons_if, some}
+use Rattle.logic.proofs.Tests.{all, all-at, both_left, both_right}
 use Rattle.logic.proofs.Stores.{drop-take}
 use Rattle.book.specs.declared.Kind.{Kind}
 use Rattle.book.specs.declared.Content.{Content}
 use Rattle.book.specs.declared.Content.TheVariants.{Edition, Statements, Literal, Exception, Total}
-use Rattle.book.specs.Kinds.{kind, contents, fields_of, bytes, none, widest, exception}
+use Rattle.book.specs.Kinds.{kinds, kind, unknown, contents, fields_of, bytes, none, widest, exception}
 use Rattle.book.proofs.Counts.{narrow}
 use Rattle.text.specs.declared.State.{State}
 use Rattle.text.specs.Fields.{first_field}
@@ -28,33 +31,30 @@ use Rattle.text.proofs.KindFacts.{width_is, heads-in, contents-in}
 use Rattle.text.proofs.Lines.{numbers-length}
 use Rattle.fields.specs.declared.Seen.{Seen}
 use Rattle.fields.specs.Checks.{see_of, see_all}
-use Rattle.read.specs.declared.Fields.{Fields}
-use Rattle.read.specs.declared.Fields.TheVariants.{Right, Wrong}
-use Rattle.read.specs.declared.LineIs.TheVariants.{Of, Bad}
 use Rattle.read.specs.Storing.{none_seen, store, store_fields, answer_fields, whole_is, store_line, answer_line}
 use Rattle.read.specs.Storing.Left.{kept, lost}
 use Rattle.read.specs.Storing.LineLeft.{kept_line, lost_line}
 
 -- ---- the whole, by what is seen
 module _ (x : Kind) (count : ℕ) (r : Bool) (s : Seen) where
-  pub whole-over : x.limit ≤ count → x.over ≡ whole_is x count r s
+  pub whole-over : x.limit ≤ count → Err x.over ≡ whole_is x count r s
   unfolding whole_is pick
   whole-over h = rw (le-leb x.limit count h)
 
   module _ (h : count < x.limit) where
-    pub whole-headless : r ≡ true → x.unfilled ≡ whole_is x count r s
+    pub whole-headless : r ≡ true → Err x.unfilled ≡ whole_is x count r s
     unfolding whole_is pick
     whole-headless g = rw (lt-leb x.limit count h, g)
 
-    pub whole-missing : r ≡ false → s.missing ≡ true → 10 ≡ whole_is x count r s
+    pub whole-missing : r ≡ false → s.missing ≡ true → Err 10 ≡ whole_is x count r s
     unfolding whole_is pick
     whole-missing g a = rw (lt-leb x.limit count h, g, a)
 
-    pub whole-miscounted : r ≡ false → s.missing ≡ false → s.miscounted ≡ true → 11 ≡ whole_is x count r s
+    pub whole-miscounted : r ≡ false → s.missing ≡ false → s.miscounted ≡ true → Err 11 ≡ whole_is x count r s
     unfolding whole_is pick
     whole-miscounted g a b = rw (lt-leb x.limit count h, g, a, b)
 
-    pub whole-right : r ≡ false → s.missing ≡ false → s.miscounted ≡ false → 0 ≡ whole_is x count r s
+    pub whole-right : r ≡ false → s.missing ≡ false → s.miscounted ≡ false → Ok tt ≡ whole_is x count r s
     unfolding whole_is pick
     whole-right g a b = rw (lt-leb x.limit count h, g, a, b)
 
@@ -151,7 +151,7 @@ stored-take l vs to m h g =
     ∙ (ap (take m) (drop_at (take to l) (vs ++ drop (to + length vs) l) to (length-take-le to l (omega arith))) ∙ take-append-le m vs (drop (to + length vs) l) g)
 
 module _ (st : State) (l₀ : List ℤ) (to : ℕ) where
-  pub line-empty : (text : List ℕ) (at len : ℕ) (l : List ℤ) → len ≡ 0 → answer_line (Bad 3) l ≡ store_line st l₀ to (read_line st (take len (drop at text)))
+  pub line-empty : (text : List ℕ) (at len : ℕ) (l : List ℤ) → len ≡ 0 → answer_line (Err 3) l ≡ store_line st l₀ to (read_line st (take len (drop at text)))
   unfolding answer_line store_line read_line
   line-empty text at len l e = rw e
 
@@ -160,7 +160,7 @@ module _ (text : List ℕ) (at len : ℕ) (st : State) (l₀ : List ℤ) (to : �
   unfolding read_line
   line-is = rw (first-take text at len f h, ek)
 
-  pub line-elsewhere : (l : List ℤ) → none ≤ k → answer_line (Bad 3) l ≡ store_line st l₀ to (read_line st (take len (drop at text)))
+  pub line-elsewhere : (l : List ℤ) → none ≤ k → answer_line (Err 3) l ≡ store_line st l₀ to (read_line st (take len (drop at text)))
   unfolding answer_line store_line read_kind pick
   line-elsewhere l g = rw (line-is, le-ltb k none g)
 
@@ -169,7 +169,7 @@ module _ (text : List ℕ) (at len : ℕ) (st : State) (l₀ : List ℤ) (to : �
     unfolding read_kind pick
     rest-is = line-is ∙ rw (lt-ltb k none g)
 
-    pub line-long : (l : List ℤ) → (len - 1 ≡ x.fields * 4 → ⊥) → answer_line (Bad 4) l ≡ store_line st l₀ to (read_line st (take len (drop at text)))
+    pub line-long : (l : List ℤ) → (len - 1 ≡ x.fields * 4 → ⊥) → answer_line (Err 4) l ≡ store_line st l₀ to (read_line st (take len (drop at text)))
     unfolding answer_line store_line read_rest pick bytes
     line-long l d =
         let w : x.fields ≡ (kind k).fields = ap (λ (y : Kind). y.fields) ex in
@@ -184,8 +184,8 @@ module _ (text : List ℕ) (at len : ℕ) (st : State) (l₀ : List ℤ) (to : �
         rest-is ∙ rw (take-length text at len f h, eq-eqb (2 + (len - 1)) (2 + 4 * (kind k).fields) (omega arith), p, fields-take (fields_of (kind k)) st.statements (drop (at + 1) text), ex)
 
 -- ---- what the fields leave
-module _ (n m rows : ℕ) (cs : List Content) (l₀ l : List ℤ) (to : ℕ) (bs : List ℕ) (r : Fields) (e : answer_fields r l ≡ store_fields n m rows cs l₀ to bs) where
-  fields-lost : (q : ℕ) → r ≡ Wrong q → read_fields cs n bs ≡ fault q
+module _ (n m rows : ℕ) (cs : List Content) (l₀ l : List ℤ) (to : ℕ) (bs : List ℕ) (r : Result Seen ℕ) (e : answer_fields r l ≡ store_fields n m rows cs l₀ to bs) where
+  fields-lost : (q : ℕ) → r ≡ Err q → read_fields cs n bs ≡ fault q
   unfolding answer_fields store_fields store
   fields-lost q f = go (read_fields cs n bs) (rw f at e)
     where
@@ -193,7 +193,7 @@ module _ (n m rows : ℕ) (cs : List Content) (l₀ l : List ℤ) (to : ℕ) (bs
       go (numbers vs) z = absurd (let y : ◌≡◌ {A = ℕ} 0 1 = cc in omega arith)
       go (fault p) z = let w : p ≡ q = cc in rw w
 
-  fields-kept : (s : Seen) → r ≡ Right s → (vs : List ℤ) × (read_fields cs n bs ≡ numbers vs) × (l ≡ sets l₀ to vs) × (s ≡ see_all (none_seen n) cs m rows vs)
+  fields-kept : (s : Seen) → r ≡ Ok s → (vs : List ℤ) × (read_fields cs n bs ≡ numbers vs) × (l ≡ sets l₀ to vs) × (s ≡ see_all (none_seen n) cs m rows vs)
   unfolding answer_fields store_fields store
   fields-kept s f = go (read_fields cs n bs) refl (rw f at e)
     where
@@ -201,15 +201,60 @@ module _ (n m rows : ℕ) (cs : List Content) (l₀ l : List ℤ) (to : ℕ) (bs
       go (numbers vs) p z = (vs, p, cc, cc)
       go (fault q) p z = absurd (let y : ◌≡◌ {A = ℕ} 0 1 = cc in omega arith)
 
+-- The number of a refusal, 0 if there is none.
+abbrev fault_of : Result ⊤ ℕ → ℕ
+fault_of (Ok u) = 0
+fault_of (Err q) = q
+
+first-fault : (a b c d : Bool) (o u : ℕ) → fault_of (pick a (Err o) (pick b (Err u) (pick c (Err 10) (pick d (Err 11) (Ok tt))))) ≡ pick a o (pick b u (pick c 10 (pick d 11 0)))
+unfolding pick
+first-fault true b c d o u = refl
+first-fault false true c d o u = refl
+first-fault false false true d o u = refl
+first-fault false false false true o u = refl
+first-fault false false false false o u = refl
+
+-- No kind's refusals have the number 0, nor has a line's as a whole.
+abbrev numbered : ℕ → Bool
+numbered k = both (ltb 0 (kind k).over) (ltb 0 (kind k).unfilled)
+
+all-numbered : all numbered none ≡ true
+unfolding kind kinds unknown both
+all-numbered = refl
+
+some-fault : (k count : ℕ) (r : Bool) (s : Seen) (q : ℕ) → k < none → whole_is (kind k) count r s ≡ Err q → 0 < q
+unfolding whole_is pick
+some-fault k count r s q h e = go (leb (kind k).limit count) r s.missing s.miscounted e
+  where
+    t : numbered k ≡ true
+    t = all-at numbered none k all-numbered h
+
+    over : 0 < (kind k).over
+    over = ltb-true 0 (kind k).over (both_left (ltb 0 (kind k).over) (ltb 0 (kind k).unfilled) t)
+
+    unfilled : 0 < (kind k).unfilled
+    unfilled = ltb-true 0 (kind k).unfilled (both_right (ltb 0 (kind k).over) (ltb 0 (kind k).unfilled) t)
+
+    same : (p : ℕ) → ◌≡◌ {A = Result ⊤ ℕ} (Err p) (Err q) → 0 < p → 0 < q
+    same p e h = let z : p ≡ q = cc in omega arith
+
+    go : (a b c d : Bool) → ◌≡◌ {A = Result ⊤ ℕ} (pick a (Err (kind k).over) (pick b (Err (kind k).unfilled) (pick c (Err 10) (pick d (Err 11) (Ok tt))))) (Err q) → 0 < q
+    go true b c d e = same (kind k).over e over
+    go false true c d e = same (kind k).unfilled e unfilled
+    go false false true d e = same 10 e (omega arith)
+    go false false false true e = same 11 e (omega arith)
+    go false false false false e = absurd (let z : ◌≡◌ {A = ℕ} 0 1 = cc in omega arith)
+
 -- The tests of the line as a whole are those of what is seen.
 whole_same : (st : State) (k : ℕ) (vs : List ℤ)
-    → whole_is (kind k) (get_or st.counts k 0) (headless (kind k) vs) (see_all (none_seen st.statements) (fields_of (kind k)) (get_or st.counts exception 0) st.rows vs) ≡ whole_of st k vs
+    → fault_of (whole_is (kind k) (get_or st.counts k 0) (headless (kind k) vs) (see_all (none_seen st.statements) (fields_of (kind k)) (get_or st.counts exception 0) st.rows vs)) ≡ whole_of st k vs
 unfolding whole_is whole_of missing miscounted none_seen either
 whole_same st k vs =
     rw (
       seen-missing (get_or st.counts exception 0) st.rows (fields_of (kind k)) vs (record { statements = st.statements; missing = false; miscounted = false }),
       seen-miscounted (get_or st.counts exception 0) st.rows (fields_of (kind k)) vs (record { statements = st.statements; missing = false; miscounted = false }),
     )
+    (first-fault _ _ _ _ _ _)
 
 n-same : (st : State) (k : ℕ) (vs : List ℤ) → (see_all (none_seen st.statements) (fields_of (kind k)) (get_or st.counts exception 0) st.rows vs).statements ≡ (step st k vs).statements
 unfolding step none_seen
@@ -217,14 +262,14 @@ n-same st k vs = seen-statements (get_or st.counts exception 0) st.rows (fields_
 
 -- ---- the returns of a line that is of a kind and of its length
 module _ (text : List ℕ) (at len : ℕ) (st : State) (l₀ : List ℤ) (to : ℕ) (k : ℕ) (f : len ≡ 0 → ⊥) (h : at + len ≤ length text) (ek : k ≡ kind_for st.next (get_or text at 0))
-    (x : Kind) (g : k < none) (ex : x ≡ kind k) (d : len - 1 ≡ x.fields * 4) (l : List ℤ) (r : Fields)
+    (x : Kind) (g : k < none) (ex : x ≡ kind k) (d : len - 1 ≡ x.fields * 4) (l : List ℤ) (r : Result Seen ℕ)
     (er : answer_fields r l ≡ store_fields st.statements (get_or st.counts exception 0) st.rows (fields_of x) l₀ to (drop (at + 1) text)) where
-  pub line-fields : (q : ℕ) → r ≡ Wrong q → answer_line (Bad q) l ≡ store_line st l₀ to (read_line st (take len (drop at text)))
+  pub line-fields : (q : ℕ) → r ≡ Err q → answer_line (Err q) l ≡ store_line st l₀ to (read_line st (take len (drop at text)))
   unfolding answer_line store_line judged
   line-fields q fr =
       rw (judged-is text at len st l₀ to k f h ek x g ex d, fields-lost st.statements (get_or st.counts exception 0) st.rows (fields_of x) l₀ l to (drop (at + 1) text) r er q fr)
 
-  module _ (s : Seen) (fr : r ≡ Right s) (room : to + widest ≤ length l₀) (a : Bool) (ea : a ≡ headless x (drop to l)) (y : ℕ) (ey : y ≡ whole_is x (get_or st.counts k 0) a s) where
+  module _ (s : Seen) (fr : r ≡ Ok s) (room : to + widest ≤ length l₀) (a : Bool) (ea : a ≡ headless x (drop to l)) (y : Result ⊤ ℕ) (ey : y ≡ whole_is x (get_or st.counts k 0) a s) where
     -- The heads of the line are in their places of the slice.
     heads-are : (vs : List ℤ) → read_fields (fields_of x) st.statements (drop (at + 1) text) ≡ numbers vs → l ≡ sets l₀ to vs → a ≡ headless (kind k) vs
     unfolding headless
@@ -233,34 +278,35 @@ module _ (text : List ℕ) (at len : ℕ) (st : State) (l₀ : List ℤ) (to : �
         ea ∙ rw (q, ex, stored-take l₀ vs to (kind k).heads (omega (arith, w, narrow k g)) (omega (arith, w, heads-in k g)))
 
     fault-is : (vs : List ℤ) → read_fields (fields_of x) st.statements (drop (at + 1) text) ≡ numbers vs → l ≡ sets l₀ to vs
-        → s ≡ see_all (none_seen st.statements) (fields_of x) (get_or st.counts exception 0) st.rows vs → y ≡ whole_of st k vs
-    fault-is vs p q z = ey ∙ rw (heads-are vs p q, z, ex) (whole_same st k vs)
+        → s ≡ see_all (none_seen st.statements) (fields_of x) (get_or st.counts exception 0) st.rows vs → fault_of y ≡ whole_of st k vs
+    fault-is vs p q z = ap fault_of ey ∙ rw (heads-are vs p q, z, ex) (whole_same st k vs)
 
-    unless-left : (m : ℕ) (vs : List ℤ) → y ≡ m → (y ≡ 0 → ⊥) → lost_line y ≡ store_line st l₀ to (unless m (line k vs))
+    unless-left : (m : ℕ) (vs : List ℤ) (q : ℕ) → q ≡ m → 0 < q → lost_line q ≡ store_line st l₀ to (unless m (line k vs))
     unfolding unless store_line
-    unless-left zero vs e n = absurd (n e)
-    unless-left (suc m) vs e n = rw e
+    unless-left zero vs q e n = absurd (omega arith)
+    unless-left (suc m) vs q e n = rw e
 
-    unless-right : (m : ℕ) (vs : List ℤ) → y ≡ m → y ≡ 0 → unless m (line k vs) ≡ line k vs
+    unless-right : (m : ℕ) (vs : List ℤ) → 0 ≡ m → unless m (line k vs) ≡ line k vs
     unfolding unless
-    unless-right zero vs e n = refl
-    unless-right (suc m) vs e n = absurd (omega arith)
+    unless-right zero vs e = refl
+    unless-right (suc m) vs e = absurd (omega arith)
 
-    pub line-whole : (y ≡ 0 → ⊥) → answer_line (Bad y) l ≡ store_line st l₀ to (read_line st (take len (drop at text)))
+    pub line-whole : (q : ℕ) → y ≡ Err q → answer_line (Err q) l ≡ store_line st l₀ to (read_line st (take len (drop at text)))
     unfolding answer_line judged
-    line-whole n =
+    line-whole q n =
+        let p = some-fault k (get_or st.counts k 0) a s q g (rw ex at (sym ey ∙ n)) in
         let v = fields-kept st.statements (get_or st.counts exception 0) st.rows (fields_of x) l₀ l to (drop (at + 1) text) r er s fr in
-        rw (judged-is text at len st l₀ to k f h ek x g ex d, v.1) (unless-left (whole_of st k v.0) v.0 (fault-is v.0 v.1 v.2 v.3) n)
+        rw (judged-is text at len st l₀ to k f h ek x g ex d, v.1) (unless-left (whole_of st k v.0) v.0 q (sym (ap fault_of n) ∙ fault-is v.0 v.1 v.2 v.3) p)
 
     right_is : (vs : List ℤ) → l ≡ sets l₀ to vs → s ≡ see_all (none_seen st.statements) (fields_of x) (get_or st.counts exception 0) st.rows vs → kept_line k s.statements l ≡ store_line st l₀ to (line k vs)
     unfolding store_line
     right_is vs q z = rw (z, ex, n-same st k vs, q)
 
-    pub line-right : y ≡ 0 → answer_line (Of k s.statements) l ≡ store_line st l₀ to (read_line st (take len (drop at text)))
+    pub line-right : (u : ⊤) → y ≡ Ok u → answer_line (Ok (k, s.statements)) l ≡ store_line st l₀ to (read_line st (take len (drop at text)))
     unfolding answer_line judged
-    line-right n =
+    line-right u n =
         let v = fields-kept st.statements (get_or st.counts exception 0) st.rows (fields_of x) l₀ l to (drop (at + 1) text) r er s fr in
-        rw (judged-is text at len st l₀ to k f h ek x g ex d, v.1, unless-right (whole_of st k v.0) v.0 (fault-is v.0 v.1 v.2 v.3) n) (right_is v.0 v.2 v.3)
+        rw (judged-is text at len st l₀ to k f h ek x g ex d, v.1, unless-right (whole_of st k v.0) v.0 (sym (ap fault_of n) ∙ fault-is v.0 v.1 v.2 v.3)) (right_is v.0 v.2 v.3)
 
 -- ---- a kind that was looked up
 pub kind-heads : (x : Kind) (k : ℕ) → x ≡ kind k → k < none → x.heads ≤ widest

@@ -8,14 +8,15 @@ use native.Mathlib.Numerals.{add-one}
 use lib.IntN.{ℤ}
 use lib.ListN.{get_or, set}
 use borrow.Author.Tests.{eq-eqb, ne_eqb}
+use Rattle.std.specs.Prelude.{Ok, Err}
 use Rattle.logic.specs.Tests.{pick}
 use Rattle.book.specs.declared.Shape.{Shape}
 use Rattle.book.specs.Kinds.{kind, none}
 use Rattle.text.specs.declared.State.{State}
+use Rattle.text.specs.declared.Refusal.{Refusal}
 use Rattle.cursor.specs.declared.Cursor.{Cursor}
-use Rattle.text.specs.Reading.{after, step, shape_of}
+use Rattle.text.specs.Reading.{after, step, shape_of, refusal}
 use Rattle.read.specs.Storing.{step_with, end_of}
-use Rattle.read.specs.declared.Found.TheVariants.{Book, Refused}
 
 module _ (x : Bool) (k : ℕ) (e : x ≡ (kind k).row) where
   module _ (st : State) (n : ℕ) where
@@ -28,11 +29,11 @@ module _ (x : Bool) (k : ℕ) (e : x ≡ (kind k).row) where
     step_other f = rw (← e, f, add-one, add-one)
 
 module _ (st : State) (c : Cursor) where
-  pub end_refused : (st.next ≡ none → ⊥) → Refused (record { number = 3; line = c.line }) ≡ end_of st c
+  pub end_refused : (r : Refusal) → (st.next ≡ none → ⊥) → r ≡ refusal 3 c.line → Err r ≡ end_of st c
   unfolding end_of pick
-  end_refused f = rw (ne_eqb st.next none f)
+  end_refused r f e = rw (ne_eqb st.next none f, e)
 
-  pub end-found : (s : Shape) → st.next ≡ none → s ≡ shape_of st → Book s c ≡ end_of st c
+  pub end-found : (s : Shape) → st.next ≡ none → s ≡ shape_of st → Ok (s, c) ≡ end_of st c
   unfolding end_of pick
   end-found s e f = rw (eq-eqb st.next none e, f)
 

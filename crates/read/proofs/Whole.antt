@@ -12,6 +12,7 @@ use mir.Syntax.{w32}
 use mir.Val.{to_z}
 use mir.Facts.{to_z_pos}
 use borrow.Author.Tests.{eq-eqb, ne_eqb, lt-ltb, le-ltb}
+use Rattle.std.specs.Prelude.{Result, Ok, Err}
 use Rattle.logic.specs.Tests.{pick}
 use Rattle.book.specs.declared.Measure.TheVariants.{Numbers}
 use Rattle.book.specs.declared.Shape.{Shape}
@@ -20,14 +21,12 @@ use Rattle.book.specs.Counts.{front_of, row_numbers, InLimits, measured}
 use Rattle.book.proofs.Counts.{front-small, sum-all, measured-most}
 use Rattle.logic.proofs.Stores.{sets-append, pieces}
 use Rattle.text.specs.declared.Refusal.{Refusal}
-use Rattle.text.specs.declared.Reading.{Reading}
-use Rattle.text.specs.declared.Reading.TheVariants.{Accepted, Refused}
 use Rattle.text.specs.Lines.{lines}
-use Rattle.text.specs.Reading.{Outcome, start, read_lines, last_byte, read_text, table_of, over, lent, read_with, read_answer, read_into}
+use Rattle.text.specs.Reading.{Outcome, start, read_lines, last_byte, read_text, table_of, over, lent, read_with, read_answer, read_into, refusal}
 use Rattle.text.specs.Reading.Outcome.{accepted, refused}
 use Rattle.text.specs.Accepted.{Accepted as Facts}
 use Rattle.text.proofs.Facts.{accepted-facts}
-use Rattle.read.specs.Storing.{no_reading, outcome_of}
+use Rattle.read.specs.Storing.{outcome_of}
 use Rattle.read.specs.Parsing.{Parsing, Met}
 use Rattle.read.proofs.Going.{refused-is}
 
@@ -59,20 +58,21 @@ unfolding read_text pick
 text-lines bs o h f e r = rw (le-ltb longest (length bs) h, eq-eqb (last_byte bs) 10 (sym (last-is bs f) ∙ e)) r
 
 -- An answer that is the outcome of reading has all that is promised of it.
-parsing-of : (bs : List ℕ) (r : Reading) (l : List ℤ) → outcome_of r l ≡ read_text bs → Parsing bs r l
+parsing-of : (bs : List ℕ) (r : Result Shape Refusal) (l : List ℤ) → outcome_of r l ≡ read_text bs → Parsing bs r l
 unfolding outcome_of
 parsing-of bs r l e = record { is = e; facts = λ s f. accepted-facts bs s (take (row_numbers s) l) (sym (rw f at e)) }
 
-module _ (bs : List ℕ) (r : Reading) (l : List ℤ) where
-  pub parsed-long : r ≡ no_reading 1 0 → longest < length bs → Parsing bs r l
-  parsed-long e h = parsing-of bs r l (refused-is 1 0 l r e ∙ text-long bs h)
+module _ (bs : List ℕ) (l : List ℤ) (r : Refusal) where
+  pub parsed-long : r ≡ refusal 1 0 → longest < length bs → Parsing bs (Err r) l
+  parsed-long e h = parsing-of bs (Err r) l (refused-is 1 0 l r e ∙ text-long bs h)
 
-  pub parsed-empty : r ≡ no_reading 2 0 → length bs ≤ longest → length bs ≡ 0 → Parsing bs r l
-  parsed-empty e h f = parsing-of bs r l (refused-is 2 0 l r e ∙ text-empty bs h f)
+  pub parsed-empty : r ≡ refusal 2 0 → length bs ≤ longest → length bs ≡ 0 → Parsing bs (Err r) l
+  parsed-empty e h f = parsing-of bs (Err r) l (refused-is 2 0 l r e ∙ text-empty bs h f)
 
-  pub parsed-open : r ≡ no_reading 2 0 → length bs ≤ longest → (length bs ≡ 0 → ⊥) → (get_or bs (length bs - 1) 0 ≡ 10 → ⊥) → Parsing bs r l
-  parsed-open e h f g = parsing-of bs r l (refused-is 2 0 l r e ∙ text-open bs h f g)
+  pub parsed-open : r ≡ refusal 2 0 → length bs ≤ longest → (length bs ≡ 0 → ⊥) → (get_or bs (length bs - 1) 0 ≡ 10 → ⊥) → Parsing bs (Err r) l
+  parsed-open e h f g = parsing-of bs (Err r) l (refused-is 2 0 l r e ∙ text-open bs h f g)
 
+module _ (bs : List ℕ) (r : Result Shape Refusal) (l : List ℤ) where
   pub parsed-lines : outcome_of r l ≡ read_lines (lines bs) start 1 → length bs ≤ longest → (length bs ≡ 0 → ⊥) → get_or bs (length bs - 1) 0 ≡ 10 → Parsing bs r l
   parsed-lines e h f g = parsing-of bs r l (text-lines bs (outcome_of r l) h f g e)
 
@@ -126,14 +126,14 @@ table-put l m k s rows n h g em ek =
     ek ∙ (rw (em, ← e, ← sets-append (table_of s []) (take n rows) l 0, ← table-split s (take n rows)) (sets-eq (table_of s (take n rows)) l 0 (omega (arith, z)) ∙ rw (zero-add (length (table_of s (take n rows))))))
 
 -- ---- Read
-module _ (bs : List ℕ) (l rows : List ℤ) (r : Reading) (p : Parsing bs r rows) where
-  pub read-refused : (x : Refusal) → r ≡ Refused x → Met bs l (Refused x) l
+module _ (bs : List ℕ) (l rows : List ℤ) (r : Result Shape Refusal) (p : Parsing bs r rows) where
+  pub read-refused : (x : Refusal) → r ≡ Err x → Met bs l (Err x) l
   unfolding read_with read_answer read_into lent outcome_of
   read-refused x e =
       let q : read_text bs ≡ refused x.number x.line = sym (rw e at p.is) in
       record { answer = rw q; slice = rw q }
 
-  module _ (s : Shape) (e : r ≡ Accepted s) where
+  module _ (s : Shape) (e : r ≡ Ok s) where
     read_is : read_text bs ≡ accepted s (take (row_numbers s) rows)
     unfolding outcome_of
     read_is = sym (rw e at p.is)
@@ -153,11 +153,11 @@ module _ (bs : List ℕ) (l rows : List ℤ) (r : Reading) (p : Parsing bs r row
     pub rows_long : row_numbers s ≤ length rows
     rows_long = omega (arith, book.size, length-take (row_numbers s) rows)
 
-    pub read_short : (m : ℕ) (y : Reading) → m ≡ row_numbers s → length l < front + m → y ≡ no_reading 15 0 → Met bs l y l
+    pub read_short : (m : ℕ) (y : Refusal) → m ≡ row_numbers s → length l < front + m → y ≡ refusal 15 0 → Met bs l (Err y) l
     unfolding read_with read_answer read_into lent pick
-    read_short m y em h ey = record { answer = ey ∙ rw (read_is, lt-ltb (length l) (length (table_of s (take (row_numbers s) rows))) (omega (arith, book-long))); slice = rw (read_is, lt-ltb (length l) (length (table_of s (take (row_numbers s) rows))) (omega (arith, book-long))) }
+    read_short m y em h ey = record { answer = ap Err ey ∙ rw (read_is, lt-ltb (length l) (length (table_of s (take (row_numbers s) rows))) (omega (arith, book-long))); slice = rw (read_is, lt-ltb (length l) (length (table_of s (take (row_numbers s) rows))) (omega (arith, book-long))) }
 
-    pub read_whole : (m : ℕ) (k : List ℤ) → m ≡ row_numbers s → front + m ≤ length l → k ≡ over l (table_of s (take m rows)) → Met bs l (Accepted s) k
+    pub read_whole : (m : ℕ) (k : List ℤ) → m ≡ row_numbers s → front + m ≤ length l → k ≡ over l (table_of s (take m rows)) → Met bs l (Ok s) k
     unfolding read_with read_answer read_into lent pick
     read_whole m k em h ek =
         record {

@@ -10,6 +10,7 @@ use lib.Dec.{leb}
 use lib.IntN.{ℤ, pos, negsuc}
 use lib.ListN.{length, get_or, replicate, get_or-replicate}
 use borrow.Author.Tests.{le-leb, leb-true}
+use Rattle.std.specs.Prelude.{Ok}
 use Rattle.logic.specs.Tests.{both, either, pick, cons_if, some}
 use Rattle.logic.proofs.Decide.{clash}
 use Rattle.book.specs.declared.Shape.{Shape}
@@ -20,7 +21,6 @@ use Rattle.book.specs.Counts.{counts_of, count_at, row_numbers, total, InLimits}
 use Rattle.book.proofs.Counts.{limits-from}
 use Rattle.logic.proofs.Tests.{both_left, both_right}
 use Rattle.text.specs.declared.State.{State}
-use Rattle.text.specs.declared.Field.TheVariants.{Value}
 use Rattle.text.specs.Lines.{Numbers, between, inside, and_then, test_field, code, numbers_in, missing, miscounted, whole_of, unless, judged}
 use Rattle.text.specs.Lines.Numbers.{numbers, fault}
 use Rattle.text.specs.Lines.Line.{line}
@@ -115,7 +115,7 @@ run-book s ws w =
     (prepend-none (run (cut (layout 1 (counts_of s)) ws ++ (last_row (total s) ∷ [])) (after_b s.statements) 2) ∙ run-rows (layout 1 (counts_of s)) ws (after_b s.statements) s 2 w (b-fits s))
 
 -- ---- accepted lines
-pub in-first : (r : Range) (v : ℤ) (y : Numbers) (vs : List ℤ) → test_field (Value v) r y ≡ numbers vs → inside r v ≡ true
+pub in-first : (r : Range) (v : ℤ) (y : Numbers) (vs : List ℤ) → test_field (Ok v) r y ≡ numbers vs → inside r v ≡ true
 unfolding test_field pick
 in-first r v y vs e = go (inside r v) refl e
   where
@@ -139,7 +139,7 @@ b-numbers n [] e = absurd (let z : ◌≡◌ {A = ℕ} 0 1 = cc in omega arith)
 b-numbers n (v ∷ []) e = absurd (let z = (fields-tested (Edition ∷ Statements ∷ []) n (v ∷ []) (v ∷ []) e).1 in omega arith)
 b-numbers n (v ∷ w ∷ []) e =
     let p = edition-one n v (in-first (range_of Edition n) v _ _ e) in
-    let q = not_negative n w (in-first (range_of Statements n) w _ _ (first-numbers (Value v) (range_of Edition n) (test_field (Value w) (range_of Statements n) (numbers [])) _ e).3) in
+    let q = not_negative n w (in-first (range_of Statements n) w _ _ (first-numbers (Ok v) (range_of Edition n) (test_field (Ok w) (range_of Statements n) (numbers [])) _ e).3) in
     (to_nat w, rw (p, q.0), q.1)
 b-numbers n (v ∷ w ∷ x ∷ vs) e = absurd (let z = (fields-tested (Edition ∷ Statements ∷ []) n (v ∷ w ∷ x ∷ vs) (v ∷ w ∷ x ∷ vs) e).1 in omega arith)
 

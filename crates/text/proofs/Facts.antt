@@ -12,6 +12,7 @@ use lib.Signed.{le_z}
 use lib.ListN.{length, get_or, take, drop, replicate, length-drop, get_or-replicate}
 use lib.Seq.{drop-drop, get_or-take, get_or-drop, length-take-le}
 use borrow.Author.Tests.{eqb-true, eqb-false, leb-true}
+use Rattle.std.specs.Prelude.{Ok}
 use Rattle.logic.specs.Tests.{pick, cons_if, some}
 use Rattle.logic.proofs.Decide.{clash}
 use Rattle.logic.proofs.Tests.{both_left, both_right}
@@ -22,7 +23,6 @@ use Rattle.book.specs.declared.Content.TheVariants.{Edition, Literal, Exception}
 use Rattle.book.specs.Kinds.{kinds, kind, contents, fields_of, numbers_of, none, first, last, plain, alternative, exception, preference, conditional, entries_each, rule_numbers, alternative_numbers, preference_numbers, conditional_numbers, range_of}
 use Rattle.book.specs.Counts.{counts_of, count_at, sum_to, start_of, row_numbers, text_bytes, measured}
 use Rattle.book.proofs.Counts.{sum-next, sum-up}
-use Rattle.text.specs.declared.Field.TheVariants.{Value}
 use Rattle.text.specs.Lines.{between, inside, code, numbers_in, headless, missing}
 use Rattle.text.specs.Lines.Numbers.{numbers}
 use Rattle.text.specs.Reading.{read_text, table_of}
@@ -72,7 +72,7 @@ inside-at [] n vs us j e h = absurd (not-suc-le-zero h)
 inside-at (c ∷ cs) n [] us j e h = absurd (let z : ◌≡◌ {A = ℕ} 0 1 = cc in omega arith)
 inside-at (c ∷ cs) n (v ∷ vs) us zero e h = in-first (range_of c n) v (test_fields cs n vs) us e
 inside-at (c ∷ cs) n (v ∷ vs) us (suc j) e h =
-    let g = first-numbers (Value v) (range_of c n) (test_fields cs n vs) us e in
+    let g = first-numbers (Ok v) (range_of c n) (test_fields cs n vs) us e in
     inside-at cs n vs g.1 j g.3 (omega arith)
 
 fault-parts : (m k : ℕ) (vs : List ℤ) → k < none → row_fault m (kind k) vs ≡ 0 → (headless (kind k) vs ≡ false) × (missing m (kind k) vs ≡ false)

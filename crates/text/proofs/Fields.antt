@@ -9,8 +9,7 @@ use lib.Dec.{eqb}
 use lib.IntN.{ℤ, pos, negsuc}
 use lib.ListN.{length, drop}
 use borrow.Author.Tests.{eqb-true}
-use Rattle.text.specs.declared.Field.{Field}
-use Rattle.text.specs.declared.Field.TheVariants.{Value, Misspelt}
+use Rattle.std.specs.Prelude.{Result, Ok, Err}
 use Rattle.logic.specs.Tests.{both, either, pick}
 use Rattle.text.specs.Fields.{column_of, columns, written, digit_of, size_of, minus_in, signed, same, read_columns, spelt, first_field, misspelling, in_columns, Short}
 use Rattle.logic.proofs.Tests.{both_left, both_right, all, all-at}
@@ -31,9 +30,9 @@ abbrev is_neg : ℤ → ℕ → Bool
 is_neg (pos m) n = false
 is_neg (negsuc m) n = eqb m n
 
-abbrev is : (ℤ → Bool) → Field → Bool
-is f (Value z) = f z
-is f (Misspelt q) = false
+abbrev is : (ℤ → Bool) → Result ℤ ℕ → Bool
+is f (Ok z) = f z
+is f (Err q) = false
 
 abbrev trip_pos : ℕ → Bool
 trip_pos v = is (λ z. is_pos z v) (first_field (written (pos v)))
@@ -49,17 +48,17 @@ test-neg : all trip_neg 999 ≡ true
 unfolding first_field column_of columns in_columns written digit_of size_of minus_in signed same read_columns spelt both either pick
 test-neg = refl
 
-is_pos_lem : (x : Field) (v : ℕ) → is (λ z. is_pos z v) x ≡ true → x ≡ Value (pos v)
-is_pos_lem (Value (pos m)) v e = rw (eqb-true m v e)
-is_pos_lem (Value (negsuc m)) v e = absurd (let z : ◌≡◌ {A = ℕ} 0 1 = cc in omega arith)
-is_pos_lem (Misspelt q) v e = absurd (let z : ◌≡◌ {A = ℕ} 0 1 = cc in omega arith)
+is_pos_lem : (x : Result ℤ ℕ) (v : ℕ) → is (λ z. is_pos z v) x ≡ true → x ≡ Ok (pos v)
+is_pos_lem (Ok (pos m)) v e = rw (eqb-true m v e)
+is_pos_lem (Ok (negsuc m)) v e = absurd (let z : ◌≡◌ {A = ℕ} 0 1 = cc in omega arith)
+is_pos_lem (Err q) v e = absurd (let z : ◌≡◌ {A = ℕ} 0 1 = cc in omega arith)
 
-is-neg : (x : Field) (v : ℕ) → is (λ z. is_neg z v) x ≡ true → x ≡ Value (negsuc v)
-is-neg (Value (negsuc m)) v e = rw (eqb-true m v e)
-is-neg (Value (pos m)) v e = absurd (let z : ◌≡◌ {A = ℕ} 0 1 = cc in omega arith)
-is-neg (Misspelt q) v e = absurd (let z : ◌≡◌ {A = ℕ} 0 1 = cc in omega arith)
+is-neg : (x : Result ℤ ℕ) (v : ℕ) → is (λ z. is_neg z v) x ≡ true → x ≡ Ok (negsuc v)
+is-neg (Ok (negsuc m)) v e = rw (eqb-true m v e)
+is-neg (Ok (pos m)) v e = absurd (let z : ◌≡◌ {A = ℕ} 0 1 = cc in omega arith)
+is-neg (Err q) v e = absurd (let z : ◌≡◌ {A = ℕ} 0 1 = cc in omega arith)
 
-field-read : (v : ℤ) → Short v → first_field (written v) ≡ Value v
+field-read : (v : ℤ) → Short v → first_field (written v) ≡ Ok v
 unfolding Short
 field-read (pos m) h = is_pos_lem _ m (all-at trip_pos 10000 m test-pos h)
 field-read (negsuc m) h = is-neg _ m (all-at trip_neg 999 m test-neg h)
@@ -70,7 +69,7 @@ first_field_lem (pos m) bs = refl
 first_field_lem (negsuc m) bs = refl
 
 -- the written field reads as its number, whatever follows
-pub read-written : (v : ℤ) (bs : List ℕ) → Short v → first_field (written v ++ bs) ≡ Value v
+pub read-written : (v : ℤ) (bs : List ℕ) → Short v → first_field (written v ++ bs) ≡ Ok v
 read-written v bs h = first_field_lem v bs ∙ field-read v h
 
 pub field-length : (v : ℤ) → length (written v) ≡ 4
@@ -90,15 +89,15 @@ signed-columns false m = refl
 signed-columns true zero = refl
 signed-columns true (suc m) = refl
 
-value_of : (neg : Bool) (m : ℕ) (bs : List ℕ) (v : ℤ) → read_columns neg m bs ≡ Value v → written v ≡ bs
+value_of : (neg : Bool) (m : ℕ) (bs : List ℕ) (v : ℤ) → read_columns neg m bs ≡ Ok v → written v ≡ bs
 unfolding read_columns pick
 value_of neg m bs v e = go (same (columns neg m) bs) refl e
   where
-    go : (b : Bool) → same (columns neg m) bs ≡ b → pick b (Value (signed neg m)) (Misspelt (misspelling bs)) ≡ Value v → written v ≡ bs
+    go : (b : Bool) → same (columns neg m) bs ≡ b → pick b (Ok (signed neg m)) (Err (misspelling bs)) ≡ Ok v → written v ≡ bs
     go true p e = let q : signed neg m ≡ v = cc in rw (← q, signed-columns neg m) (same-eq (columns neg m) bs p)
     go false p e = absurd (let z : ◌≡◌ {A = ℕ} 0 1 = cc in omega arith)
 
 -- columns that read as a number are how it is written
-pub written_read : (a b c d : ℕ) (v : ℤ) → spelt a b c d ≡ Value v → written v ≡ a ∷ b ∷ c ∷ d ∷ []
+pub written_read : (a b c d : ℕ) (v : ℤ) → spelt a b c d ≡ Ok v → written v ≡ a ∷ b ∷ c ∷ d ∷ []
 unfolding spelt
 written_read a b c d v e = value_of _ _ _ v e

@@ -9,12 +9,11 @@ use lib.Dec.{eqb, ltb}
 use lib.IntN.{ℤ}
 use lib.ListN.{length, get_or, drop, length-append}
 use borrow.Author.Tests.{eqb-true, eq-eqb, ltb-true, lt-ltb}
+use Rattle.std.specs.Prelude.{Result, Ok, Err}
 use Rattle.logic.specs.Lists.{Every}
 use Rattle.logic.specs.Tests.{pick}
 use Rattle.book.specs.declared.Content.{Content}
 use Rattle.book.specs.Kinds.{kind, fields_of, bytes, none, Range, range_of}
-use Rattle.text.specs.declared.Field.{Field}
-use Rattle.text.specs.declared.Field.TheVariants.{Value, Misspelt}
 use Rattle.text.specs.declared.State.{State}
 use Rattle.text.specs.Fields.{written, written_all, first_field, Short}
 use Rattle.text.specs.Lines.{Numbers, Line, inside, and_then, test_field, read_fields, whole_of, unless, judged, read_rest, read_kind, read_line, line_of, kind_for}
@@ -54,22 +53,22 @@ fields_read (f ∷ fs) n [] s e = absurd (omega arith)
 fields_read (f ∷ fs) n (v ∷ vs) s e = rw (read-written v (written_all vs) s.0, drop-field v (written_all vs), fields_read fs n vs s.1 (omega arith))
 
 -- a first field and the rest that give numbers
-pub first-numbers : (x : Field) (r : Range) (y : Numbers) (vs : List ℤ) → test_field x r y ≡ numbers vs
-    → (v : ℤ) × (ws : List ℤ) × (x ≡ Value v) × (y ≡ numbers ws) × (vs ≡ v ∷ ws)
+pub first-numbers : (x : Result ℤ ℕ) (r : Range) (y : Numbers) (vs : List ℤ) → test_field x r y ≡ numbers vs
+    → (v : ℤ) × (ws : List ℤ) × (x ≡ Ok v) × (y ≡ numbers ws) × (vs ≡ v ∷ ws)
 unfolding test_field pick and_then
-first-numbers (Misspelt q) r y vs e = absurd (let z : ◌≡◌ {A = ℕ} 0 1 = cc in omega arith)
-first-numbers (Value v) r (fault q) vs e = go (inside r v) e
+first-numbers (Err q) r y vs e = absurd (let z : ◌≡◌ {A = ℕ} 0 1 = cc in omega arith)
+first-numbers (Ok v) r (fault q) vs e = go (inside r v) e
   where
-    go : (b : Bool) → pick b (fault q) (fault r.fault) ≡ numbers vs → (u : ℤ) × (ws : List ℤ) × (Value v ≡ Value u) × (fault q ≡ numbers ws) × (vs ≡ u ∷ ws)
+    go : (b : Bool) → pick b (fault q) (fault r.fault) ≡ numbers vs → (u : ℤ) × (ws : List ℤ) × (◌≡◌ {A = Result ℤ ℕ} (Ok v) (Ok u)) × (fault q ≡ numbers ws) × (vs ≡ u ∷ ws)
     go true e = absurd (let z : ◌≡◌ {A = ℕ} 0 1 = cc in omega arith)
     go false e = absurd (let z : ◌≡◌ {A = ℕ} 0 1 = cc in omega arith)
-first-numbers (Value v) r (numbers ws) vs e = go (inside r v) e
+first-numbers (Ok v) r (numbers ws) vs e = go (inside r v) e
   where
-    go : (b : Bool) → pick b (numbers (v ∷ ws)) (fault r.fault) ≡ numbers vs → (u : ℤ) × (us : List ℤ) × (Value v ≡ Value u) × (numbers ws ≡ numbers us) × (vs ≡ u ∷ us)
+    go : (b : Bool) → pick b (numbers (v ∷ ws)) (fault r.fault) ≡ numbers vs → (u : ℤ) × (us : List ℤ) × (◌≡◌ {A = Result ℤ ℕ} (Ok v) (Ok u)) × (numbers ws ≡ numbers us) × (vs ≡ u ∷ us)
     go true e = (v, ws, refl, refl, cc)
     go false e = absurd (let z : ◌≡◌ {A = ℕ} 0 1 = cc in omega arith)
 
-tested-join : (v u : ℤ) (vs ws us : List ℤ) → Value v ≡ Value u → ws ≡ vs → us ≡ u ∷ ws → us ≡ v ∷ vs
+tested-join : (v u : ℤ) (vs ws us : List ℤ) → ◌≡◌ {A = Result ℤ ℕ} (Ok v) (Ok u) → ws ≡ vs → us ≡ u ∷ ws → us ≡ v ∷ vs
 tested-join v u vs ws us a b c = cc
 
 -- numbers that pass are as many as the fields
@@ -79,7 +78,7 @@ fields-tested [] n [] us e = (cc, refl)
 fields-tested [] n (v ∷ vs) us e = absurd (let z : ◌≡◌ {A = ℕ} 0 1 = cc in omega arith)
 fields-tested (f ∷ fs) n [] us e = absurd (let z : ◌≡◌ {A = ℕ} 0 1 = cc in omega arith)
 fields-tested (f ∷ fs) n (v ∷ vs) us e =
-    let g = first-numbers (Value v) (range_of f n) (test_fields fs n vs) us e in
+    let g = first-numbers (Ok v) (range_of f n) (test_fields fs n vs) us e in
     let ih = fields-tested fs n vs g.1 g.3 in
     (tested-join v g.0 vs g.1 us g.2 ih.0 g.4, ap suc ih.1)
 
@@ -91,12 +90,12 @@ numbers-length (f ∷ fs) n bs vs e =
     ap length g.4 ∙ ap suc (numbers-length fs n (drop 4 bs) g.1 g.3)
 
 -- ---- writing what is read
-first-written : (bs : List ℕ) (m : ℕ) (v : ℤ) → length bs ≡ suc m * 4 → first_field bs ≡ Value v → bs ≡ written v ++ drop 4 bs
+first-written : (bs : List ℕ) (m : ℕ) (v : ℤ) → length bs ≡ suc m * 4 → first_field bs ≡ Ok v → bs ≡ written v ++ drop 4 bs
 unfolding first_field
 first-written bs m v e r = four-more bs m e ∙ ap (λ (l : List ℕ). l ++ drop 4 bs) (sym (written_read (get_or bs 0 0) (get_or bs 1 0) (get_or bs 2 0) (get_or bs 3 0) v r))
 
 join-fields : (f : Content) (fs : List Content) (n : ℕ) (bs : List ℕ) (vs : List ℤ) (v : ℤ) (ws : List ℤ)
-    → first_field bs ≡ Value v → read_fields fs n (drop 4 bs) ≡ numbers ws → vs ≡ v ∷ ws → bs ≡ written v ++ drop 4 bs → drop 4 bs ≡ written_all ws
+    → first_field bs ≡ Ok v → read_fields fs n (drop 4 bs) ≡ numbers ws → vs ≡ v ∷ ws → bs ≡ written v ++ drop 4 bs → drop 4 bs ≡ written_all ws
     → test_fields fs n ws ≡ numbers ws → test_field (first_field bs) (range_of f n) (read_fields fs n (drop 4 bs)) ≡ numbers vs
     → (bs ≡ written_all vs) × (test_fields (f ∷ fs) n vs ≡ numbers vs)
 unfolding test_fields written_all

@@ -12,6 +12,7 @@ use lib.IntN.{ℤ, pos}
 use lib.ListN.{length, get_or, take, drop, length-drop}
 use lib.Seq.{length-take-le}
 use borrow.Author.Tests.{eqb-true}
+use Rattle.std.specs.Prelude.{Ok}
 use Rattle.logic.specs.Lists.{Among}
 use Rattle.logic.specs.Tests.{either, pick, every, some}
 use Rattle.logic.proofs.Decide.{clash}
@@ -20,7 +21,6 @@ use Rattle.book.specs.declared.Content.{Content}
 use Rattle.book.specs.declared.Content.TheVariants.{Edition, Statements, Literal, Exception, Total}
 use Rattle.book.specs.Kinds.{kinds, kind, unknown, contents, numbers_of, none, first, last, front, range_of, Range}
 use Rattle.book.specs.Counts.{counts_of, row_numbers}
-use Rattle.text.specs.declared.Field.TheVariants.{Value}
 use Rattle.text.specs.Lines.{Numbers, Line, inside, and_then, test_field, headless, missing, unless, judged}
 use Rattle.text.specs.Lines.Numbers.{numbers, fault}
 use Rattle.text.specs.Lines.Line.{line, wrong}
@@ -53,7 +53,7 @@ row-sixes : all (λ (k : ℕ). either (not (kind k).row) (sixes (numbers_of (kin
 unfolding kinds kind unknown contents numbers_of either every range_of
 row-sixes = refl
 
-first-fault : (v : ℤ) (r : Range) (y : Numbers) (q : ℕ) → test_field (Value v) r y ≡ fault q → (r.fault ≡ 6) → ((p : ℕ) → y ≡ fault p → p ≡ 6) → q ≡ 6
+first-fault : (v : ℤ) (r : Range) (y : Numbers) (q : ℕ) → test_field (Ok v) r y ≡ fault q → (r.fault ≡ 6) → ((p : ℕ) → y ≡ fault p → p ≡ 6) → q ≡ 6
 unfolding test_field pick and_then
 first-fault v r y q e s ih = go (inside r v) y e ih
   where

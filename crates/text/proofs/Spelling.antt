@@ -12,11 +12,10 @@ use lib.Dec.{eqb, ltb, leb}
 use lib.IntN.{ℤ}
 use lib.ListN.{get_or}
 use borrow.Author.Tests.{eqb-true, leb-true, le-leb, ltb-true}
+use Rattle.std.specs.Prelude.{Result, Ok, Err}
 use Rattle.logic.specs.Tests.{both, either, pick, every, some}
 use Rattle.logic.proofs.Decide.{clash}
 use Rattle.logic.proofs.Tests.{both_left, both_right, either_true, agreed, all, all-at}
-use Rattle.text.specs.declared.Field.{Field}
-use Rattle.text.specs.declared.Field.TheVariants.{Value, Misspelt}
 use Rattle.text.specs.Fields.{column_of, in_columns, columns, written, digit_of, size_of, minus_in, signed, same, is_space, is_minus, is_digit, some_from, some_byte, other_byte, stray_byte, stray, space_after_digit, gapped, leading_zero, wrong_zero, misspelling, Misspells, is_stray, is_gapped, is_wrong_zero, Short, WellSpelt, read_columns, is_number, spelt, first_field}
 use Rattle.text.proofs.Fields.{same-eq, read-written, written_read}
 
@@ -259,20 +258,20 @@ module _ (a b c d : ℕ) where
 
   -- ---- reading
   -- They are refused as misspelt exactly by the refusal that they meet.
-  pub misspelt-iff : (q : ℕ) → (spelt a b c d ≡ Misspelt q) ↔ Misspells four q
+  pub misspelt-iff : (q : ℕ) → (spelt a b c d ≡ Err q) ↔ Misspells four q
   unfolding spelt read_columns pick
   misspelt-iff q = (λ e. there (is_number a b c d) refl e, λ x. rw (number_is, misspells-is four q x, misspells-some four q x))
     where
-      there : (t : Bool) → is_number a b c d ≡ t → pick t (Value number) (Misspelt (misspelling four)) ≡ Misspelt q → Misspells four q
+      there : (t : Bool) → is_number a b c d ≡ t → pick t (Ok number) (Err (misspelling four)) ≡ Err q → Misspells four q
       there true p e = absurd (let z : ◌≡◌ {A = ℕ} 0 1 = cc in omega arith)
       there false p e = let w : misspelling four ≡ q = cc in rw w at (meets four (sym number_is ∙ p))
 
   -- They are read as a number exactly where they are how it is written.
-  pub value-iff : (v : ℤ) → (spelt a b c d ≡ Value v) ↔ (Short v × (written v ≡ four))
+  pub value-iff : (v : ℤ) → (spelt a b c d ≡ Ok v) ↔ (Short v × (written v ≡ four))
   unfolding spelt read_columns pick first_field
   value-iff v = (λ e. (short (is_number a b c d) refl e, written_read a b c d v e), λ x. rw x.1 at (read-written v [] x.0))
     where
-      short : (t : Bool) → is_number a b c d ≡ t → pick t (Value number) (Misspelt (misspelling four)) ≡ Value v → Short v
+      short : (t : Bool) → is_number a b c d ≡ t → pick t (Ok number) (Err (misspelling four)) ≡ Ok v → Short v
       short true p e = let w : number ≡ v = cc in rw w at (signed-short (minus_in a b c) (size_of a b c d) (number_fits p))
       short false p e = absurd (let z : ◌≡◌ {A = ℕ} 0 1 = cc in omega arith)
 
@@ -280,9 +279,9 @@ module _ (a b c d : ℕ) where
   pub well-spelt-iff : WellSpelt four ↔ ((q : ℕ) → Misspells four q → ⊥)
   well-spelt-iff = (λ w q x. clashes w.number q ((value-iff w.number).1 (w.short, w.spelling)) ((misspelt-iff q).1 x), λ f. there (spelt a b c d) refl f)
     where
-      clashes : (v : ℤ) (q : ℕ) → spelt a b c d ≡ Value v → spelt a b c d ≡ Misspelt q → ⊥
+      clashes : (v : ℤ) (q : ℕ) → spelt a b c d ≡ Ok v → spelt a b c d ≡ Err q → ⊥
       clashes v q e f = let z : ◌≡◌ {A = ℕ} 0 1 = cc in omega arith
 
-      there : (y : Field) → spelt a b c d ≡ y → ((q : ℕ) → Misspells four q → ⊥) → WellSpelt four
-      there (Value v) e f = let x = (value-iff v).0 e in record { number = v; short = x.0; spelling = x.1 }
-      there (Misspelt q) e f = absurd (f q ((misspelt-iff q).0 e))
+      there : (y : Result ℤ ℕ) → spelt a b c d ≡ y → ((q : ℕ) → Misspells four q → ⊥) → WellSpelt four
+      there (Ok v) e f = let x = (value-iff v).0 e in record { number = v; short = x.0; spelling = x.1 }
+      there (Err q) e f = absurd (f q ((misspelt-iff q).0 e))

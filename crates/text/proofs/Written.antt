@@ -10,6 +10,7 @@ use lib.IntN.{ℤ, pos, negsuc, neg_ℤ}
 use lib.Signed.{le_z}
 use lib.ListN.{length, take, drop, length-append, length-drop, take-append-drop}
 use borrow.Author.Tests.{leb-true}
+use Rattle.std.specs.Prelude.{Ok}
 use Rattle.logic.specs.Lists.{Every}
 use Rattle.logic.specs.Tests.{pick}
 use Rattle.logic.proofs.Decide.{clash}
@@ -19,7 +20,6 @@ use Rattle.book.specs.declared.Content.TheVariants.{Edition, Statements, Literal
 use Rattle.book.specs.Kinds.{kinds, kind, numbers_of, bytes, first, last, most, longest, row_once, most_rows, range_of}
 use Rattle.book.specs.Counts.{counts_of, total, text_bytes, InLimits}
 use Rattle.book.proofs.Counts.{sum-all}
-use Rattle.text.specs.declared.Field.TheVariants.{Value}
 use Rattle.text.specs.Lines.{between, inside, line_of, unlines}
 use Rattle.text.specs.Lines.Numbers.{numbers}
 use Rattle.text.specs.Lines.Line.{line}
@@ -62,7 +62,7 @@ all_short [] n [] us h e = tt
 all_short [] n (v ∷ vs) us h e = absurd (let z : ◌≡◌ {A = ℕ} 0 1 = cc in omega arith)
 all_short (c ∷ cs) n [] us h e = tt
 all_short (c ∷ cs) n (v ∷ vs) us h e =
-    let g = first-numbers (Value v) (range_of c n) (test_fields cs n vs) us e in
+    let g = first-numbers (Ok v) (range_of c n) (test_fields cs n vs) us e in
     (content-short c n v h (in-first (range_of c n) v (test_fields cs n vs) us e), all_short cs n vs g.1 h g.3)
 
 pub small_n : (n : ℕ) → Sized n → n < 1000

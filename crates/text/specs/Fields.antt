@@ -1,10 +1,8 @@
 -- A field of 4 columns (document 01, 'A book and its lines'): "a whole number right-justified after spaces, no plus sign, no leading
 -- zero, no "-0""; and in which of three ways any other field is misspelt (document 02 (d)). Bytes are ASCII: 32 is a space, 45 a minus,
 -- 48 to 57 are the digits.
-use Rattle.std.specs.Prelude.{ℕ, zero, suc, ◌+◌, ◌-◌, ◌*◌, ◌/◌, ◌%◌, ◌^◌, ◌<◌, Bool, true, false, not, List, [], ◌∷◌, ◌++◌, ◌≡◌, eqb, ltb, leb, ℤ, pos, negsuc, neg_ℤ, get_or}
+use Rattle.std.specs.Prelude.{ℕ, zero, suc, ◌+◌, ◌-◌, ◌*◌, ◌/◌, ◌%◌, ◌^◌, ◌<◌, Bool, true, false, not, List, [], ◌∷◌, ◌++◌, ◌≡◌, eqb, ltb, leb, ℤ, pos, negsuc, neg_ℤ, get_or, Result, Ok, Err}
 use Rattle.logic.specs.Tests.{both, either, pick, every}
-use Rattle.text.specs.declared.Field.{Field}
-use Rattle.text.specs.declared.Field.TheVariants.{Value, Misspelt}
 
 -- The byte in the column worth `scale` (a power of 10) of a number of size m: from the number's first digit on, and always in the
 -- last column, a digit; directly before them a minus, if the number is negative; else a space.
@@ -120,17 +118,17 @@ pub record WellSpelt (bs : List ℕ) : Type 0 where
   pub spelling : written number ≡ bs
 
 -- Columns that are how the number of this sign and size is written have that number; all others are misspelt, by the refusal that they meet.
-unfoldable pub read_columns : Bool → ℕ → List ℕ → Field
-read_columns neg m bs = pick (same (columns neg m) bs) (Value (signed neg m)) (Misspelt (misspelling bs))
+unfoldable pub read_columns : Bool → ℕ → List ℕ → Result ℤ ℕ
+read_columns neg m bs = pick (same (columns neg m) bs) (Ok (signed neg m)) (Err (misspelling bs))
 
 -- Four columns are how the number of their sign and size is written.
 abbrev pub is_number : ℕ → ℕ → ℕ → ℕ → Bool
 is_number a b c d = same (columns (minus_in a b c) (size_of a b c d)) (a ∷ b ∷ c ∷ d ∷ [])
 
 -- What four columns are: the number that they are how to write, or misspelt.
-unfoldable pub spelt : ℕ → ℕ → ℕ → ℕ → Field
+unfoldable pub spelt : ℕ → ℕ → ℕ → ℕ → Result ℤ ℕ
 spelt a b c d = read_columns (minus_in a b c) (size_of a b c d) (a ∷ b ∷ c ∷ d ∷ [])
 
 -- The field in front of the bytes.
-unfoldable pub first_field : List ℕ → Field
+unfoldable pub first_field : List ℕ → Result ℤ ℕ
 first_field bs = spelt (get_or bs 0 0) (get_or bs 1 0) (get_or bs 2 0) (get_or bs 3 0)

@@ -1,6 +1,6 @@
 -- A line, apart from the lines around it (document 01, 'A book and its lines' and 'Turned down, by place'): its letter, its length, its
 -- fields, the line as a whole. What a kind of line is stands in a row of data (crate book, Kinds); nothing here speaks of a letter.
-use Rattle.std.specs.Prelude.{ℕ, zero, suc, ◌+◌, Bool, not, List, [], ◌∷◌, ◌++◌, eqb, ltb, leb, ℤ, pos, get_or, length, take, drop}
+use Rattle.std.specs.Prelude.{ℕ, zero, suc, ◌+◌, Bool, not, List, [], ◌∷◌, ◌++◌, eqb, ltb, leb, ℤ, pos, get_or, length, take, drop, Result, Ok, Err}
 use Rattle.std.specs.Int.Signed.{le_z}
 use Rattle.logic.specs.Tests.{both, pick, cons_if, some}
 use Rattle.book.specs.declared.Kind.{Kind}
@@ -8,8 +8,6 @@ use Rattle.book.specs.declared.Content.{Content}
 use Rattle.book.specs.declared.Content.TheVariants.{Edition, Statements, Literal, Exception, Total}
 use Rattle.book.specs.Kinds.{kinds, kind, fields_of, bytes, none, exception, Range, range_of}
 use Rattle.text.specs.declared.State.{State}
-use Rattle.text.specs.declared.Field.{Field}
-use Rattle.text.specs.declared.Field.TheVariants.{Value, Misspelt}
 use Rattle.text.specs.Fields.{first_field, written_all}
 
 -- "Each line ends with a line feed (byte 10)": the lines of a text, each without its line feed; and the text of lines.
@@ -59,9 +57,9 @@ and_then v (fault q) = fault q
 
 -- A field, its range, and what the fields after it give: its own refusal if it is misspelt, 5, 17 or 18; then the range's, 7 for the edition,
 -- else 6.
-unfoldable pub test_field : Field → Range → Numbers → Numbers
-test_field (Misspelt q) r rest = fault q
-test_field (Value v) r rest = pick (inside r v) (and_then v rest) (fault r.fault)
+unfoldable pub test_field : Result ℤ ℕ → Range → Numbers → Numbers
+test_field (Err q) r rest = fault q
+test_field (Ok v) r rest = pick (inside r v) (and_then v rest) (fault r.fault)
 
 -- The fields of these contents at the front of the bytes, in a book of n statements.
 unfoldable pub read_fields : List Content → ℕ → List ℕ → Numbers

@@ -1,13 +1,12 @@
 -- Read (document 01, 'Six operations', 1, and 'Turned down, by place'): from a text to a book's shape and rows, or a refusal with its line.
-use Rattle.std.specs.Prelude.{ℕ, suc, List, [], ◌∷◌, ◌++◌, map, eqb, ltb, ℤ, pos, negsuc, get_or, length, replicate, drop, set}
+use Rattle.std.specs.Prelude.{ℕ, suc, List, [], ◌∷◌, ◌++◌, map, eqb, ltb, ℤ, pos, negsuc, get_or, length, replicate, drop, set, Result, Ok, Err}
 use Rattle.logic.specs.Tests.{pick}
 use Rattle.book.specs.declared.Shape.{Shape}
 use Rattle.book.specs.declared.Content.TheVariants.{Statements}
 use Rattle.book.specs.Kinds.{kind, fields_of, none, longest}
 use Rattle.book.specs.Counts.{front_of, shape_from}
 use Rattle.text.specs.declared.State.{State}
-use Rattle.text.specs.declared.Reading.{Reading}
-use Rattle.text.specs.declared.Reading.TheVariants.{Accepted, Refused}
+use Rattle.text.specs.declared.Refusal.{Refusal}
 use Rattle.text.specs.Lines.{Line, lines, numbers_in, read_line}
 use Rattle.text.specs.Lines.Line.{line, wrong}
 
@@ -125,10 +124,14 @@ lent l (refused q at) = refused q at
 unfoldable pub read_with : List ℤ → List ℕ → Outcome
 read_with l bs = lent l (read_text bs)
 
+-- A refusal of this number, tied to this line.
+abbrev pub refusal : ℕ → ℕ → Refusal
+refusal q at = record { number = q; line = at }
+
 -- What Read answers: the numbers before the table's rows, or the refusal's number and line.
-unfoldable pub read_answer : Outcome → Reading
-read_answer (accepted s ws) = Accepted s
-read_answer (refused q at) = Refused (record { number = q; line = at })
+unfoldable pub read_answer : Outcome → Result Shape Refusal
+read_answer (accepted s ws) = Ok s
+read_answer (refused q at) = Err (refusal q at)
 
 -- What Read leaves in the lent slice: the number table in front and "the rest of the slice is unchanged"; all of it after a refusal.
 unfoldable pub read_into : List ℤ → Outcome → List ℤ

@@ -1,5 +1,5 @@
 -- The number table (document 01, 'A book and its lines'): its rows, and its refusals ('Turned down, by place', number table).
-use Rattle.std.specs.Prelude.{ℕ, suc, ◌+◌, Bool, not, List, [], ◌∷◌, ◌++◌, map, eqb, ltb, ℤ, pos, get_or, length, replicate, take, drop}
+use Rattle.std.specs.Prelude.{ℕ, suc, ◌+◌, Bool, not, List, [], ◌∷◌, ◌++◌, map, eqb, ltb, ℤ, pos, get_or, length, replicate, take, drop, Ok}
 use Rattle.logic.specs.Tests.{pick, both, some}
 use Rattle.book.specs.declared.Kind.{Kind}
 use Rattle.book.specs.declared.Shape.{Shape}
@@ -7,7 +7,6 @@ use Rattle.book.specs.declared.Content.{Content}
 use Rattle.book.specs.declared.Content.TheVariants.{Statements}
 use Rattle.book.specs.Kinds.{kinds, kind, numbers_of, front, range_of}
 use Rattle.book.specs.Counts.{counts_of, shape_from, row_numbers}
-use Rattle.text.specs.declared.Field.TheVariants.{Value}
 use Rattle.text.specs.Lines.{Numbers, Line, test_field, between, inside, headless, missing, judged}
 use Rattle.text.specs.Lines.Numbers.{numbers, fault}
 use Rattle.text.specs.Reading.{Outcome, on_line, to_nat}
@@ -39,7 +38,7 @@ unfoldable pub test_fields : List Content → ℕ → List ℤ → Numbers
 test_fields [] n [] = numbers []
 test_fields [] n (v ∷ vs) = fault 4
 test_fields (c ∷ cs) n [] = fault 4
-test_fields (c ∷ cs) n (v ∷ vs) = test_field (Value v) (range_of c n) (test_fields cs n vs)
+test_fields (c ∷ cs) n (v ∷ vs) = test_field (Ok v) (range_of c n) (test_fields cs n vs)
 
 -- The refusal of a row as a whole in a book of m exceptions: its kind's own, 9 or 23, then 10; 0 if none.
 unfoldable pub row_fault : ℕ → Kind → List ℤ → ℕ

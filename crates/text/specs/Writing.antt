@@ -1,13 +1,12 @@
 -- Write (document 01, 'Six operations', 6): from a number table to its text, "the inverse of Read".
-use Rattle.std.specs.Prelude.{ℕ, List, [], ◌∷◌, ◌++◌, ltb, ℤ, pos, length}
+use Rattle.std.specs.Prelude.{ℕ, List, [], ◌∷◌, ◌++◌, ltb, ℤ, pos, length, Result, Ok, Err}
 use Rattle.logic.specs.Tests.{pick}
 use Rattle.book.specs.declared.Shape.{Shape}
 use Rattle.book.specs.Kinds.{first, last}
 use Rattle.book.specs.Counts.{total}
-use Rattle.text.specs.declared.Writing.{Writing}
-use Rattle.text.specs.declared.Writing.TheVariants.{Written, Refused}
+use Rattle.text.specs.declared.Refusal.{Refusal}
 use Rattle.text.specs.Lines.{line_of, unlines}
-use Rattle.text.specs.Reading.{Outcome, over}
+use Rattle.text.specs.Reading.{Outcome, over, refusal}
 use Rattle.text.specs.Reading.Outcome.{accepted, refused}
 use Rattle.text.specs.Tables.{Row, rows_of, test_table}
 
@@ -48,9 +47,9 @@ unfoldable pub write_with : List ℕ → List ℤ → Text
 write_with l t = lent_bytes l (test_table t)
 
 -- What Write answers: the text's length, or the refusal's number and line.
-unfoldable pub write_answer : Text → Writing
-write_answer (text bs) = Written (length bs)
-write_answer (no_text q at) = Refused (record { number = q; line = at })
+unfoldable pub write_answer : Text → Result ℕ Refusal
+write_answer (text bs) = Ok (length bs)
+write_answer (no_text q at) = Err (refusal q at)
 
 -- What Write leaves in the lent slice: the text in front and "bytes past the text are unchanged"; all of it after a refusal.
 unfoldable pub write_into : List ℕ → Text → List ℕ

@@ -1,14 +1,11 @@
-// The text of a book and its number table: what is known between lines, and what Read and Write answer.
+// The text of a book and its number table: what is known between lines, and a refusal. Read answers the shape, the numbers before a table's
+// rows, Write the text's length, each in a Result with a refusal.
 #![tactic(auto)]
 
-use book::{Book, Shape};
+ghost use Rattle.std.specs.Prelude.{◌≡◌};
+ghost use Rattle.text.specs.Reading.{refusal};
 
-// What four columns are: a number, or misspelt, with the number of the refusal.
-#[derive(Clone, Copy)]
-pub enum Field {
-    Value(i32),
-    Misspelt(u32),
-}
+use book::Book;
 
 // What is known before a line: the place of the first kind that may come, the statements, how many lines of each kind
 // have come, and how many of these are rows of the number table.
@@ -21,22 +18,16 @@ pub struct State {
 }
 
 // A refusal: its number, and the line that it is tied to, else 0.
-#[derive(Clone, Copy)]
+#[derive(Clone, Copy, Debug, PartialEq, Eq)]
 pub struct Refusal {
     pub number: u32,
     pub line: usize,
 }
 
-// What Read answers: the numbers before the table's rows, or the refusal.
-#[derive(Clone, Copy)]
-pub enum Reading {
-    Accepted(Shape),
-    Refused(Refusal),
-}
-
-// What Write answers: the text's length, or the refusal.
-#[derive(Clone, Copy)]
-pub enum Writing {
-    Written(usize),
-    Refused(Refusal),
+impl Refusal {
+    pub fn new(number: u32, line: usize) -> Self
+        ensures { result ≡ refusal number line }
+    {
+        Self { number, line }
+    }
 }

@@ -11,6 +11,7 @@ use lib.IntN.{ℤ, pos}
 use lib.Signed.{mag, le_z}
 use lib.ListN.{get_or, drop, take, length, drop_of_length-le, length-drop}
 use lib.Seq.{drop-cons, take-take, length-take-le}
+use Rattle.std.specs.Prelude.{Result, Ok, Err, ⊤}
 use Rattle.logic.specs.Tests.{either, pick, some}
 use Rattle.book.specs.declared.Kind.{Kind}
 use Rattle.book.specs.declared.Content.{Content}
@@ -21,13 +22,9 @@ use Rattle.text.specs.Lines.Numbers.{numbers, fault}
 use Rattle.text.specs.Lines.Line.{line}
 use Rattle.text.specs.Tables.{test_fields, row_fault}
 use Rattle.text.proofs.KindFacts.{numbers-wide, numbers-fields, numbers-same, heads-in, contents-in, unfilled-some}
-use Rattle.fields.specs.declared.Checked.{Checked}
-use Rattle.fields.specs.declared.Checked.TheVariants.{Fine, Refused}
 use Rattle.fields.specs.declared.Seen.{Seen}
 use Rattle.fields.specs.Checks.{number_is, see_of, see_all}
 use Rattle.fields.proofs.Columns.{back, back-same}
-use Rattle.read.specs.declared.Fields.{Fields}
-use Rattle.read.specs.declared.Fields.TheVariants.{Right, Wrong}
 use Rattle.read.specs.Storing.{none_seen}
 use Rattle.read.proofs.LineLaws.{seen-missing}
 use Rattle.write.specs.Testing.{test_seen, line_is, row_is}
@@ -43,36 +40,36 @@ module _ (t : List ℤ) (from : ℕ) (cs : List Content) (n m : ℕ) where
   rest-start s e = rw (add-zero from, e)
 
   module _ (i : ℕ) (s : Seen) (h : i < length cs) (g : from + i < length t) (inv : Rest i s) (c : Content) (ec : c ≡ get_or cs i Edition) (v : ℤ) (ev : v ≡ get_or t (from + i) (pos 0)) (b : mag v < 2147483648)
-      (y : Checked) (ey : y ≡ number_is (range_of c n) (back v)) where
-    opened : pick (inside (range_of c n) v) (test_seen n m (drop (suc i) cs) (see_of s c m 0 v) (drop (suc (from + i)) t)) (Wrong (range_of c n).fault) ≡ test_seen n m cs (none_seen n) (drop from t)
+      (y : Result ⊤ ℕ) (ey : y ≡ number_is (range_of c n) (back v)) where
+    opened : pick (inside (range_of c n) v) (test_seen n m (drop (suc i) cs) (see_of s c m 0 v) (drop (suc (from + i)) t)) (Err (range_of c n).fault) ≡ test_seen n m cs (none_seen n) (drop from t)
     unfolding Rest test_seen
     opened = rw (ec, ev) (rw (drop-cons cs i Edition h, drop-cons t (from + i) (pos 0) g) at inv)
 
     checked-is : y ≡ number_is (range_of c n) v
     checked-is = ey ∙ ap (number_is (range_of c n)) (back-same v b)
 
-    pub rest-wrong : (q : ℕ) → y ≡ Refused q → Wrong q ≡ test_seen n m cs (none_seen n) (drop from t)
+    pub rest-wrong : (q : ℕ) → y ≡ Err q → Err q ≡ test_seen n m cs (none_seen n) (drop from t)
     unfolding number_is pick
     rest-wrong q e = go (inside (range_of c n) v) (sym checked-is ∙ e) opened
       where
-        go : (b : Bool) → pick b Fine (Refused (range_of c n).fault) ≡ Refused q
-            → pick b (test_seen n m (drop (suc i) cs) (see_of s c m 0 v) (drop (suc (from + i)) t)) (Wrong (range_of c n).fault) ≡ test_seen n m cs (none_seen n) (drop from t) → Wrong q ≡ test_seen n m cs (none_seen n) (drop from t)
+        go : (b : Bool) → pick b (Ok (tt {0})) (Err (range_of c n).fault) ≡ Err q
+            → pick b (test_seen n m (drop (suc i) cs) (see_of s c m 0 v) (drop (suc (from + i)) t)) (Err (range_of c n).fault) ≡ test_seen n m cs (none_seen n) (drop from t) → Err q ≡ test_seen n m cs (none_seen n) (drop from t)
         go true p r = absurd (let z : ◌≡◌ {A = ℕ} 0 1 = cc in omega arith)
         go false p r = let w : (range_of c n).fault ≡ q = cc in rw (← w) r
 
-    pub rest-next : (r : Seen) → y ≡ Fine → r ≡ see_of s c m 0 (back v) → Rest (i + 1) r
+    pub rest-next : (r : Seen) → y ≡ Ok tt → r ≡ see_of s c m 0 (back v) → Rest (i + 1) r
     unfolding Rest number_is pick
     rest-next r e f =
         let j : from + (i + 1) ≡ suc (from + i) = omega arith in
         rw (j, add-one i, f, back-same v b) (go (inside (range_of c n) v) (sym checked-is ∙ e) opened)
       where
-        go : (b : Bool) → pick b Fine (Refused (range_of c n).fault) ≡ Fine
-            → pick b (test_seen n m (drop (suc i) cs) (see_of s c m 0 v) (drop (suc (from + i)) t)) (Wrong (range_of c n).fault) ≡ test_seen n m cs (none_seen n) (drop from t)
+        go : (b : Bool) → pick b (Ok (tt {0})) (Err (range_of c n).fault) ≡ Ok (tt {0})
+            → pick b (test_seen n m (drop (suc i) cs) (see_of s c m 0 v) (drop (suc (from + i)) t)) (Err (range_of c n).fault) ≡ test_seen n m cs (none_seen n) (drop from t)
             → test_seen n m (drop (suc i) cs) (see_of s c m 0 v) (drop (suc (from + i)) t) ≡ test_seen n m cs (none_seen n) (drop from t)
         go true p r = r
         go false p r = absurd (let z : ◌≡◌ {A = ℕ} 0 1 = cc in omega arith)
 
-  pub rest_end : (i : ℕ) (s : Seen) → length cs ≤ i → Rest i s → Right s ≡ test_seen n m cs (none_seen n) (drop from t)
+  pub rest_end : (i : ℕ) (s : Seen) → length cs ≤ i → Rest i s → Ok s ≡ test_seen n m cs (none_seen n) (drop from t)
   unfolding Rest test_seen
   rest_end i s h inv = rw (drop_of_length-le cs {i = i} h) at inv
 
@@ -92,25 +89,25 @@ and-numbers : (v : ℤ) (vs : List ℤ) → and_then v (numbers vs) ≡ numbers 
 unfolding and_then
 and-numbers v vs = refl
 
-seen-wrong : (n m : ℕ) (cs : List Content) (s : Seen) (vs : List ℤ) (q : ℕ) → length vs ≡ length cs → Wrong q ≡ test_seen n m cs s vs → test_fields cs n vs ≡ fault q
+seen-wrong : (n m : ℕ) (cs : List Content) (s : Seen) (vs : List ℤ) (q : ℕ) → length vs ≡ length cs → Err q ≡ test_seen n m cs s vs → test_fields cs n vs ≡ fault q
 unfolding test_seen test_fields test_field pick
 seen-wrong n m [] s vs q l e = absurd (let z : ◌≡◌ {A = ℕ} 0 1 = cc in omega arith)
 seen-wrong n m (c ∷ cs) s [] q l e = absurd (omega arith)
 seen-wrong n m (c ∷ cs) s (v ∷ vs) q l e = go (inside (range_of c n) v) e (λ f. seen-wrong n m cs (see_of s c m 0 v) vs q (omega arith) f)
   where
-    go : (b : Bool) → Wrong q ≡ pick b (test_seen n m cs (see_of s c m 0 v) vs) (Wrong (range_of c n).fault) → (Wrong q ≡ test_seen n m cs (see_of s c m 0 v) vs → test_fields cs n vs ≡ fault q)
+    go : (b : Bool) → Err q ≡ pick b (test_seen n m cs (see_of s c m 0 v) vs) (Err (range_of c n).fault) → (Err q ≡ test_seen n m cs (see_of s c m 0 v) vs → test_fields cs n vs ≡ fault q)
         → pick b (and_then v (test_fields cs n vs)) (fault (range_of c n).fault) ≡ fault q
     go true p ih = rw (ih p) (and-fault v q)
     go false p ih = let w : (range_of c n).fault ≡ q = cc in rw w
 
-seen-right : (n m : ℕ) (cs : List Content) (s : Seen) (vs : List ℤ) (r : Seen) → length vs ≡ length cs → Right r ≡ test_seen n m cs s vs → (test_fields cs n vs ≡ numbers vs) × (r ≡ see_all s cs m 0 vs)
+seen-right : (n m : ℕ) (cs : List Content) (s : Seen) (vs : List ℤ) (r : Seen) → length vs ≡ length cs → Ok r ≡ test_seen n m cs s vs → (test_fields cs n vs ≡ numbers vs) × (r ≡ see_all s cs m 0 vs)
 unfolding test_seen test_fields test_field pick see_all
 seen-right n m [] s [] r l e = (refl, cc)
 seen-right n m [] s (v ∷ vs) r l e = absurd (omega arith)
 seen-right n m (c ∷ cs) s [] r l e = absurd (omega arith)
 seen-right n m (c ∷ cs) s (v ∷ vs) r l e = go (inside (range_of c n) v) e (λ f. seen-right n m cs (see_of s c m 0 v) vs r (omega arith) f)
   where
-    go : (b : Bool) → Right r ≡ pick b (test_seen n m cs (see_of s c m 0 v) vs) (Wrong (range_of c n).fault) → (Right r ≡ test_seen n m cs (see_of s c m 0 v) vs → (test_fields cs n vs ≡ numbers vs) × (r ≡ see_all (see_of s c m 0 v) cs m 0 vs))
+    go : (b : Bool) → Ok r ≡ pick b (test_seen n m cs (see_of s c m 0 v) vs) (Err (range_of c n).fault) → (Ok r ≡ test_seen n m cs (see_of s c m 0 v) vs → (test_fields cs n vs ≡ numbers vs) × (r ≡ see_all (see_of s c m 0 v) cs m 0 vs))
         → (pick b (and_then v (test_fields cs n vs)) (fault (range_of c n).fault) ≡ numbers (v ∷ vs)) × (r ≡ see_all (see_of s c m 0 v) cs m 0 vs)
     go true p ih = let x = ih p in (rw x.0 (and-numbers v vs), x.1)
     go false p ih = absurd (let z : ◌≡◌ {A = ℕ} 0 1 = cc in omega arith)
@@ -124,7 +121,7 @@ not_yet n b = refl
 abbrev row_at : List ℤ → ℕ → ℕ → List ℤ
 row_at t from k = take (kind k).numbers (drop from t)
 
-module _ (t : List ℤ) (from k n m : ℕ) (x : Kind) (ex : x ≡ kind k) (low : first < k) (high : k < last) (g : from + (kind k).numbers ≤ length t) (f : Fields) (ef : f ≡ test_seen n m (numbers_of x) (none_seen n) (drop from t)) where
+module _ (t : List ℤ) (from k n m : ℕ) (x : Kind) (ex : x ≡ kind k) (low : first < k) (high : k < last) (g : from + (kind k).numbers ≤ length t) (f : Result Seen ℕ) (ef : f ≡ test_seen n m (numbers_of x) (none_seen n) (drop from t)) where
   wide : length (numbers_of (kind k)) ≡ (kind k).numbers
   wide = numbers-wide k low high
 
@@ -134,11 +131,11 @@ module _ (t : List ℤ) (from k n m : ℕ) (x : Kind) (ex : x ≡ kind k) (low :
   seen-is : f ≡ test_seen n m (numbers_of (kind k)) (none_seen n) (row_at t from k)
   seen-is = ef ∙ (ap (λ (y : Kind). test_seen n m (numbers_of y) (none_seen n) (drop from t)) ex ∙ (sym (seen-take n m (numbers_of (kind k)) (none_seen n) (drop from t)) ∙ ap (λ (w : ℕ). test_seen n m (numbers_of (kind k)) (none_seen n) (take w (drop from t))) wide))
 
-  pub row-wrong : (q : ℕ) → f ≡ Wrong q → Refused q ≡ row_is n m k (take (kind k).numbers (drop from t))
+  pub row-wrong : (q : ℕ) → f ≡ Err q → Err q ≡ row_is n m k (take (kind k).numbers (drop from t))
   unfolding row_is judged line_is
   row-wrong q e = rw (seen-wrong n m (numbers_of (kind k)) (none_seen n) (row_at t from k) q row-long (sym e ∙ seen-is))
 
-  module _ (s : Seen) (e : f ≡ Right s) (r : Bool) (er : r ≡ headless x (drop from t)) where
+  module _ (s : Seen) (e : f ≡ Ok s) (r : Bool) (er : r ≡ headless x (drop from t)) where
     passed : (test_fields (numbers_of (kind k)) n (row_at t from k) ≡ numbers (row_at t from k)) × (s ≡ see_all (none_seen n) (numbers_of (kind k)) m 0 (row_at t from k))
     passed = seen-right n m (numbers_of (kind k)) (none_seen n) (row_at t from k) s row-long (sym e ∙ seen-is)
 
@@ -160,20 +157,20 @@ module _ (t : List ℤ) (from k n m : ℕ) (x : Kind) (ex : x ≡ kind k) (low :
     unfolding row_is judged row_fault
     fault-is = rw (passed.0, headless-is, missing-is)
 
-    some-refusal : (q : ℕ) → 0 < q → Refused q ≡ line_is (unless q (line k (row_at t from k)))
+    some-refusal : (q : ℕ) → 0 < q → Err q ≡ line_is (unless q (line k (row_at t from k)))
     unfolding unless line_is
     some-refusal zero h = absurd (omega arith)
     some-refusal (suc q) h = refl
 
-    pub row-headless : r ≡ true → Refused x.unfilled ≡ row_is n m k (take (kind k).numbers (drop from t))
+    pub row-headless : r ≡ true → Err x.unfilled ≡ row_is n m k (take (kind k).numbers (drop from t))
     unfolding pick
     row-headless g = rw ex (some-refusal (kind k).unfilled (unfilled-some k (omega arith)) ∙ sym (fault-is ∙ rw g))
 
-    pub row-missing : r ≡ false → s.missing ≡ true → Refused 10 ≡ row_is n m k (take (kind k).numbers (drop from t))
+    pub row-missing : r ≡ false → s.missing ≡ true → Err 10 ≡ row_is n m k (take (kind k).numbers (drop from t))
     unfolding pick unless line_is
     row-missing g i = sym (fault-is ∙ rw (g, i))
 
-    pub row_fine : r ≡ false → s.missing ≡ false → Fine ≡ row_is n m k (take (kind k).numbers (drop from t))
+    pub row_fine : r ≡ false → s.missing ≡ false → Ok tt ≡ row_is n m k (take (kind k).numbers (drop from t))
     unfolding pick unless line_is
     row_fine g i = sym (fault-is ∙ rw (g, i))
 

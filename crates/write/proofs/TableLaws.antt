@@ -16,6 +16,7 @@ use mir.Syntax.{w32}
 use mir.Val.{SFits}
 use mir.Facts.{to_z-of_z}
 use borrow.Author.Tests.{lt-ltb, le-ltb, eqb-true, eqb-false, eq-eqb, ne_eqb, ltb-true}
+use Rattle.std.specs.Prelude.{Result, Ok, Err, ⊤}
 use Rattle.logic.specs.Tests.{both, pick, some}
 use Rattle.book.specs.declared.Measure.TheVariants.{Numbers}
 use Rattle.book.specs.declared.Kind.{Kind}
@@ -25,24 +26,17 @@ use Rattle.book.specs.Kinds.{kinds, kind, unknown, none, first, last, front, ran
 use Rattle.book.specs.Counts.{counts_of, count_at, shape_from, sum_to, start_of, row_numbers, InLimits, measured}
 use Rattle.book.proofs.Counts.{many, sum-next, sum-up, sum-all, measured-most}
 use Rattle.text.specs.declared.Refusal.{Refusal}
-use Rattle.text.specs.declared.Reading.{Reading}
-use Rattle.text.specs.declared.Reading.TheVariants.{Accepted, Refused}
 use Rattle.text.specs.Lines.{Line, between, inside}
 use Rattle.text.specs.Lines.Line.{line, wrong}
-use Rattle.text.specs.Reading.{Outcome, to_nat, prepend, row_of, on_line, read_answer}
+use Rattle.text.specs.Reading.{Outcome, to_nat, prepend, row_of, on_line, read_answer, refusal}
 use Rattle.text.specs.Reading.Outcome.{accepted, refused}
 use Rattle.text.specs.Tables.{layout, cut, rows_of, test_row, test_rows, shape_in, miscount, test_table}
 use Rattle.logic.proofs.Tests.{all-at}
 use Rattle.text.proofs.KindFacts.{limit-small}
 use Rattle.text.proofs.Layouts.{row_counts, counts-long}
 use Rattle.text.proofs.Inverse.{shape-limits}
-use Rattle.fields.specs.declared.Checked.{Checked}
-use Rattle.fields.specs.declared.Checked.TheVariants.{Fine, Refused as Faulty}
 use Rattle.fields.specs.Checks.{number_is}
 use Rattle.fields.proofs.Columns.{back, back-same, lt-le, ge-le}
-use Rattle.read.specs.Storing.{no_reading}
-use Rattle.write.specs.declared.Tested.{Tested}
-use Rattle.write.specs.declared.Tested.TheVariants.{Passed, Failed}
 use Rattle.write.specs.Testing.{line_is, row_is, on_tested}
 
 -- ---- n and the counts
@@ -88,23 +82,23 @@ unfolding some
 some_end f k h inv = rw (drop_of_length-le kinds {i = k} (rw many h)) at inv
 
 -- n in its range, or the refusal by 6.
-module _ (t : List ℤ) (v : ℤ) (ev : v ≡ get_or t 0 (pos 0)) (b : mag v < 2147483648) (y : Checked) (e : y ≡ number_is (range_of Statements 0) (back v)) where
+module _ (t : List ℤ) (v : ℤ) (ev : v ≡ get_or t 0 (pos 0)) (b : mag v < 2147483648) (y : Result ⊤ ℕ) (e : y ≡ number_is (range_of Statements 0) (back v)) where
   number_is_lem : y ≡ number_is (range_of Statements 0) (get_or t 0 (pos 0))
   number_is_lem = e ∙ ap (number_is (range_of Statements 0)) (back-same v b ∙ ev)
 
-  pub statements-in : y ≡ Fine → inside (range_of Statements 0) (get_or t 0 (pos 0)) ≡ true
+  pub statements-in : y ≡ Ok tt → inside (range_of Statements 0) (get_or t 0 (pos 0)) ≡ true
   unfolding number_is pick
   statements-in g = go (inside (range_of Statements 0) (get_or t 0 (pos 0))) (sym g ∙ number_is_lem)
     where
-      go : (b : Bool) → Fine ≡ pick b Fine (Faulty (range_of Statements 0).fault) → b ≡ true
+      go : (b : Bool) → Ok (tt {0}) ≡ pick b (Ok (tt {0})) (Err (range_of Statements 0).fault) → b ≡ true
       go true p = refl
       go false p = absurd (let z : ◌≡◌ {A = ℕ} 0 1 = cc in omega arith)
 
-  pub statements-out : (q : ℕ) → y ≡ Faulty q → (inside (range_of Statements 0) (get_or t 0 (pos 0)) ≡ false) × (q ≡ 6)
+  pub statements-out : (q : ℕ) → y ≡ Err q → (inside (range_of Statements 0) (get_or t 0 (pos 0)) ≡ false) × (q ≡ 6)
   unfolding number_is pick range_of
   statements-out q g = go (inside (range_of Statements 0) (get_or t 0 (pos 0))) (sym g ∙ number_is_lem)
     where
-      go : (b : Bool) → Faulty q ≡ pick b Fine (Faulty 6) → (b ≡ false) × (q ≡ 6)
+      go : (b : Bool) → Err q ≡ pick b (Ok (tt {0})) (Err 6) → (b ≡ false) × (q ≡ 6)
       go true p = absurd (let z : ◌≡◌ {A = ℕ} 0 1 = cc in omega arith)
       go false p = (refl, cc)
 
@@ -147,12 +141,12 @@ answer-prepend vs (accepted s ws) = refl
 answer-prepend vs (refused q l) = refl
 
 -- A row that is fine leaves the answer to the rows after it; a row that is not gives it.
-row_fine : (l : Line) (at : ℕ) (o : Outcome) → Fine ≡ line_is l → read_answer (on_line l at (λ k vs. o)) ≡ read_answer o
+row_fine : (l : Line) (at : ℕ) (o : Outcome) → Ok tt ≡ line_is l → read_answer (on_line l at (λ k vs. o)) ≡ read_answer o
 unfolding line_is on_line
 row_fine (line k vs) at o e = answer-prepend (row_of k vs) o
 row_fine (wrong q) at o e = absurd (let z : ◌≡◌ {A = ℕ} 0 1 = cc in omega arith)
 
-row-faulty : (l : Line) (at : ℕ) (o : Outcome) (q : ℕ) → Faulty q ≡ line_is l → read_answer (on_line l at (λ k vs. o)) ≡ no_reading q at
+row-faulty : (l : Line) (at : ℕ) (o : Outcome) (q : ℕ) → Err q ≡ line_is l → read_answer (on_line l at (λ k vs. o)) ≡ Err (refusal q at)
 unfolding line_is on_line read_answer
 row-faulty (line k vs) at o q e = absurd (let z : ◌≡◌ {A = ℕ} 0 1 = cc in omega arith)
 row-faulty (wrong p) at o q e = let w : p ≡ q = cc in rw w
@@ -164,17 +158,17 @@ less c i h = omega arith
 pub less-width : (c i w : ℕ) → i < c → (c - i) * w ≡ w + (c - (i + 1)) * w
 less-width c i w h = rw (less c i h, suc-mul) (omega arith)
 
-module _ (s : Shape) (k : ℕ) (t : List ℤ) (ks : List ℕ) (at : ℕ) (lno c i : ℕ) (h : i < c) (y : Checked) (ey : y ≡ row_is s.statements s.exceptions k (take (kind k).numbers (drop at t))) where
+module _ (s : Shape) (k : ℕ) (t : List ℤ) (ks : List ℕ) (at : ℕ) (lno c i : ℕ) (h : i < c) (y : Result ⊤ ℕ) (ey : y ≡ row_is s.statements s.exceptions k (take (kind k).numbers (drop at t))) where
   opened : test_rows s (cut (replicate (c - i) k ++ ks) (drop at t)) lno
       ≡ on_line (test_row s (record { place = k; nums = take (kind k).numbers (drop at t) })) lno (λ j vs. test_rows s (cut (replicate (c - (i + 1)) k ++ ks) (drop (at + (kind k).numbers) t)) (suc lno))
   unfolding test_rows cut
   opened = rw (less c i h, drop-drop (kind k).numbers at t)
 
-  pub kind-fine : y ≡ Fine → read_answer (test_rows s (cut (replicate (c - i) k ++ ks) (drop at t)) lno) ≡ read_answer (test_rows s (cut (replicate (c - (i + 1)) k ++ ks) (drop (at + (kind k).numbers) t)) (suc lno))
+  pub kind-fine : y ≡ Ok tt → read_answer (test_rows s (cut (replicate (c - i) k ++ ks) (drop at t)) lno) ≡ read_answer (test_rows s (cut (replicate (c - (i + 1)) k ++ ks) (drop (at + (kind k).numbers) t)) (suc lno))
   unfolding row_is test_row
   kind-fine e = rw opened (row_fine _ lno _ (sym e ∙ ey))
 
-  pub kind-faulty : (q : ℕ) → y ≡ Faulty q → read_answer (test_rows s (cut (replicate (c - i) k ++ ks) (drop at t)) lno) ≡ no_reading q lno
+  pub kind-faulty : (q : ℕ) → y ≡ Err q → read_answer (test_rows s (cut (replicate (c - i) k ++ ks) (drop at t)) lno) ≡ Err (refusal q lno)
   unfolding row_is test_row
   kind-faulty q e = rw opened (row-faulty _ lno _ q (sym e ∙ ey))
 
@@ -188,23 +182,23 @@ module _ (k : ℕ) (t : List ℤ) (from c lno n m : ℕ) where
   unfolding Rest
   rest-start s a b ks = let e : c - 0 ≡ c = omega arith in rw (e, add-zero lno)
 
-  row_in : (s : Shape) (vs : List ℤ) (y : Checked) → s.statements ≡ n → s.exceptions ≡ m → y ≡ row_is n m k vs → y ≡ row_is s.statements s.exceptions k vs
+  row_in : (s : Shape) (vs : List ℤ) (y : Result ⊤ ℕ) → s.statements ≡ n → s.exceptions ≡ m → y ≡ row_is n m k vs → y ≡ row_is s.statements s.exceptions k vs
   row_in s vs y a b e = e ∙ (ap (λ (j : ℕ). row_is j m k vs) (sym a) ∙ ap (λ (j : ℕ). row_is s.statements j k vs) (sym b))
 
-  module _ (at i : ℕ) (h : i < c) (inv : Rest at i) (y : Checked) (ey : y ≡ row_is n m k (take (kind k).numbers (drop at t))) where
-    pub rest-next : (w : ℕ) → w ≡ (kind k).numbers → y ≡ Fine → Rest (at + w) (i + 1)
+  module _ (at i : ℕ) (h : i < c) (inv : Rest at i) (y : Result ⊤ ℕ) (ey : y ≡ row_is n m k (take (kind k).numbers (drop at t))) where
+    pub rest-next : (w : ℕ) → w ≡ (kind k).numbers → y ≡ Ok tt → Rest (at + w) (i + 1)
     unfolding Rest
     rest-next w ew e s a b ks =
         let j : lno + (i + 1) ≡ suc (lno + i) = omega arith in
         inv s a b ks ∙ rw (j, ew) (kind-fine s k t ks at (lno + i) c i h y (row_in s _ y a b ey) e)
 
-    pub rest-failed : (s : Shape) → s.statements ≡ n → s.exceptions ≡ m → (q : ℕ) → y ≡ Faulty q → (ks : List ℕ)
-        → read_answer (test_rows s (cut (replicate c k ++ ks) (drop from t)) lno) ≡ on_tested (Failed (record { number = q; line = lno + i })) (read_answer (test_rows s (cut ks (drop (from + c * (kind k).numbers) t)) (lno + c)))
+    pub rest-failed : (s : Shape) → s.statements ≡ n → s.exceptions ≡ m → (q : ℕ) (x : Refusal) → y ≡ Err q → x ≡ refusal q (lno + i) → (ks : List ℕ)
+        → read_answer (test_rows s (cut (replicate c k ++ ks) (drop from t)) lno) ≡ on_tested (Err x) (read_answer (test_rows s (cut ks (drop (from + c * (kind k).numbers) t)) (lno + c)))
     unfolding Rest on_tested
-    rest-failed s a b q e ks = inv s a b ks ∙ kind-faulty s k t ks at (lno + i) c i h y (row_in s _ y a b ey) q e
+    rest-failed s a b q x e f ks = inv s a b ks ∙ kind-faulty s k t ks at (lno + i) c i h y (row_in s _ y a b ey) q e ∙ ap Err (sym f)
 
   pub rest-passed : (s : Shape) → s.statements ≡ n → s.exceptions ≡ m → (at i w : ℕ) → c ≤ i → i ≤ c → at + (c - i) * w ≡ from + c * w → w ≡ (kind k).numbers → Rest at i → (ks : List ℕ)
-      → read_answer (test_rows s (cut (replicate c k ++ ks) (drop from t)) lno) ≡ on_tested Passed (read_answer (test_rows s (cut ks (drop (from + c * (kind k).numbers) t)) (lno + c)))
+      → read_answer (test_rows s (cut (replicate c k ++ ks) (drop from t)) lno) ≡ on_tested (Ok tt) (read_answer (test_rows s (cut ks (drop (from + c * (kind k).numbers) t)) (lno + c)))
   unfolding Rest on_tested
   rest-passed s a b at i w h g e ew inv ks =
       let z : c - i ≡ 0 = omega arith in
@@ -276,41 +270,41 @@ module _ (t : List ℤ) (s : Shape) (k from lno : ℕ) (g : Going t s k from lno
   pub going-line : InLimits s → lno + c ≤ (k + 1) * 1000000
   going-line l = omega (arith, g.few-lines, l.counts k, limit-small k (omega arith))
 
-  module _ (r : Tested)
+  module _ (r : Result ⊤ Refusal)
       (er : (ks : List ℕ) → read_answer (test_rows s (cut (replicate c k ++ ks) (drop from t)) lno) ≡ on_tested r (read_answer (test_rows s (cut ks (drop (from + c * (kind k).numbers) t)) (lno + c)))) where
     kind-on : on_tested r (read_answer (test_rows s (cut (to_come s (k + 1)) (drop (from + c * (kind k).numbers) t)) (lno + c))) ≡ read_answer (test_rows s (rows_of s (drop front t)) 2)
     kind-on = sym (er (to_come s (k + 1))) ∙ (ap (λ (ks : List ℕ). read_answer (test_rows s (cut ks (drop from t)) lno)) (sym (come-more s k c ec g.low h)) ∙ g.rest)
 
-    pub going-failed : (x : Refusal) → r ≡ Failed x → Refused x ≡ read_answer (test_rows s (rows_of s (drop front t)) 2)
+    pub going-failed : (x : Refusal) → r ≡ Err x → Err x ≡ read_answer (test_rows s (rows_of s (drop front t)) 2)
     unfolding on_tested
     going-failed x e = rw e at kind-on
 
-    pub going_next : InLimits s → (y : Kind) → y ≡ kind k → r ≡ Passed → Going t s (k + 1) (from + c * y.numbers) (lno + c)
+    pub going_next : InLimits s → (y : Kind) → y ≡ kind k → r ≡ Ok tt → Going t s (k + 1) (from + c * y.numbers) (lno + c)
     unfolding on_tested
     going_next l y ey e = rw ey (record { low = omega (arith, g.low); high = omega arith; place = start-on s k from c (kind k).numbers g.place ec refl; few-lines = going-line l; rest = rw e at kind-on })
 
-empty-rows : (s : Shape) (lno : ℕ) (ws : List ℤ) → Accepted s ≡ read_answer (test_rows s (cut [] ws) lno)
+empty-rows : (s : Shape) (lno : ℕ) (ws : List ℤ) → Ok s ≡ read_answer (test_rows s (cut [] ws) lno)
 unfolding read_answer test_rows cut
 empty-rows s lno ws = refl
 
-pub going_end : (t : List ℤ) (s : Shape) (k from lno : ℕ) → Going t s k from lno → last ≤ k → Accepted s ≡ read_answer (test_rows s (rows_of s (drop front t)) 2)
+pub going_end : (t : List ℤ) (s : Shape) (k from lno : ℕ) → Going t s k from lno → last ≤ k → Ok s ≡ read_answer (test_rows s (rows_of s (drop front t)) 2)
 going_end t s k from lno g h = empty-rows s lno (drop from t) ∙ (ap (λ (ks : List ℕ). read_answer (test_rows s (cut ks (drop from t)) lno)) (sym (come-none s k h)) ∙ g.rest)
 
 -- ---- the returns of the test of a table
 module _ (t : List ℤ) where
-  pub table-short : (r : Reading) → length t < front → r ≡ no_reading 16 0 → r ≡ read_answer (test_table t)
+  pub table-short : (r : Refusal) → length t < front → r ≡ refusal 16 0 → Err r ≡ read_answer (test_table t)
   unfolding test_table pick read_answer
-  table-short r h e = e ∙ rw (lt-ltb (length t) front h)
+  table-short r h e = ap Err e ∙ rw (lt-ltb (length t) front h)
 
   module _ (h : front ≤ length t) where
-    pub table-n : (r : Reading) (q : ℕ) → (inside (range_of Statements 0) (get_or t 0 (pos 0)) ≡ false) × (q ≡ 6) → r ≡ no_reading q 1 → r ≡ read_answer (test_table t)
+    pub table-n : (r : Refusal) (q : ℕ) → (inside (range_of Statements 0) (get_or t 0 (pos 0)) ≡ false) × (q ≡ 6) → r ≡ refusal q 1 → Err r ≡ read_answer (test_table t)
     unfolding test_table pick read_answer
-    table-n r q f e = e ∙ rw (le-ltb (length t) front h, f.0, f.1)
+    table-n r q f e = ap Err e ∙ rw (le-ltb (length t) front h, f.0, f.1)
 
     module _ (n : inside (range_of Statements 0) (get_or t 0 (pos 0)) ≡ true) where
-      pub table-over : (r : Reading) (a : Bool) → a ≡ some (miscount t) kinds → a ≡ true → r ≡ no_reading 8 1 → r ≡ read_answer (test_table t)
+      pub table-over : (r : Refusal) (a : Bool) → a ≡ some (miscount t) kinds → a ≡ true → r ≡ refusal 8 1 → Err r ≡ read_answer (test_table t)
       unfolding test_table pick read_answer
-      table-over r a ea f e = e ∙ rw (le-ltb (length t) front h, n, ← ea, f)
+      table-over r a ea f e = ap Err e ∙ rw (le-ltb (length t) front h, n, ← ea, f)
 
       module _ (a : Bool) (ea : a ≡ some (miscount t) kinds) (f : a ≡ false) (s : Shape) (es : s ≡ shape_in t) where
         pub shape-bounded : InLimits s
@@ -319,13 +313,13 @@ module _ (t : List ℤ) where
         pub few-numbers : row_numbers s ≤ 100000
         few-numbers = omega (arith, sum-all (measured Numbers) s shape-bounded, measured-most Numbers)
 
-        pub table-long : (r : Reading) (m : ℕ) → m ≡ row_numbers s → (length t ≡ front + m → ⊥) → r ≡ no_reading 16 0 → r ≡ read_answer (test_table t)
+        pub table-long : (r : Refusal) (m : ℕ) → m ≡ row_numbers s → (length t ≡ front + m → ⊥) → r ≡ refusal 16 0 → Err r ≡ read_answer (test_table t)
         unfolding test_table pick read_answer
         table-long r m em d e =
             let q : m ≡ row_numbers (shape_in t) = em ∙ ap (λ (x : Shape). row_numbers x) es in
-            e ∙ rw (le-ltb (length t) front h, n, ← ea, f, ne_eqb (length t) (front + row_numbers (shape_in t)) (λ z. d (omega arith)))
+            ap Err e ∙ rw (le-ltb (length t) front h, n, ← ea, f, ne_eqb (length t) (front + row_numbers (shape_in t)) (λ z. d (omega arith)))
 
-        pub table-tested : (r : Reading) (m : ℕ) → m ≡ row_numbers s → length t ≡ front + m → r ≡ read_answer (test_rows s (rows_of s (drop front t)) 2) → r ≡ read_answer (test_table t)
+        pub table-tested : (r : Result Shape Refusal) (m : ℕ) → m ≡ row_numbers s → length t ≡ front + m → r ≡ read_answer (test_rows s (rows_of s (drop front t)) 2) → r ≡ read_answer (test_table t)
         unfolding test_table pick
         table-tested r m em d e =
             let q : length t ≡ front + row_numbers (shape_in t) = d ∙ ap (λ (x : ℕ). front + x) (em ∙ ap (λ (x : Shape). row_numbers x) es) in

@@ -11,6 +11,7 @@ use lib.IntN.{ℤ, pos}
 use lib.ListN.{get_or, take, drop, length, length-drop}
 use lib.Seq.{sets, sets-eq, get_or-take, get_or-drop}
 use borrow.Author.Tests.{ltb-true, ltb-false, lt-ltb, le-ltb}
+use Rattle.std.specs.Prelude.{Result, Ok, Err}
 use Rattle.logic.specs.Lists.{Every}
 use Rattle.logic.specs.Tests.{pick}
 use Rattle.book.specs.declared.Shape.{Shape}
@@ -19,10 +20,7 @@ use Rattle.book.specs.Counts.{counts_of, front_of, row_numbers, text_bytes, InLi
 use Rattle.book.proofs.Counts.{front-small}
 use Rattle.read.proofs.Whole.{table-long as book-long}
 use Rattle.text.specs.declared.Refusal.{Refusal}
-use Rattle.text.specs.declared.Reading.{Reading}
-use Rattle.text.specs.declared.Reading.TheVariants.{Accepted, Refused}
-use Rattle.text.specs.declared.Writing.TheVariants.{Written, Refused as NotWritten}
-use Rattle.text.specs.Reading.{Outcome, table_of, over, read_answer}
+use Rattle.text.specs.Reading.{Outcome, table_of, over, read_answer, refusal}
 use Rattle.text.specs.Reading.Outcome.{accepted, refused}
 use Rattle.text.specs.Tables.{layout, cut, rows_of, test_rows, test_table}
 use Rattle.text.specs.Writing.{text_of, lent_bytes, write_with, write_answer, write_into}
@@ -36,12 +34,12 @@ use Rattle.write.specs.Promise.{Met}
 use Rattle.write.proofs.PutLaws.{text-bytes}
 
 -- ---- an accepted table
-answer-accepted : (o : Outcome) (s : Shape) → Accepted s ≡ read_answer o → (ws : List ℤ) × (o ≡ accepted s ws)
+answer-accepted : (o : Outcome) (s : Shape) → Ok s ≡ read_answer o → (ws : List ℤ) × (o ≡ accepted s ws)
 unfolding read_answer
 answer-accepted (accepted r ws) s e = (ws, let q : r ≡ s = cc in rw q)
 answer-accepted (refused q l) s e = absurd (let z : ◌≡◌ {A = ℕ} 0 1 = cc in omega arith)
 
-answer-refused : (o : Outcome) (x : Refusal) → Refused x ≡ read_answer o → o ≡ refused x.number x.line
+answer-refused : (o : Outcome) (x : Refusal) → Err x ≡ read_answer o → o ≡ refused x.number x.line
 unfolding read_answer
 answer-refused (accepted r ws) x e = absurd (let z : ◌≡◌ {A = ℕ} 0 1 = cc in omega arith)
 answer-refused (refused q l) x e = let w : x ≡ record { number = q; line = l } = cc in rw w
@@ -83,14 +81,14 @@ unfolding table_of all_short
 table-short s ws l e i = front-short (front_of s) ws (front-small s l) e i
 
 -- ---- Write
-module _ (t : List ℤ) (l : List ℕ) (r : Reading) (er : r ≡ read_answer (test_table t)) where
-  pub write-refused : (x : Refusal) → r ≡ Refused x → Met t l (NotWritten x) l
+module _ (t : List ℤ) (l : List ℕ) (r : Result Shape Refusal) (er : r ≡ read_answer (test_table t)) where
+  pub write-refused : (x : Refusal) → r ≡ Err x → Met t l (Err x) l
   unfolding write_with lent_bytes write_answer write_into
   write-refused x e =
       let q : test_table t ≡ refused x.number x.line = answer-refused (test_table t) x (sym e ∙ er) in
       record { answer = rw q; slice = rw q }
 
-  module _ (s : Shape) (e : r ≡ Accepted s) where
+  module _ (s : Shape) (e : r ≡ Ok s) where
     rows : List ℤ
     rows = (answer-accepted (test_table t) s (sym e ∙ er)).0
 
@@ -126,15 +124,15 @@ module _ (t : List ℤ) (l : List ℕ) (r : Reading) (er : r ≡ read_answer (te
     text-long : length (text_of s (drop front t)) ≡ text_bytes s
     text-long = text-bytes s t table-long
 
-    pub write-short : (n : ℕ) → n ≡ text_bytes s → length l < n → Met t l (NotWritten (record { number = 15; line = 0 })) l
+    pub write-short : (n : ℕ) (x : Refusal) → n ≡ text_bytes s → length l < n → x ≡ refusal 15 0 → Met t l (Err x) l
     unfolding write_with lent_bytes write_answer write_into pick
-    write-short n en h =
+    write-short n x en h e =
         record {
-          answer = rw (whole, lt-ltb (length l) (length (text_of s (drop front t))) (omega (arith, text-long)));
+          answer = ap Err e ∙ rw (whole, lt-ltb (length l) (length (text_of s (drop front t))) (omega (arith, text-long)));
           slice = rw (whole, lt-ltb (length l) (length (text_of s (drop front t))) (omega (arith, text-long)));
         }
 
-    pub write-whole : (n : ℕ) (m : List ℕ) → n ≡ text_bytes s → n ≤ length l → m ≡ sets l 0 (text_of s (drop front t)) → Met t l (Written n) m
+    pub write-whole : (n : ℕ) (m : List ℕ) → n ≡ text_bytes s → n ≤ length l → m ≡ sets l 0 (text_of s (drop front t)) → Met t l (Ok n) m
     unfolding write_with lent_bytes write_answer write_into pick over
     write-whole n m en h em =
         record {

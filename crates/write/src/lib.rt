@@ -18,74 +18,57 @@ ghost use Rattle.write.specs.Parts.{lines_at, rows_text};
 ghost use Rattle.write.specs.Promise.{Met};
 
 use book::{Book, Content, Kind, Shape};
-use fields::{Checked, Seen};
-use read::Fields;
-use text::{Reading, Refusal, Writing};
+use fields::Seen;
+use text::Refusal;
 
 // ---- the test of a row
 
 // The numbers of a row of kind x, from a place of the table on: what they say in a book of n statements and m exceptions, or the refusal.
-pub fn test_fields(t: &[i32], from: usize, x: Kind, n: usize, m: usize) -> Fields
+pub fn test_fields(t: &[i32], from: usize, x: Kind, n: usize, m: usize) -> Result<Seen, u32>
     requires { (from + x.numbers ≤ length t.now) × (x.from + x.numbers ≤ length contents) × (n < 2147483648) × (m < 2147483648) }
     ensures { result ≡ test_seen n m (numbers_of x) (none_seen n) (drop from t.now) }
 {
-    let w = x.numbers;
-    let start = x.from;
     let mut seen = Seen {
         statements: n,
         missing: false,
         miscounted: false,
     };
-    let mut i = 0;
-    while i < w {
-        let content = book::content_at(start + i);
+    for i in 0..x.numbers {
+        let content = book::content_at(x.from + i);
         let v = fields::number_at(t, from + i);
-        let checked = fields::check_number(content, n, v);
-        match checked {
-            Checked::Refused(q) => {
-                return Fields::Wrong(q);
-            }
-            Checked::Fine => {
-                seen = fields::see(seen, content, m, 0, v);
-            }
-        }
-        i += 1;
+        fields::check_number(content, n, v)?;
+        seen = fields::see(seen, content, m, 0, v);
     }
-    Fields::Right(seen)
+    Ok(seen)
 }
 
 // A row of the kind at place k, from a place of the table on: 6, its kind's own refusal for heads, 10.
-pub fn test_row(t: &[i32], from: usize, k: usize, n: usize, m: usize) -> Checked
+pub fn test_row(t: &[i32], from: usize, k: usize, n: usize, m: usize) -> Result<(), u32>
     requires { (first < k) × (k < last) × (from + (kind k).numbers ≤ length t.now) × (n < 2147483648) × (m < 2147483648) }
     ensures { result ≡ row_is n m k (take (kind k).numbers (drop from t.now)) }
 {
     let x = book::kind_at(k);
-    let found = test_fields(t, from, x, n, m);
-    match found {
-        Fields::Wrong(q) => Checked::Refused(q),
-        Fields::Right(seen) => {
-            if fields::is_headless(t, from, x) {
-                return Checked::Refused(x.unfilled);
-            }
-            if seen.missing {
-                return Checked::Refused(10);
-            }
-            Checked::Fine
-        }
+    let seen = test_fields(t, from, x, n, m)?;
+    if fields::is_headless(t, from, x) {
+        return Err(x.unfilled);
     }
+    if seen.missing {
+        return Err(10);
+    }
+    Ok(())
 }
 
 // ---- the test of a table
 
-// What the test of some rows came to: fine, or the refusal.
-#[derive(Clone, Copy)]
-pub enum Tested {
-    Passed,
-    Failed(Refusal),
-}
-
 // c rows of the kind at place k, from a place of the table on; the first would have this line.
-pub fn test_kind(t: &[i32], from: usize, k: usize, c: usize, s: Shape, line: usize) -> Tested
+pub fn test_kind(
+    t: &[i32],
+    from: usize,
+    k: usize,
+    c: usize,
+    s: Shape,
+    line: usize,
+) -> Result<(), Refusal>
     requires { (first < k) × (k < last) × (from + c * (kind k).numbers ≤ length t.now) × (s.statements < 2147483648) × (s.exceptions < 2147483648) × (line + c < 2147483648) }
     ensures { (ks : List ℕ) → read_answer (test_rows s (cut (replicate c k ++ ks) (drop from t.now)) line) ≡ on_tested result (read_answer (test_rows s (cut ks (drop (from + c * (kind k).numbers) t.now)) (line + c))) }
 {
@@ -93,50 +76,29 @@ pub fn test_kind(t: &[i32], from: usize, k: usize, c: usize, s: Shape, line: usi
     let w = x.numbers;
     let n = s.statements;
     let m = s.exceptions;
-    let mut i = 0;
     let mut at = from;
-    while i < c {
-        let checked = test_row(t, at, k, n, m);
-        match checked {
-            Checked::Refused(q) => {
-                return Tested::Failed(Refusal {
-                    number: q,
-                    line: line + i,
-                });
-            }
-            Checked::Fine => {
-                at = at + w;
-            }
-        }
-        i += 1;
+    for i in 0..c {
+        test_row(t, at, k, n, m).map_err(|q| Refusal::new(q, line + i))?;
+        at += w;
     }
-    Tested::Passed
+    Ok(())
 }
 
 // The rows of a table of this shape, from the top.
-pub fn test_rows(t: &[i32], s: Shape) -> Reading
+pub fn test_rows(t: &[i32], s: Shape) -> Result<Shape, Refusal>
     requires { InLimits s × (length t.now ≡ front + row_numbers s) }
     ensures { result ≡ read_answer (test_rows s (rows_of s (drop front t.now)) 2) }
 {
-    let mut k = Book::AT_PLAIN;
     let mut from = Book::FRONT;
     let mut line = 2;
-    while k < Book::AT_LAST {
+    for k in Book::AT_PLAIN..Book::AT_LAST {
         let c = book::count_of(s, k);
-        let tested = test_kind(t, from, k, c, s, line);
-        match tested {
-            Tested::Failed(r) => {
-                return Reading::Refused(r);
-            }
-            Tested::Passed => {
-                let x = book::kind_at(k);
-                from = from + c * x.numbers;
-                line = line + c;
-            }
-        }
-        k += 1;
+        test_kind(t, from, k, c, s, line)?;
+        let x = book::kind_at(k);
+        from += c * x.numbers;
+        line += c;
     }
-    Reading::Accepted(s)
+    Ok(s)
 }
 
 // The count of a kind x in front of a table is negative or over its limit, if it is a kind of row.
@@ -159,13 +121,11 @@ pub fn counts_over(t: &[i32]) -> bool
     requires { front ≤ length t.now }
     ensures { result ≡ some (miscount t.now) kinds }
 {
-    let mut k = 0;
-    while k < Book::KINDS {
+    for k in 0..Book::KINDS {
         let x = book::kind_at(k);
         if count_over(t, x) {
             return true;
         }
-        k += 1;
     }
     false
 }
@@ -176,45 +136,40 @@ pub fn shape_in(t: &[i32]) -> Shape
     ensures { result ≡ shape_in t.now }
 {
     let mut counts = [0usize; Book::KINDS];
-    let mut k = 0;
-    while k < Book::KINDS {
+    for k in 0..Book::KINDS {
         let x = book::kind_at(k);
         let v = fields::number_at(t, x.count);
         counts[k] = fields::to_nat(v);
-        k += 1;
     }
     let n = fields::number_at(t, 0);
     book::shape_from(fields::to_nat(n), counts)
 }
 
 // The test of a table whose n is right: the counts, the length, the rows.
-pub fn test_counts(t: &[i32]) -> Reading
+pub fn test_counts(t: &[i32]) -> Result<Shape, Refusal>
     requires { (front ≤ length t.now) × (inside (range_of Statements 0) (get_or t.now 0 (pos 0)) ≡ true) }
     ensures { result ≡ read_answer (test_table t.now) }
 {
     if counts_over(t) {
-        return read::refused(8, 1);
+        return Err(Refusal::new(8, 1));
     }
     let s = shape_in(t);
     if t.len() != Book::FRONT + book::row_numbers(s) {
-        return read::refused(16, 0);
+        return Err(Refusal::new(16, 0));
     }
     test_rows(t, s)
 }
 
 // The test of a number table: its shape, or the refusal.
-pub fn test_table(t: &[i32]) -> Reading
+pub fn test_table(t: &[i32]) -> Result<Shape, Refusal>
     ensures { result ≡ read_answer (test_table t.now) }
 {
     if t.len() < Book::FRONT {
-        return read::refused(16, 0);
+        return Err(Refusal::new(16, 0));
     }
     let n = fields::number_at(t, 0);
-    let checked = fields::check_number(Content::Statements, 0, n);
-    match checked {
-        Checked::Refused(q) => read::refused(q, 1),
-        Checked::Fine => test_counts(t),
-    }
+    fields::check_number(Content::Statements, 0, n).map_err(|q| Refusal::new(q, 1))?;
+    test_counts(t)
 }
 
 // ---- the text written
@@ -239,14 +194,12 @@ pub fn put_kind(buf: &mut [u8], at: usize, k: usize, c: usize, t: &[i32], from: 
     let x = book::kind_at(k);
     let w = x.numbers;
     let b = book::line_bytes(k);
-    let mut i = 0;
     let mut a = at;
     let mut f = from;
-    while i < c {
+    for _i in 0..c {
         put_line(buf, a, k, t, f);
-        a = a + b;
-        f = f + w;
-        i += 1;
+        a += b;
+        f += w;
     }
 }
 
@@ -255,16 +208,14 @@ pub fn put_rows(buf: &mut [u8], at: usize, s: Shape, t: &[i32])
     requires { all_short t.now × (length t.now ≡ front + row_numbers s) × (at + length (rows_text s t.now) ≤ length buf.old) }
     ensures { buf.new ≡ sets buf.old at (rows_text s t.now) }
 {
-    let mut k = Book::AT_PLAIN;
     let mut a = at;
     let mut f = Book::FRONT;
-    while k < Book::AT_LAST {
+    for k in Book::AT_PLAIN..Book::AT_LAST {
         let c = book::count_of(s, k);
         put_kind(buf, a, k, c, t, f);
         let x = book::kind_at(k);
-        a = a + c * book::line_bytes(k);
-        f = f + c * x.numbers;
-        k += 1;
+        a += c * book::line_bytes(k);
+        f += c * x.numbers;
     }
 }
 
@@ -288,22 +239,14 @@ pub fn put_text(buf: &mut [u8], s: Shape, t: &[i32])
 
 // Write: from a number table to its text in front of the lent slice. It answers the text's length, or the refusal; after a refusal the
 // slice is as it was.
-pub fn write(table: &[i32], buf: &mut [u8]) -> Writing
+pub fn write(table: &[i32], buf: &mut [u8]) -> Result<usize, Refusal>
     ensures { Met table.now buf.old result buf.new }
 {
-    let tested = test_table(table);
-    match tested {
-        Reading::Refused(r) => Writing::Refused(r),
-        Reading::Accepted(s) => {
-            let n = book::text_bytes(s);
-            if buf.len() < n {
-                return Writing::Refused(Refusal {
-                    number: 15,
-                    line: 0,
-                });
-            }
-            put_text(buf, s, table);
-            Writing::Written(n)
-        }
+    let s = test_table(table)?;
+    let n = book::text_bytes(s);
+    if buf.len() < n {
+        return Err(Refusal::new(15, 0));
     }
+    put_text(buf, s, table);
+    Ok(n)
 }

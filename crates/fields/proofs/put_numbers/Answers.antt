@@ -2,7 +2,6 @@ use Rattle.fields.proofs.Columns.{back-same}
 use native.Mathlib.Omega.{arith}
 use borrow.Author.Rules.{rules}
 use mathlib.Core.Path.{◌∙◌}
-use Prim.Native.Nat.{◌+◌, ◌-◌, ◌*◌}
 use Rattle.logic.proofs.Stores.{putting-start, putting-next, putting-end}
 use Rattle.text.proofs.Fields.{field-length}
 use Rattle.fields.proofs.Puts.{fields-are, short_back}

@@ -1,4 +1,3 @@
-use mathlib.Core.Path.{◌∙◌}
 use Prim.Native.Nat.{◌+◌, ◌-◌, ◌*◌}
 use Rattle.logic.proofs.Stores.{Putting}
 use Rattle.fields.proofs.Puts.{field_at}

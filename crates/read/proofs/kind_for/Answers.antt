@@ -1,5 +1,4 @@
-use mathlib.Core.Path.{◌≡◌}
-use Prim.Native.Nat.{◌-◌}
+use mathlib.Core.Path.{sym}
 use native.Mathlib.Omega.{arith}
 use borrow.Author.Tests.{not-true, not-false}
 use borrow.Author.Rules.{rules}
@@ -9,26 +8,14 @@ use Rattle.read.proofs.kind_for.Goals as goal
 pub loop-k-init : goal.loop-k-init
 loop-k-init c = seek-start _ _
 
-pub letter_at-requires : goal.letter_at-requires
-letter_at-requires c = omega arith
-
 pub returns-then-letter_at-b : goal.returns-then-letter_at-b
 returns-then-letter_at-b c = (seek-here _ _ c.loop-k.k (omega arith) c.loop-k.invariant c.letter_at.result c.letter_at.ensures (search rules), omega arith)
 
-pub is_row-requires : goal.is_row-requires
-is_row-requires c = omega arith
-
 pub returns-then-not-is_row : goal.returns-then-not-is_row
-returns-then-not-is_row c = (seek_stop _ _ c.loop-k.k (omega arith) c.loop-k.invariant c.letter_at.result c.letter_at.ensures (search rules) c.is_row.result c.is_row.ensures (not-true _ (search rules)), omega arith)
-
-pub overflow_add-k : goal.overflow_add-k
-overflow_add-k c = omega arith
-
-pub loop-k-smaller : goal.loop-k-smaller
-loop-k-smaller c = omega arith
+returns-then-not-is_row c = sym (seek_stop _ _ c.loop-k.k (omega arith) c.loop-k.invariant c.letter_at.result c.letter_at.ensures (search rules) c.is_row.result c.is_row.ensures (not-true _ (search rules)))
 
 pub loop-k-preserved : goal.loop-k-preserved
 loop-k-preserved c = seek-next _ _ c.loop-k.k (omega arith) c.loop-k.invariant c.letter_at.result c.letter_at.ensures (search rules) c.is_row.result c.is_row.ensures (not-false _ (search rules))
 
 pub returns : goal.returns
-returns c = (seek-end _ _ c.loop-k.k (omega arith) c.loop-k.invariant, omega arith)
+returns c = sym (seek-end _ _ c.loop-k.k (omega arith) c.loop-k.invariant)

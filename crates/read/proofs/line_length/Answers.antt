@@ -1,7 +1,5 @@
 use native.Mathlib.Omega.{arith}
 use borrow.Author.Rules.{rules}
-use mathlib.Core.Path.{◌≡◌}
-use Prim.Native.Nat.{◌+◌, ◌-◌, ◌≤◌}
 use Rattle.read.proofs.Feeds.{feed-start, feed-here, feed-next, feed-end}
 use Rattle.read.proofs.line_length.Goals as goal
 

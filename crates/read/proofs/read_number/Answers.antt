@@ -1,12 +1,13 @@
 use borrow.Author.Rules.{rules}
 use Rattle.read.proofs.FieldLaws.{number-misspelt, number-outside, number-inside}
+use Rattle.std.proofs.lemmas.Result.{err_from_is_err_and}
 use Rattle.read.proofs.read_number.Goals as goal
 
-pub returns-in-Misspelt : goal.returns-in-Misspelt
-returns-in-Misspelt c = number-misspelt _ c.read_field-field.result _ _ (search rules) (search rules)
+pub returns-in_err-v : goal.returns-in_err-v
+returns-in_err-v c = search (rules, number-misspelt)
 
-pub returns-in-Refused : goal.returns-in-Refused
-returns-in-Refused c = number-outside _ c.read_field-field.result _ c.in-Value.v c.check_number-checked.result (search rules) (search rules) (search rules) c.check_number-checked.ensures _ (search rules)
+pub returns-in_err-check_number : goal.returns-in_err-check_number
+returns-in_err-check_number c = let p = err_from_is_err_and c.from_residual-in_err-check_number.result c.from_residual-in_err-check_number.ensures.1 in rw (p.1, p.2) (number-outside _ c.read_field.result _ c.in_ok-v.v c.check_number.result (search rules) (search rules) (search rules) c.check_number.ensures _ (search rules))
 
-pub returns-in-Fine : goal.returns-in-Fine
-returns-in-Fine c = number-inside _ c.read_field-field.result _ c.in-Value.v c.check_number-checked.result (search rules) (search rules) (search rules) c.check_number-checked.ensures (search rules)
+pub returns : goal.returns
+returns c = number-inside _ c.read_field.result _ c.in_ok-v.v c.check_number.result (search rules) (search rules) (search rules) c.check_number.ensures (search rules)

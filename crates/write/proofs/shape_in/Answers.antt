@@ -1,5 +1,5 @@
 use Rattle.book.specs.Kinds.{none}
-use Prim.Native.Nat.{ℕ, ◌-◌}
+use Prim.Native.Nat.{ℕ}
 use native.Mathlib.Omega.{arith}
 use lib.ListN.{length-replicate}
 use borrow.Author.Rules.{rules}
@@ -17,12 +17,6 @@ number_at-v-requires c = kind-count c.kind_at-x.result c.loop-k.k _ c.kind_at-x.
 
 pub bounds-counts-k : goal.bounds-counts-k
 bounds-counts-k c = omega (arith, c.loop-k.invariant.long)
-
-pub overflow_add-k : goal.overflow_add-k
-overflow_add-k c = omega arith
-
-pub loop-k-smaller : goal.loop-k-smaller
-loop-k-smaller c = omega arith
 
 pub loop-k-preserved : goal.loop-k-preserved
 loop-k-preserved c = counting-next c.args.t.now c.loop-k.counts c.loop-k.k c.loop-k.invariant (omega arith) c.kind_at-x.result c.kind_at-x.ensures c.number_at-v.result c.number_at-v.type_inv c.number_at-v.ensures c.to_nat.result c.to_nat.ensures.0

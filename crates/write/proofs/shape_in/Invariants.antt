@@ -1,10 +1,5 @@
-use Rattle.book.specs.Kinds.{none}
-use Prim.Native.Nat.{◌-◌}
 use Rattle.write.proofs.TableLaws.{Counting}
 use Rattle.write.proofs.shape_in.Given as goal
 
 abbrev pub invariant-loop-k : goal.invariant-loop-k
 invariant-loop-k l = Counting l.t l.counts l.k
-
-abbrev pub decreases-loop-k : goal.decreases-loop-k
-decreases-loop-k l = none - l.k

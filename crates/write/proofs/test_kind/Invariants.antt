@@ -1,11 +1,8 @@
 use Rattle.book.specs.Kinds.{kind}
-use Prim.Native.Nat.{◌≤◌, ◌-◌, ◌+◌, ◌*◌}
+use Prim.Native.Nat.{◌-◌, ◌+◌, ◌*◌}
 use mathlib.Core.Path.{◌≡◌}
 use Rattle.write.proofs.TableLaws.{Rest}
 use Rattle.write.proofs.test_kind.Given as goal
 
 abbrev pub invariant-loop-i : goal.invariant-loop-i
-invariant-loop-i l = (l.i ≤ l.c) × (l.w ≡ (kind l.k).numbers) × (l.at + (l.c - l.i) * l.w ≡ l.from + l.c * l.w) × Rest l.k l.t l.from l.c l.line l.n l.m l.at l.i
-
-abbrev pub decreases-loop-i : goal.decreases-loop-i
-decreases-loop-i l = l.c - l.i
+invariant-loop-i l = (l.w ≡ (kind l.k).numbers) × (l.at + (l.c - l.i-counter) * l.w ≡ l.from + l.c * l.w) × Rest l.k l.t l.from l.c l.line l.n l.m l.at l.i-counter
