@@ -24,7 +24,7 @@ const FULL: u32 = 26;
 pub fn refused(number: u32) -> Refusal
     ensures { (result.number ≡ number) × (result.line ≡ 0) }
 {
-    Refusal { number, line: 0 }
+    Refusal::new(number, 0)
 }
 
 // ---- what the store's bytes are
