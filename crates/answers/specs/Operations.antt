@@ -14,8 +14,6 @@ use Rattle.meaning.specs.Listings.{Answer, found, end, refused, Operation, first
 use Rattle.meaning.specs.Twins.Verdicts.{pair_refusal, verdict}
 use Rattle.meaning.specs.Twins.Next.{next_from, page_from}
 use Rattle.text.specs.declared.Refusal.{Refusal}
-use Rattle.text.specs.declared.Writing.{Writing}
-use Rattle.text.specs.declared.Writing.TheVariants.{Written, Refused as NotWritten}
 
 -- ---- the paper's answers
 -- A number or list that an operation answers, or a refusal's number and line.
@@ -42,9 +40,8 @@ verdict_of r = told_of r
 abbrev pub count_of : Result ℕ Refusal → Told ℕ
 count_of r = told_of r
 
-unfoldable pub length_of : Writing → Told ℕ
-length_of (Written k) = told k
-length_of (NotWritten q) = turned q.number q.line
+abbrev pub length_of : Result ℕ Refusal → Told ℕ
+length_of r = told_of r
 
 -- A list that was told is answered by its length.
 unfoldable pub counted : {A : Type 0} → Told (List A) → Told ℕ

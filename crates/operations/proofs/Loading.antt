@@ -10,8 +10,6 @@ use Rattle.book.specs.declared.Shape.{Shape}
 use Rattle.book.specs.Kinds.{kinds, kind, entries_each, plain, alternative, exception, preference, conditional, preference_numbers, conditional_numbers}
 use Rattle.book.specs.Counts.{counts_of, all_counts, count_at, start_of, row_numbers, InLimits}
 use Rattle.text.specs.declared.Refusal.{Refusal}
-use Rattle.text.specs.declared.Reading.{Reading}
-use Rattle.text.specs.declared.Reading.TheVariants.{Accepted, Refused}
 use Rattle.text.specs.Accepted.{Accepted as Facts}
 use Rattle.text.proofs.Facts.{plain-rules, alternative-rules, exception-rules, entry-small, Named, preference-named, conditional-named, conditional-small}
 use Rattle.read.specs.Storing.{outcome_of}
@@ -20,7 +18,7 @@ use Rattle.meaning.specs.Meant.{at, number, book_of}
 use Rattle.bridge.specs.Packed.{Packs}
 use Rattle.bridge.specs.Ranks.{Names, RanksOf}
 use Rattle.bridge.specs.Rows.{rule_count, RowsLawful}
-use Rattle.std.specs.Prelude.{Ok, Err}
+use Rattle.std.specs.Prelude.{Result, Ok, Err}
 use Rattle.sets.specs.declared.Pair.{Pair}
 use Rattle.lawful.specs.Refusals.{Refuses}
 use Rattle.meaning.specs.Twins.Verdicts.{pair_refusal}
@@ -77,12 +75,12 @@ module _ (s : Shape) (rows : List ℤ) (m : ℕ) (e : m ≡ row_numbers s) (f : 
   pub front-filled : (ws ranks : List ℕ) → Packs (book_of s (take m rows)) ws (rule_count s) → RanksOf (book_of s (take m rows)) ranks → Filled s (take (row_numbers s) rows) ws ranks
   front-filled ws ranks p k = record { packs = rw e at p; ranked = rw e at k }
 
-module _ (bs : List ℕ) (r : Reading) (l : List ℤ) (p : Parsing bs r l) where
-  pub loads-refused : (q : Refusal) → r ≡ Refused q → (ws ranks : List ℕ) → Loads bs (Err q) ws ranks
+module _ (bs : List ℕ) (r : Result Shape Refusal) (l : List ℤ) (p : Parsing bs r l) where
+  pub loads-refused : (q : Refusal) → r ≡ Err q → (ws ranks : List ℕ) → Loads bs (Err q) ws ranks
   unfolding outcome_of
   loads-refused q e ws ranks = sym (rw e at p.is)
 
-  pub loads-accepted : (s : Shape) → r ≡ Accepted s → (ws ranks : List ℕ) → Filled s (take (row_numbers s) l) ws ranks → Loads bs (Ok s) ws ranks
+  pub loads-accepted : (s : Shape) → r ≡ Ok s → (ws ranks : List ℕ) → Filled s (take (row_numbers s) l) ws ranks → Loads bs (Ok s) ws ranks
   unfolding outcome_of
   loads-accepted s e ws ranks k =
       let f = p.facts s e in

@@ -15,7 +15,7 @@ ghost use Rattle.operations.specs.Loads.{Loads, LoadsFor, Filled, found_in};
 use book::{Book, Shape};
 use engine::{Ranks, Words};
 use sets::Pair;
-use text::{Reading, Refusal};
+use text::Refusal;
 
 // Prepares an accepted book: the words of its rules and its Q lines, and those of its ranks. The words after the rules are lent as zeros.
 pub fn fill(s: Shape, rows: &[i32], words: &mut Words, ranks: &mut Ranks)
@@ -41,14 +41,9 @@ pub fn load(text: &[u8], words: &mut Words, ranks: &mut Ranks) -> Result<Shape, 
     ensures { Loads text.now result words.new ranks.new }
 {
     let mut scratch = Book::empty();
-    let got = read::parse(text, &mut scratch.rows);
-    match got {
-        Reading::Refused(q) => Err(q),
-        Reading::Accepted(s) => {
-            fill_from(s, &scratch.rows, words, ranks);
-            Ok(s)
-        }
-    }
+    let s = read::parse(text, &mut scratch.rows)?;
+    fill_from(s, &scratch.rows, words, ranks);
+    Ok(s)
 }
 
 // The same for a pair that has to be lawful in the book: the refusal of the text, then of the pair.
