@@ -18,8 +18,9 @@ pub fn visit(store: &mut [u8], calls: &[u8], k: usize, answers: &mut [u64])
     ensures { Visited calls.now k 1 store.old store.new answers.old answers.new }
 {
     let i = k * 33;
+    let kind = calls[i];
     let name = entry::name_at(&calls[i + 1..]);
-    let answer = match calls[i] {
+    let answer = match kind {
         0 => points::set_point(store, name, entry::pair_at(&calls[i + 9..])).map(|()| None),
         1 => points::go_to(store, name).map(Some),
         _ => points::drop_point(store, name).map(|()| None),
