@@ -11,8 +11,6 @@ use lib.Dec.{eqb, ltb}
 use lib.ListN.{length, take, drop, length-append, length-take, length-drop}
 use lib.Seq.{sets}
 use borrow.Rule.Slice.PartMut.{put_mid}
-use Rattle.std.proofs.lemmas.List.Edits.{sets-eq}
-use Rattle.std.proofs.lemmas.List.{drop-drop}
 use borrow.Author.Tests.{ltb-false, lt-ltb, le-ltb, eq-eqb, ne_eqb}
 use Rattle.logic.specs.Tests.{pick}
 use Rattle.logic.proofs.Stores.{sets-append}
@@ -24,6 +22,7 @@ use Rattle.meaning.specs.Order.{Point}
 use Rattle.meaning.specs.Listings.{Answer, found, end, refused, Call, handed, moved, answered, answers_to, listing, reached}
 use Rattle.std.specs.Prelude.{Option, Some, None, Result, Ok, Err}
 use Rattle.answers.specs.Operations.{answer_of, asks, first_answer, after_answer}
+use Rattle.answers.proofs.Copies.{part-put}
 use Rattle.answers.proofs.Listed.{demand3-of-text, point-alone-of-texts}
 use Rattle.text.specs.declared.Refusal.{Refusal}
 use Rattle.calls.specs.declared.Handed.{Handed}
@@ -47,9 +46,7 @@ module _ (bs : List ℕ) where
 -- ---- answers as numbers
 -- A copied row is stored from its place on.
 pub row-put : (l xs ys : List ℕ) (i : ℕ) → i + 4 ≤ length l → length xs ≡ length (take (i + 4 - i) (drop i l)) → xs ≡ ys → put_mid i (i + 4 - i) l xs ≡ sets l i ys
-row-put l xs ys i h n e =
-    let k : i + 4 - i ≡ length ys = rw (← e) (omega (arith, n, length-take (i + 4 - i) (drop i l), length-drop i l)) in
-    rw (e, k, sets-eq ys l i (omega arith), drop-drop) (sym (append_assoc (take i l) ys (drop (i + length ys) l)))
+row-put l xs ys i h n e = part-put l xs ys i (i + 4) e (rw (← e) (omega (arith, n, length-take (i + 4 - i) (drop i l), length-drop i l))) h
 
 module _ (l l' : List ℕ) (i : ℕ) (a : Result (Option Pair) Refusal) where
   pub found-put : (p : Pair) → a ≡ Ok (Some p) → l' ≡ sets l i (1 ∷ p.taken ∷ p.held ∷ p.denied ∷ []) → l' ≡ sets l i (row (answer_of a))
