@@ -14,10 +14,10 @@ use Rattle.logic.proofs.Tests.{all-at}
 use Rattle.book.proofs.Counts.{many}
 use Rattle.book.specs.declared.Content.{Content}
 use Rattle.book.specs.declared.Content.TheVariants.{Edition, Statements, Literal, Exception, Total}
+use Rattle.book.specs.Faults.{number}
 use Rattle.book.specs.Kinds.{kinds, kind, unknown, fields_of, bytes, none, exception, Range, range_of, most, longest}
 use Rattle.text.specs.declared.State.{State}
-use Rattle.text.specs.declared.Field.{Field}
-use Rattle.text.specs.declared.Field.TheVariants.{Value, Misspelt}
+use Rattle.std.specs.Prelude.{Result, Ok, Err}
 use Rattle.text.specs.Fields.{Misspells, is_stray, is_gapped, is_wrong_zero, first_field}
 use Rattle.text.specs.Lines.{Numbers, numbers, fault, and_then, inside, test_field, read_fields, headless, missing, miscounted, whole_of, Line, line, wrong, unless, judged, read_rest, read_kind, kind_for, read_line, lines, to_first}
 use Rattle.text.specs.Reading.{Outcome, prepend, on_line, read_end, read_lines, step, row_of, start, last_byte, read_text, shape_of}
@@ -47,7 +47,7 @@ abbrev Wronged : Line → Type 0
 Wronged (line k vs) = Unit {0}
 Wronged (wrong q) = Fault q
 
-range-fault : (c : Content) (n : ℕ) → Fault (range_of c n).fault
+range-fault : (c : Content) (n : ℕ) → Fault (number (range_of c n).fault)
 unfolding range_of
 range-fault Edition n = record { low = omega arith; high = omega arith }
 range-fault Statements n = record { low = omega arith; high = omega arith }
@@ -61,9 +61,9 @@ then-faulted v (numbers vs) f = tt
 then-faulted v (fault q) f = f
 
 -- What four columns are: a number, or misspelt by a refusal.
-abbrev Spelt : Field → Type 0
-Spelt (Value v) = Unit {0}
-Spelt (Misspelt q) = Fault q
+abbrev Spelt : Result ℤ ℕ → Type 0
+Spelt (Ok v) = Unit {0}
+Spelt (Err q) = Fault q
 
 spelling-fault : (bs : List ℕ) (q : ℕ) → Misspells bs q → Fault q
 spelling-fault bs q (is_stray e) = record { low = omega arith; high = omega arith }
@@ -74,14 +74,14 @@ first-spelt : (bs : List ℕ) → Spelt (first_field bs)
 unfolding first_field
 first-spelt bs = go (first_field bs) refl
   where
-    go : (f : Field) → first_field bs ≡ f → Spelt f
-    go (Value v) e = tt
-    go (Misspelt q) e = spelling-fault _ q ((misspelt-iff (get_or bs 0 0) (get_or bs 1 0) (get_or bs 2 0) (get_or bs 3 0) q).0 e)
+    go : (f : Result ℤ ℕ) → first_field bs ≡ f → Spelt f
+    go (Ok v) e = tt
+    go (Err q) e = spelling-fault _ q ((misspelt-iff (get_or bs 0 0) (get_or bs 1 0) (get_or bs 2 0) (get_or bs 3 0) q).0 e)
 
-field-faulted : (f : Field) (r : Range) (ns : Numbers) → Spelt f → Fault r.fault → Faulted ns → Faulted (test_field f r ns)
+field-faulted : (f : Result ℤ ℕ) (r : Range) (ns : Numbers) → Spelt f → Fault (number r.fault) → Faulted ns → Faulted (test_field f r ns)
 unfolding test_field
-field-faulted (Misspelt q) r ns s g h = s
-field-faulted (Value v) r ns s g h = either_way Faulted (inside r v) (and_then v ns) (fault r.fault) (then-faulted v ns h) g
+field-faulted (Err q) r ns s g h = s
+field-faulted (Ok v) r ns s g h = either_way Faulted (inside r v) (and_then v ns) (fault (number r.fault)) (then-faulted v ns h) g
 
 fields-faulted : (cs : List Content) (n : ℕ) (bs : List ℕ) → Faulted (read_fields cs n bs)
 unfolding read_fields
@@ -89,14 +89,14 @@ fields-faulted [] n bs = tt
 fields-faulted (c ∷ cs) n bs = field-faulted (first_field bs) (range_of c n) (read_fields cs n (drop 4 bs)) (first-spelt bs) (range-fault c n) (fields-faulted cs n (drop 4 bs))
 
 -- A kind's own refusals have two digits at most.
-kind-refusals : (k : ℕ) → ((kind k).over < 100) × ((kind k).unfilled < 100)
+kind-refusals : (k : ℕ) → ((number (kind k).over) < 100) × ((number (kind k).unfilled) < 100)
 unfolding kind kinds unknown
 kind-refusals k = go (ltb k none) refl
   where
-    go : (b : Bool) → ltb k none ≡ b → ((kind k).over < 100) × ((kind k).unfilled < 100)
+    go : (b : Bool) → ltb k none ≡ b → ((number (kind k).over) < 100) × ((number (kind k).unfilled) < 100)
     go true p = (
-      ltb-true _ _ (all-at (λ (j : ℕ). ltb (kind j).over 100) none k refl (ltb-true k none p)),
-      ltb-true _ _ (all-at (λ (j : ℕ). ltb (kind j).unfilled 100) none k refl (ltb-true k none p)),
+      ltb-true _ _ (all-at (λ (j : ℕ). ltb (number (kind j).over) 100) none k refl (ltb-true k none p)),
+      ltb-true _ _ (all-at (λ (j : ℕ). ltb (number (kind j).unfilled) 100) none k refl (ltb-true k none p)),
     )
     go false p = let e : kind k ≡ unknown = get_or-eq_default kinds unknown {n = k} (rw many (ltb-false k none p)) in rw e (omega arith, omega arith)
 
@@ -104,8 +104,8 @@ whole-small : (st : State) (k : ℕ) (vs : List ℤ) → whole_of st k vs < 100
 unfolding whole_of
 whole-small st k vs =
     let small : ℕ → Type 0 = λ q. q < 100 in
-    either_way small (leb (kind k).limit (get_or st.counts k 0)) (kind k).over _ (kind-refusals k).0
-    (either_way small (headless (kind k) vs) (kind k).unfilled _ (kind-refusals k).1
+    either_way small (leb (kind k).limit (get_or st.counts k 0)) (number (kind k).over) _ (kind-refusals k).0
+    (either_way small (headless (kind k) vs) (number (kind k).unfilled) _ (kind-refusals k).1
     (either_way small (missing (get_or st.counts exception 0) (kind k) vs) 10 _ (omega arith)
     (either_way small (miscounted st.rows (kind k) vs) 11 0 (omega arith) (omega arith))))
 
