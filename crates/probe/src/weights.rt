@@ -143,10 +143,9 @@ pub fn heaviest(words: &[u64], n: usize, live: Waiting, free: Pair) -> Option<Be
     requires { n * 8 ≤ length words.now }
 {
     let mut t: Weights = [0; 192];
-    add_rules(&mut t, words, n, 0, live.a, free);
-    add_rules(&mut t, words, n, 64, live.b, free);
-    add_rules(&mut t, words, n, 128, live.c, free);
-    add_rules(&mut t, words, n, 192, live.d, free);
+    for (k, &word) in live.words.iter().enumerate() {
+        add_rules(&mut t, words, n, k as u64 * 64, word, free);
+    }
     let s = heavier(&t, Part::Held, free.held, None);
     let s = heavier(&t, Part::Denied, free.denied, s);
     heavier(&t, Part::Taken, free.taken, s)

@@ -23,12 +23,11 @@ pub fn added(index: &Index, row: u64, t: Waiting) -> Waiting
     requires { row < 192 }
 {
     let at = (row * 4) as usize;
-    Waiting {
-        a: t.a | index[at],
-        b: t.b | index[at + 1],
-        c: t.c | index[at + 2],
-        d: t.d | index[at + 3],
+    let mut o = t;
+    for (k, word) in o.words.iter_mut().enumerate() {
+        *word |= index[at + k];
     }
+    o
 }
 
 // The rules of t with those of the rows of m's members, counted from row `from`.

@@ -6,10 +6,7 @@ use sets::Pair;
 // A bit for each of 256 rules.
 #[derive(Clone, Copy)]
 pub struct Waiting {
-    pub a: u64,
-    pub b: u64,
-    pub c: u64,
-    pub d: u64,
+    pub words: [u64; 4],
 }
 
 // What propagation has to do: the rules that wait, the conclusions whose support is asked for, and the rules that are live,
@@ -23,22 +20,13 @@ pub struct Work {
 
 // No rule waits.
 pub fn nothing() -> Waiting {
-    Waiting {
-        a: 0,
-        b: 0,
-        c: 0,
-        d: 0,
-    }
+    Waiting { words: [0; 4] }
 }
 
 // Every rule waits.
 pub fn everything() -> Waiting {
-    let all = u64::MAX;
     Waiting {
-        a: all,
-        b: all,
-        c: all,
-        d: all,
+        words: [u64::MAX; 4],
     }
 }
 
@@ -53,10 +41,9 @@ pub fn none(live: Waiting) -> Work {
 
 // All is to be done.
 pub fn all() -> Work {
-    let all = u64::MAX;
     Work {
         rules: everything(),
-        asked: Pair::of_statements(all, all),
+        asked: Pair::of_statements(u64::MAX, u64::MAX),
         live: everything(),
     }
 }
@@ -70,19 +57,20 @@ pub fn fewer(x: u64) -> u64 {
 }
 
 // The first rule that waits, if one does.
+// Kept: tried a loop over the words, and slower: 1 to 4 percent more instructions in a search.
 pub fn next(t: Waiting) -> Option<u64>
     ensures { IfSome result (λ j. j < 256) }
 {
-    if let Some(i) = sets::first(t.a) {
+    if let Some(i) = sets::first(t.words[0]) {
         return Some(i);
     }
-    if let Some(i) = sets::first(t.b) {
+    if let Some(i) = sets::first(t.words[1]) {
         return Some(64 + i);
     }
-    if let Some(i) = sets::first(t.c) {
+    if let Some(i) = sets::first(t.words[2]) {
         return Some(128 + i);
     }
-    if let Some(i) = sets::first(t.d) {
+    if let Some(i) = sets::first(t.words[3]) {
         return Some(192 + i);
     }
     None
@@ -91,23 +79,17 @@ pub fn next(t: Waiting) -> Option<u64>
 // The rules of t without rule j.
 pub fn without(t: Waiting, j: u64) -> Waiting {
     let mut o = t;
-    let place = j % 64;
-    match j / 64 {
-        0 => o.a = sets::cleared(o.a, place),
-        1 => o.b = sets::cleared(o.b, place),
-        2 => o.c = sets::cleared(o.c, place),
-        3 => o.d = sets::cleared(o.d, place),
-        _ => {}
+    if let Some(word) = o.words.get_mut((j / 64) as usize) {
+        *word = sets::cleared(*word, j % 64);
     }
     o
 }
 
 // The rules that are in both.
 pub fn both(t: Waiting, u: Waiting) -> Waiting {
-    Waiting {
-        a: t.a & u.a,
-        b: t.b & u.b,
-        c: t.c & u.c,
-        d: t.d & u.d,
+    let mut o = t;
+    for (word, &other) in o.words.iter_mut().zip(&u.words) {
+        *word &= other;
     }
+    o
 }
