@@ -3,9 +3,8 @@
 use mathlib.Core.Path.{◌≡◌, ap, ◌∙◌}
 use mathlib.Core.Logic.{⊎_elim}
 use Prim.Native.Nat.{ℕ, zero, suc, ◌+◌, ◌-◌, ◌*◌, ◌/◌, ◌^◌, ◌%◌, ◌<◌, ◌≤◌}
-use native.Mathlib.Nat.{le_refl, pow-suc}
+use native.Mathlib.Nat.{le_refl}
 use native.Mathlib.Omega.{arith}
-use lib.Count.{count_leading_zeros, leading_top, leading_le}
 use lib.Pow.{high}
 use Rattle.sets.specs.declared.Pair.{Pair}
 use Rattle.sets.specs.Sets.{bit_of, Within, Apart}
@@ -73,21 +72,8 @@ none-picked x m e a b c =
     })
 
 -- ---- the highest member
-pub top-fits : (x : ℕ) → count_leading_zeros 64 x < 2 ^ 64
-top-fits x = omega (arith, leading_le 64 x)
-
-module _ (x : ℕ) (p : 0 < x) (h : x < 2 ^ 64) where
-  pub top_small : count_leading_zeros 64 x ≤ 63
-  top_small = let t = leading_top 64 x p h in omega (arith, t.1)
-
-  pub top-place : Place x (63 - count_leading_zeros 64 x)
-  top-place =
-      let t = leading_top 64 x p h in
-      let e : 63 - count_leading_zeros 64 x ≡ t.0 = omega (arith, t.1) in
-      rw e (record { small = omega (arith, t.1); member = at t.0 t.2 t.3 })
-    where
-      at : (j : ℕ) → 2 ^ j ≤ x → x < 2 ^ suc j → bit_of x j ≡ 1
-      at j l g =
-          let q : x ≡ 1 * 2 ^ j + (x - 2 ^ j) = omega arith in
-          let r : x - 2 ^ j < 2 ^ j = omega (arith, pow-suc 2 j) in
-          ap (λ (y : ℕ). y / 2 ^ j % 2) q ∙ ap (λ (y : ℕ). y % 2) (high 1 j r)
+pub top-place : (x j : ℕ) → j < 64 → 2 ^ j ≤ x → x < 2 * 2 ^ j → Place x j
+top-place x j s l g =
+    let q : x ≡ 1 * 2 ^ j + (x - 2 ^ j) = omega arith in
+    let r : x - 2 ^ j < 2 ^ j = omega arith in
+    record { small = s; member = ap (λ (y : ℕ). y / 2 ^ j % 2) q ∙ ap (λ (y : ℕ). y % 2) (high 1 j r) }

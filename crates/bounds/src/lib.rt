@@ -52,7 +52,7 @@ pub fn top(x: u64) -> u64
     requires { 0 < x }
     ensures { Place x result }
 {
-    63 - u64::leading_zeros(x) as u64
+    u64::from(x.ilog2())
 }
 
 // One member, of x if x has any: which one, nothing depends on.

@@ -125,11 +125,7 @@ pub fn meets(r: Masks, v: Pair, f: bool) -> bool
 pub fn lone_word(x: u64) -> bool
     ensures { result ≡ true → Lone x }
 {
-    let k = u64::trailing_zeros(x) as u64;
-    if 64 <= k {
-        return x == 0;
-    }
-    x == 1 << k
+    sets::size(x) <= 1
 }
 
 // The pair has one conclusion at most, and no exception: every pair has all of it or nothing.

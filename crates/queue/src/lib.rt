@@ -32,7 +32,7 @@ pub struct Rest {
 
 // The word has two members at least.
 pub fn several(x: u64) -> bool {
-    waiting::fewer(x) != 0
+    sets::size(x) > 1
 }
 
 // The rule says nothing new within the bounds. No contract depends on this: a wrong answer costs time, not truth.

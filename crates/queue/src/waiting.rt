@@ -50,10 +50,7 @@ pub fn all() -> Work {
 
 // The word without its lowest member.
 pub fn fewer(x: u64) -> u64 {
-    let Some(i) = sets::first(x) else {
-        return x;
-    };
-    sets::cleared(x, i)
+    x & x.wrapping_sub(1)
 }
 
 // The first rule that waits, if one does.

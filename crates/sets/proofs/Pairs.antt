@@ -14,7 +14,7 @@ use Rattle.sets.specs.declared.Pair.{Pair}
 use Rattle.sets.specs.Sets.{without}
 use Rattle.sets.specs.Pairs.{Sub, Off, join_of, meet_of, minus_of, Atom}
 use Rattle.sets.proofs.Words as N
-use Rattle.sets.proofs.Words.{decide, single, none-sub, none-off, minus-zero, zero_minus, and_none, none-and, same_word, word_same, or-zero}
+use Rattle.sets.proofs.Words.{decide, single, none-sub, none-off, minus-zero, zero_minus, and_none, none-and, or-zero}
 
 -- ---- tests
 -- the three words of a test

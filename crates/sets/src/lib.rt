@@ -210,10 +210,3 @@ pub fn apart(a: Pair, b: Pair) -> bool
 {
     (a.held & b.held) | (a.denied & b.denied) | (a.taken & b.taken) == 0
 }
-
-// The pairs are equal.
-pub fn same(a: Pair, b: Pair) -> bool
-    ensures { Decides result (a ≡ b) }
-{
-    a == b
-}
