@@ -54,12 +54,10 @@ pub fn each_needed(
     requires { (n * 8 ≤ length words.now) × (length ranks.now ≤ 64) × Chains words.now n index.now }
     ensures { Decides result (Minimal words.now n ranks.now root taken) }
 {
-    let mut e: u64 = 0;
-    while e < 64 {
+    for e in 0..64 {
         if !minimal_at(words, n, ranks, index, live, root, taken, e) {
             return false;
         }
-        e += 1;
     }
     true
 }
@@ -119,12 +117,10 @@ pub fn undominated(
     requires { (n * 8 ≤ length words.now) × (length ranks.now ≤ 64) × Chains words.now n index.now }
     ensures { Decides result (Undominated words.now n ranks.now root taken) }
 {
-    let mut a = 0;
-    while a < ranks.len() {
-        if !undominated_at(words, n, ranks, index, root, taken, ranks[a], a as u64) {
+    for (a, &rank) in ranks.iter().enumerate() {
+        if !undominated_at(words, n, ranks, index, root, taken, rank, a as u64) {
             return false;
         }
-        a += 1;
     }
     true
 }
@@ -141,8 +137,5 @@ pub fn admissible(
     requires { (n * 8 ≤ length words.now) × (length ranks.now ≤ 64) × Chains words.now n index.now }
     ensures { Decides result (Admissible words.now n ranks.now root taken) }
 {
-    if !minimal(words, n, ranks, index, root, taken) {
-        return false;
-    }
-    undominated(words, n, ranks, index, root, taken)
+    minimal(words, n, ranks, index, root, taken) && undominated(words, n, ranks, index, root, taken)
 }

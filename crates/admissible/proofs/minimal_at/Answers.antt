@@ -1,12 +1,6 @@
-use Rattle.admissible.proofs.Subsets.{minimal-absent, minimal-sure, minimal-found, minimal-none}
+use Rattle.admissible.proofs.Subsets.{minimal-found, minimal-none}
 use borrow.Author.Rules.{rules}
 use Rattle.admissible.proofs.minimal_at.Goals as goal
-
-pub returns-then-taken-e-eq0 : goal.returns-then-taken-e-eq0
-returns-then-taken-e-eq0 c = minimal-absent _ _ _ _ _ _ (search rules)
-
-pub returns-then-root-e-eq1 : goal.returns-then-root-e-eq1
-returns-then-root-e-eq1 c = minimal-sure _ _ _ _ _ _ (search rules)
 
 pub returns-in-Found : goal.returns-in-Found
 returns-in-Found c = minimal-found _ _ _ _ _ _ c.requires.2 _ c.with_sets-b.ensures _ c.ask-a.ensures c.in-Found.field-0 (search rules) c.in-Found.is
