@@ -266,32 +266,27 @@ left_is ws n ranks b s c o e p = record {
 pub assumed-made : (ws : List ℕ) (n j : ℕ) (b : Bounds) (l : Masks) → l ≡ masks_at ws (n + j) → (c : Bounds) → c ≡ out_of b l.bar → {d : Bounds} → d ≡ into_of c l.need → d ≡ into_of (out_of b (masks_at ws (n + j)).bar) (masks_at ws (n + j)).need
 assumed-made ws n j b l e c f {d} g = g ∙ rw (f, e)
 
-pub without_is : (free j : ℕ) → j < 64 → Without free j (without free (1 * 2 ^ j % 2 ^ 64))
-without_is free j l = record { others = others; less = less }
+-- The set without a member.
+pub without_is : (free j r : ℕ) → r ≡ without free (2 ^ j) → Without free j r
+without_is free j r er = rw er (record { others = others; less = less })
   where
-    r : ℕ
-    r = without free (1 * 2 ^ j % 2 ^ 64)
-
-    is_one : 1 * 2 ^ j % 2 ^ 64 ≡ 2 ^ j
-    is_one = shifted j l
-
-    others : (i : ℕ) → bit_of free i ≡ 1 → (i ≡ j → ⊥) → bit_of (without free (1 * 2 ^ j % 2 ^ 64)) i ≡ 1
+    others : (i : ℕ) → bit_of free i ≡ 1 → (i ≡ j → ⊥) → bit_of (without free (2 ^ j)) i ≡ 1
     others i e f =
-        let d = bit-without free (1 * 2 ^ j % 2 ^ 64) i in
-        let q = bit-lt (1 * 2 ^ j % 2 ^ 64) i in
-        ⊎_elim (λ (z : bit_of (1 * 2 ^ j % 2 ^ 64) i ≡ 1). absurd (f (sym (eqb-true j i (sym (bit-single j i) ∙ eq-eqb _ 1 (rw is_one at z))))))
-        (λ (z : bit_of (1 * 2 ^ j % 2 ^ 64) i ≡ 1 → ⊥). let k = zero (bit_of (1 * 2 ^ j % 2 ^ 64) i) q z in omega arith) (holds-or-not (decides_eq (bit_of (1 * 2 ^ j % 2 ^ 64) i) 1))
+        let d = bit-without free (2 ^ j) i in
+        let q = bit-lt (2 ^ j) i in
+        ⊎_elim (λ (z : bit_of (2 ^ j) i ≡ 1). absurd (f (sym (eqb-true j i (sym (bit-single j i) ∙ eq-eqb _ 1 z)))))
+        (λ (z : bit_of (2 ^ j) i ≡ 1 → ⊥). let k = zero (bit_of (2 ^ j) i) q z in omega arith) (holds-or-not (decides_eq (bit_of (2 ^ j) i) 1))
       where
         zero : (u : ℕ) → u < 2 → (u ≡ 1 → ⊥) → u ≡ 0
         zero u h n = omega arith
 
-    less : bit_of free j ≡ 1 → without free (1 * 2 ^ j % 2 ^ 64) < free
+    less : bit_of free j ≡ 1 → without free (2 ^ j) < free
     less e =
-        let own : bit_of (1 * 2 ^ j % 2 ^ 64) j ≡ 1 = rw is_one (eqb-true (bit_of (2 ^ j) j) 1 (bit-single j j ∙ eq-eqb j j refl)) in
-        let d = bit-without free (1 * 2 ^ j % 2 ^ 64) j in
-        let w = sub-le (without free (1 * 2 ^ j % 2 ^ 64)) free (W.minus-sub free (1 * 2 ^ j % 2 ^ 64)) in
-        ⊎_elim (λ z. z) (λ (z : free ≤ without free (1 * 2 ^ j % 2 ^ 64)). let q : without free (1 * 2 ^ j % 2 ^ 64) ≡ free = omega arith in let y : bit_of (without free (1 * 2 ^ j % 2 ^ 64)) j ≡ bit_of free j = rw q in absurd (omega arith))
-        (lt-or-le (without free (1 * 2 ^ j % 2 ^ 64)) free)
+        let own : bit_of (2 ^ j) j ≡ 1 = eqb-true (bit_of (2 ^ j) j) 1 (bit-single j j ∙ eq-eqb j j refl) in
+        let d = bit-without free (2 ^ j) j in
+        let w = sub-le (without free (2 ^ j)) free (W.minus-sub free (2 ^ j)) in
+        ⊎_elim (λ z. z) (λ (z : free ≤ without free (2 ^ j)). let q : without free (2 ^ j) ≡ free = omega arith in let y : bit_of (without free (2 ^ j)) j ≡ bit_of free j = rw q in absurd (omega arith))
+        (lt-or-le (without free (2 ^ j)) free)
 
 -- A line that may count and is not sure is one of the first 32, and may be used.
 pub low-line : (ws : List ℕ) (n : ℕ) (v c : Pair) (m0 free sure k : ℕ) → Counting ws n v c m0 → (without (bit_and m0 free) sure ≡ 0 → ⊥)

@@ -5,7 +5,7 @@ ghost use Rattle.std.specs.Prelude.{◌+◌, ◌*◌, ◌<◌, ◌≤◌, length
 ghost use Rattle.logic.specs.Tests.{Decides};
 ghost use Rattle.masks.specs.Steps.{Chosen, Choice};
 ghost use Rattle.queue.specs.Chains.{Chains};
-ghost use Rattle.superior.specs.Superiors.{Source, Taking, TakingAt, Left, Assumed, Without, Hopeless, Picks, Superior};
+ghost use Rattle.superior.specs.Superiors.{Source, Taking, TakingAt, Left, Assumed, Hopeless, Picks, Superior};
 
 use probe::Answer;
 use queue::index::Index;
@@ -17,11 +17,7 @@ pub fn source_at(words: &[u64], n: usize, ranks: &[u64], m: u64, among: u64, t: 
     requires { ((n + 32) * 8 ≤ length words.now) × (length ranks.now ≤ 64) × (a < 64) }
     ensures { Decides result (Source words.now n ranks.now m among t a) }
 {
-    if (among >> a) % 2 == 0 {
-        return false;
-    }
-    let r = masks::lines::reach(words, n, ranks, m, 1 << a);
-    r & t != 0
+    (among >> a) % 2 != 0 && masks::lines::reach(words, n, ranks, m, 1 << a) & t != 0
 }
 
 // The set s with exception a, if that is one of `among` and the lines of m lead from it to a member of t.
@@ -39,9 +35,10 @@ pub fn source_in(
     ensures { Choice (Source words.now n ranks.now m among t) a s result }
 {
     if source_at(words, n, ranks, m, among, t, a) {
-        return s | (1 << a);
+        s | (1 << a)
+    } else {
+        s
     }
-    s
 }
 
 // The exceptions of `among` from which the lines of m lead to a member of t.
@@ -50,10 +47,8 @@ pub fn sources(words: &[u64], n: usize, ranks: &[u64], m: u64, among: u64, t: u6
     ensures { Chosen (Source words.now n ranks.now m among t) 64 result }
 {
     let mut s: u64 = 0;
-    let mut a: u64 = 0;
-    while a < 64 {
+    for a in 0..64 {
         s = source_in(words, n, ranks, m, among, t, a, s);
-        a += 1;
     }
     s
 }
@@ -85,16 +80,10 @@ pub fn taking(words: &[u64], n: usize, ranks: &[u64], index: &Index, rest: Rest,
     requires { (n * 8 ≤ length words.now) × (length ranks.now ≤ 64) × Chains words.now n index.now }
     ensures { Taking words.now n ranks.now rest.bounds s 64 result }
 {
-    let mut a: u64 = 0;
-    while a < 64 {
-        let x = taking_at(words, n, ranks, index, rest, s, a);
-        match x {
-            Answer::Found(v) => {
-                return Answer::Found(v);
-            }
-            Answer::Nothing => {}
+    for a in 0..64 {
+        if let Answer::Found(v) = taking_at(words, n, ranks, index, rest, s, a) {
+            return Answer::Found(v);
         }
-        a += 1;
     }
     Answer::Nothing
 }
@@ -141,14 +130,6 @@ pub fn assumed(words: &[u64], n: usize, ranks: &[u64], index: &Index, rest: Rest
     )
 }
 
-// The set of lines without line j.
-pub fn without(free: u64, j: u64) -> u64
-    requires { j < 64 }
-    ensures { Without free j result }
-{
-    free ^ (free & (1 << j))
-}
-
 // How many lines may be decided before it is asked whether there is any hope.
 const PATIENCE: u32 = 4;
 
@@ -166,12 +147,11 @@ pub fn hopeless(
     requires { ((n + 32) * 8 ≤ length words.now) × (length ranks.now ≤ 64) × Chains words.now n index.now }
     ensures { Hopeless words.now n ranks.now rest.bounds m t result }
 {
-    if u64::count_ones(decided) < PATIENCE {
+    if decided.count_ones() < PATIENCE {
         return false;
     }
     let s = sources(words, n, ranks, m, rest.bounds.hi.taken, t);
-    let x = taking(words, n, ranks, index, rest, s);
-    match x {
+    match taking(words, n, ranks, index, rest, s) {
         Answer::Found(_) => false,
         Answer::Nothing => true,
     }
@@ -182,13 +162,10 @@ pub fn ending(words: &[u64], n: usize, k: u64) -> u64
     requires { (n + 32) * 8 ≤ length words.now }
 {
     let mut e: u64 = 0;
-    let mut j: usize = 0;
-    while j < 32 {
-        let l = masks::masks_at(words, n + j);
-        if l.head.denied & k != 0 {
-            e = e | (1 << (j as u64));
+    for j in 0..32 {
+        if masks::masks_at(words, n + j).head.denied & k != 0 {
+            e |= 1 << j;
         }
-        j += 1;
     }
     e
 }
@@ -200,9 +177,10 @@ pub fn line_to_try(words: &[u64], n: usize, m: u64, k: u64) -> u64
 {
     let near = m & ending(words, n, k);
     if near != 0 {
-        return sets::low(near);
+        sets::low(near)
+    } else {
+        sets::low(m)
     }
-    sets::low(m)
 }
 
 // A view within bounds at rest from whose exceptions P lines and lines lead to a member of t, or none. Of `usable`, the lines of `free` may be
@@ -246,7 +224,7 @@ pub fn superior(
                 return Answer::Nothing;
             }
             let j = line_to_try(words, n, m, t | s);
-            let less = without(free, j);
+            let less = waiting::cleared(free, j);
             let others = left(words, n, ranks, index, rest, s);
             let inner = assumed(words, n, ranks, index, others, j as usize);
             let y = superior(words, n, ranks, index, inner, t, usable, less);
