@@ -81,8 +81,8 @@ module _ (mem : List ℕ) (taken u : ℕ) where
   pub row-not : {k : ℕ} → false ≡ true → FreeRow mem taken u k
   row-not e = absurd (clash e)
 
-  pub row_has : (k : ℕ) (a b : Bool) → Decides a (Contained taken (get_or mem (free_at k) 0)) → not a ≡ false → Decides b (Contained u (get_or mem (free_at k + 1) 0)) → b ≡ true → FreeRow mem taken u k
-  row_has k a b d e f g = record { exceptions = contained-within _ _ (granted d e); lines = contained-within _ _ (f.yes g) }
+  pub row_has : (k : ℕ) (a b : Bool) → Decides a (Contained taken (get_or mem (free_at k) 0)) → a ≡ true → Decides b (Contained u (get_or mem (free_at k + 1) 0)) → b ≡ true → FreeRow mem taken u k
+  row_has k a b d e f g = record { exceptions = contained-within _ _ (d.yes e); lines = contained-within _ _ (f.yes g) }
 
   pub some-row : (k : ℕ) → k < 8 → (r : Bool) → (r ≡ true → FreeRow mem taken u k) → r ≡ true → KnownFree mem taken u
   some-row k h r f e = record { row = k; small = h; has = f e }

@@ -35,10 +35,7 @@ pub fn shut_at(words: &[u64], n: usize, m: u64, s: u64, t: u64, j: usize, b: Bou
         return b;
     }
     let l = masks::masks_at(words, n + j);
-    if l.head.held & s == 0 {
-        return b;
-    }
-    if l.head.denied & t == 0 {
+    if l.head.held & s == 0 || l.head.denied & t == 0 {
         return b;
     }
     fails_body(l, b)
@@ -50,10 +47,8 @@ pub fn shut(words: &[u64], n: usize, m: u64, s: u64, t: u64, b: Bounds) -> Bound
     ensures { Keeps (Shut words.now n m s t) b result }
 {
     let mut o = b;
-    let mut j: usize = 0;
-    while j < masks::lines::LINES {
+    for j in 0..masks::lines::LINES {
         o = shut_at(words, n, m, s, t, j, o);
-        j += 1;
     }
     o
 }
@@ -104,14 +99,12 @@ pub fn by_bans(words: &[u64], n: usize, ranks: &[u64], mem: &Memory, b: Bounds) 
     let sure = masks::lines::lines_in(words, n, b.hi, b.lo);
     let may = masks::lines::lines_in(words, n, b.lo, b.hi);
     let mut o = b;
-    let mut k: usize = 0;
-    while k < memory::BANS {
+    for k in 0..memory::BANS {
         let at = k * 2;
         o = by_ban(words, n, ranks, mem[at], mem[at + 1], sure, may, o);
         if !sets::within(o.lo, o.hi) {
             return o;
         }
-        k += 1;
     }
     o
 }
@@ -132,8 +125,7 @@ pub fn in_turn(
     ensures { (root : BoundsOf) → Right words.now n ranks.now root mem.now → Keeps (StandingView words.now n ranks.now root) rest.bounds result.bounds }
 {
     let mut r = rest;
-    let mut k: u64 = 0;
-    while k < ROUNDS {
+    for _ in 0..ROUNDS {
         let b = r.bounds;
         let o = by_bans(words, n, ranks, mem, b);
         if bounds::unchanged(o, b) {
@@ -144,7 +136,6 @@ pub fn in_turn(
         if !sets::within(r.bounds.lo, r.bounds.hi) {
             return r;
         }
-        k += 1;
     }
     r
 }

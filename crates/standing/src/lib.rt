@@ -246,7 +246,7 @@ pub fn unexceeded_at(
     if (b.lo.taken >> e) % 2 == 1 {
         return true;
     }
-    let c = bounds::with_sets(b, 0, taken ^ (taken & (1 << e)));
+    let c = bounds::with_sets(b, 0, waiting::cleared(taken, e));
     let w = index::among(index, rest.live, b, c);
     !standing(words, n, ranks, index, root, w, c, mem)
 }
@@ -265,12 +265,10 @@ pub fn each_needed(
     requires { ((n + 32) * 8 ≤ length words.now) × (length ranks.now ≤ 64) × Chains words.now n index.now }
     ensures { Right words.now n ranks.now root mem.old → Right words.now n ranks.now root mem.new × Decides result (UnexceededIn words.now n ranks.now root rest.bounds taken) }
 {
-    let mut e: u64 = 0;
-    while e < 64 {
+    for e in 0..64 {
         if !unexceeded_at(words, n, ranks, index, root, rest, mem, taken, e) {
             return false;
         }
-        e += 1;
     }
     true
 }

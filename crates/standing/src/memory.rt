@@ -52,22 +52,17 @@ pub fn free_row(mem: &Memory, taken: u64, lines: u64, k: usize) -> bool
     ensures { result ≡ true → FreeRow mem.now taken lines k }
 {
     let at = FIRST_FREE + k * 2;
-    if !sets::subset(taken, mem[at]) {
-        return false;
-    }
-    sets::subset(lines, mem[at + 1])
+    sets::subset(taken, mem[at]) && sets::subset(lines, mem[at + 1])
 }
 
 // A free row has these exceptions and these lines.
 pub fn known_free(mem: &Memory, taken: u64, lines: u64) -> bool
     ensures { result ≡ true → KnownFree mem.now taken lines }
 {
-    let mut k: usize = 0;
-    while k < FREE {
+    for k in 0..FREE {
         if free_row(mem, taken, lines, k) {
             return true;
         }
-        k += 1;
     }
     false
 }
@@ -77,11 +72,7 @@ pub fn crosses(words: &[u64], n: usize, ranks: &[u64], m: u64, t: u64, s: u64) -
     requires { ((n + 32) * 8 ≤ length words.now) × (length ranks.now ≤ 64) }
     ensures { Decides result (Crosses words.now n ranks.now m t s) }
 {
-    if t == 0 {
-        return false;
-    }
-    let r = masks::lines::reach(words, n, ranks, m, t);
-    r & s != 0
+    t != 0 && masks::lines::reach(words, n, ranks, m, t) & s != 0
 }
 
 // Lines of m that some ban has lead from one of its exceptions to a member of s.
@@ -89,13 +80,11 @@ pub fn known_barred(words: &[u64], n: usize, ranks: &[u64], mem: &Memory, m: u64
     requires { ((n + 32) * 8 ≤ length words.now) × (length ranks.now ≤ 64) }
     ensures { result ≡ true → KnownBarred words.now n ranks.now mem.now m s }
 {
-    let mut k: usize = 0;
-    while k < BANS {
+    for k in 0..BANS {
         let at = k * 2;
         if crosses(words, n, ranks, m & mem[at + 1], mem[at], s) {
             return true;
         }
-        k += 1;
     }
     false
 }

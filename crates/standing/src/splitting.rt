@@ -25,10 +25,8 @@ pub fn entries(words: &[u64], n: usize, m: u64) -> Pair
         held: 0,
         denied: 0,
     };
-    let mut j = 0;
-    while j < lines::LINES {
+    for j in 0..lines::LINES {
         x = with_entries(words, n, m, j, x);
-        j += 1;
     }
     x
 }

@@ -8,16 +8,13 @@ pub returns-then-mem-eq0 : goal.returns-then-mem-eq0
 returns-then-mem-eq0 c = leaves_all _ _ _ _ _
 
 pub loop-k-init : goal.loop-k-init
-loop-k-init c = (omega arith, leaves_all _ _ _ _ _)
+loop-k-init c = leaves_all _ _ _ _ _
 
 pub returns-then-not-within : goal.returns-then-not-within
-returns-then-not-within c = leaves-turn _ _ _ _ _ _ _ c.lines_in-sure.ensures (search rules) _ _ c.loop-k.invariant.1 c.by_ban-o.ensures
-
-pub loop-k-smaller : goal.loop-k-smaller
-loop-k-smaller c = omega arith
+returns-then-not-within c = leaves-turn _ _ _ _ _ _ _ c.lines_in-sure.ensures (search rules) _ _ c.loop-k.invariant c.by_ban-o.ensures
 
 pub loop-k-preserved : goal.loop-k-preserved
-loop-k-preserved c = (omega arith, leaves-turn _ _ _ _ _ _ _ c.lines_in-sure.ensures (search rules) _ _ c.loop-k.invariant.1 c.by_ban-o.ensures)
+loop-k-preserved c = leaves-turn _ _ _ _ _ _ _ c.lines_in-sure.ensures (search rules) _ _ c.loop-k.invariant c.by_ban-o.ensures
 
 pub returns : goal.returns
-returns c = c.loop-k.invariant.1
+returns c = c.loop-k.invariant
