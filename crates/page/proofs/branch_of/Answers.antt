@@ -8,12 +8,6 @@ returns-then-earlier c = branch-before _ _ _ _ _ _ c.requires.0 _ c.value_at-own
 pub returns-then-not-within : goal.returns-then-not-within
 returns-then-not-within c = branch-clash _ _ _ _ _ _ c.requires.0 _ c.value_at-own.ensures _ c.earlier.ensures (search rules) _ c.narrow-rest.ensures _ c.within.ensures (search rules)
 
-pub glimpse-a-requires : goal.glimpse-a-requires
-glimpse-a-requires c = (c.requires.0.suits.rules, c.requires.0.suits.ranked, c.requires.1)
-
-pub given-requires : goal.given-requires
-given-requires c = (omega (arith, c.requires.0.unsettled), omega (arith, c.requires.0.suits.few))
-
 pub returns-in-Nothing : goal.returns-in-Nothing
 returns-in-Nothing c = branch-barren _ _ _ _ _ _ c.requires.0 _ c.value_at-own.ensures _ c.earlier.ensures (search rules) _ c.narrow-rest.ensures (c.glimpse-a.ensures (search rules))
 
