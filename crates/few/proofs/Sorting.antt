@@ -19,7 +19,7 @@ use Rattle.meaning.specs.Order.{Before, Ascending}
 use Rattle.meaning.proofs.Ordered.{before-irreflexive, before-transitive}
 use Rattle.page.specs.Pages.{pair_at, Page}
 use Rattle.page.proofs.Pages.{page-none, page-full, page-one, page-append}
-use Rattle.few.specs.Few.{Sooner, Alike, After, NoLater, Follows, Leads, FirstOf, Sorts, PutSorted}
+use Rattle.few.specs.Few.{Sooner, Alike, After, Ahead, NoLater, Follows, Leads, FirstOf, Sorts, PutSorted}
 
 -- ---- one pair against another
 module _ (store : List ℕ) (k i : ℕ) (h : i < k) where
@@ -31,23 +31,11 @@ module _ (store : List ℕ) (k i : ℕ) (h : i < k) where
         (s.no e (a.taken last i l h) (a.coherent last l) (a.coherent i h));
   }
 
-  pub follows-past : (last : ℕ) → k ≤ last → Follows store k (Some last) i true
-  follows-past last g = record { yes = λ a e l. absurd (omega arith); no = λ a e. absurd (clash (sym e)) }
-
-  pub follows-none : Follows store k None i true
-  follows-none = record { yes = λ a e. tt; no = λ a e. absurd (clash (sym e)) }
-
   pub leads-sooner : (best : ℕ) → best < k → (r : Bool) → Sooner (pair_at store i) (pair_at store best) r → Leads store k i (Some best) r
   leads-sooner best l r s = record {
     yes = λ a e m. s.yes e (a.taken i best h l);
     no = λ a e. (l, ⊎_elim (λ q. inl (sym q)) (λ y. inr y) (s.no e (a.taken i best h l) (a.coherent i h) (a.coherent best l)));
   }
-
-  pub leads-past : (best : ℕ) → k ≤ best → Leads store k i (Some best) true
-  leads-past best g = record { yes = λ a e l. absurd (omega arith); no = λ a e. absurd (clash (sym e)) }
-
-  pub leads-none : Leads store k i None true
-  leads-none = record { yes = λ a e. tt; no = λ a e. absurd (clash (sym e)) }
 
 -- ---- the first of those that are later
 module _ (store : List ℕ) (k : ℕ) (last : Option ℕ) where

@@ -53,7 +53,10 @@ pub fn gather(
     ensures { Gathered words.now n ranks.now b cap place.at place.fuel store.old store.new result }
 {
     let k = place.at;
-    if cap <= k || place.fuel == 0 {
+    if cap <= k {
+        return place;
+    }
+    if place.fuel == 0 {
         return place;
     }
     let fuel = place.fuel - 1;

@@ -1,6 +1,6 @@
 -- What the functions on one statement make, and that bounds narrowed to a value of a statement keep every view that has the value.
 -- The view has the conclusion that the value stands for, and of the two conclusions about the statement no other.
-use Rattle.std.proofs.Common.{◌≤◌, [], ◌∷◌, get_or, ◌≡◌, ℕ, zero, suc, ◌-◌, ◌*◌, ◌%◌, ◌^◌, ◌<◌, Bool, true, false, List, refl, arith}
+use Rattle.std.proofs.Common.{nat_lt, ◌≤◌, [], ◌∷◌, get_or, ◌≡◌, ℕ, zero, suc, ◌-◌, ◌*◌, ◌%◌, ◌^◌, ◌<◌, Bool, true, false, List, refl, arith}
 use Rattle.sets.specs.declared.Pair.{Pair}
 use Rattle.sets.specs.Sets.{member, Apart, without}
 use Rattle.sets.specs.Pairs.{Sub, Off, join_of, minus_of}
@@ -12,6 +12,8 @@ use Rattle.bounds.specs.Singles.{one_of}
 use Rattle.bounds.specs.Sound.{Keeps, into_of, out_of}
 use Rattle.bounds.proofs.Steps.{keeps-less}
 use Rattle.meaning.specs.Order.{value_of, value}
+use Rattle.std.specs.Ordering.{partial_lt}
+use Rattle.page.specs.contracts.ValuePartialOrd.TheImpl.{partial_cmp-value}
 use Rattle.page.specs.declared.Value.{Value}
 use Rattle.page.specs.declared.Value.TheVariants.{Absent, Held, Denied}
 use Rattle.page.specs.Orders.{number, bare, about, said, given}
@@ -43,6 +45,18 @@ number-at zero h v = refl
 number-at (suc zero) h v = refl
 number-at (suc (suc zero)) h v = refl
 number-at (suc (suc (suc k))) h v = absurd (omega arith)
+
+-- The derived order is that of the numbers.
+pub less_is : (v w : Value) (r : Bool) → r ≡ partial_lt partial_cmp-value.it v w → r ≡ nat_lt (number v) (number w)
+less_is Absent Absent r e = e
+less_is Absent Held r e = e
+less_is Absent Denied r e = e
+less_is Held Absent r e = e
+less_is Held Held r e = e
+less_is Held Denied r e = e
+less_is Denied Absent r e = e
+less_is Denied Held r e = e
+less_is Denied Denied r e = e
 
 pub about-is : (i : ℕ) → i - 1 < 64 → ◌≡◌ {A = Pair} (record { taken = 0; held = 1 * 2 ^ (i - 1) % 2 ^ 64; denied = 1 * 2 ^ (i - 1) % 2 ^ 64 }) (about i)
 unfolding about
