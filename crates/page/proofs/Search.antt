@@ -17,7 +17,7 @@ use Rattle.page.specs.Orders.{bare, given, tried, all_from, passes, list_from}
 use Rattle.sets.specs.Pairs.{Sub, flat}
 use Rattle.sets.proofs.Pairs.{sub_trans}
 use Rattle.bounds.specs.Sound.{Keeps}
-use Rattle.page.specs.Pages.{Tests, Picks, Covers, Covered, Fits, Ready, Settled, passing, tried_from, Tried, branch_from, TriedOne, BranchReady, Child, Branched, Listed}
+use Rattle.page.specs.Pages.{Tests, Picks, Covers, Covered, Fits, Ready, Settled, passing, tried_from, Tried, branch_from, TriedOne, BranchReady, Child, Branched, Started, Listed}
 use Rattle.page.proofs.Pages.{page-none, page-full, page-append, page-one}
 use Rattle.page.proofs.General.{both_false, keep-none, keep_append}
 
@@ -192,6 +192,6 @@ module _ (P : Pair → Type 0) (q : Task) (taken : ℕ) (b : Bounds) (t : Bool) 
   pub list_full : at ≤ q.room → q.room ≤ at → Listed P q taken b t at o o at
   list_full h l = record { most = h; page = λ g tg c. page-full q.room at o _ l }
 
-  pub list-settled : (live : Waiting) (hint : Pair) (o' : List ℕ) (r : ℕ) → Settled P q q.statements (record { equal = t; pair = bare taken; bounds = b; live = live; hint = hint }) at o o' r → Listed P q taken b t at o o' r
+  pub list-settled : (d : Node) → Started taken b t d → (o' : List ℕ) (r : ℕ) → Settled P q q.statements d at o o' r → Listed P q taken b t at o o' r
   unfolding list_from
-  list-settled live hint o' r w = record { most = w.most; page = w.page }
+  list-settled d s o' r w = record { most = w.most; page = rw (s.own, s.pair, s.bounds) at w.page }

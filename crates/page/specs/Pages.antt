@@ -134,6 +134,12 @@ pub record Branched (ws ranks : List ℕ) (q : Task) (left w : ℕ) (d : Node) (
       → passing g q (suc left) d (branch_from q left w d) ≡ []
   pub opened : (c : Node) → r ≡ Some c → Child ws ranks q left w d c
 
+-- The node begins a search for the pairs with these exceptions within the bounds b; where t is true it is the point's own.
+pub record Started (exceptions : ℕ) (b : Bounds) (t : Bool) (d : Node) : Type 0 where
+  pub own : d.equal ≡ t
+  pub pair : d.pair ≡ bare exceptions
+  pub bounds : d.bounds ≡ b
+
 -- The page of all pairs with these exceptions that have the property P, where t is true of those later than the point, if none is beyond the bounds b.
 pub record Listed (P : Pair → Type 0) (q : Task) (exceptions : ℕ) (b : Bounds) (t : Bool) (at : ℕ) (o o' : List ℕ) (r : ℕ) : Type 0 where
   pub most : r ≤ q.room

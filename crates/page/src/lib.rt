@@ -11,7 +11,7 @@ ghost use Rattle.probe.specs.declared.Answer.TheVariants.{Nothing};
 ghost use Rattle.meaning.specs.Order.{value as value_of};
 ghost use Rattle.page.specs.Orders.{number, about as about_of, said as said_of, given as given_of};
 ghost use Rattle.sets.specs.Pairs.{flat};
-ghost use Rattle.page.specs.Pages.{pair_at, Giving, ViewGiving, Barren, Fits, BranchReady, Ready, GoneOn, Settled, TriedOne, Branched, Listed};
+ghost use Rattle.page.specs.Pages.{pair_at, Giving, ViewGiving, Barren, Fits, BranchReady, Ready, GoneOn, Settled, TriedOne, Branched, Started, Listed};
 
 use masks::Bounds;
 use probe::Answer;
@@ -377,6 +377,31 @@ pub fn try_value(
     }
 }
 
+// The node that a search for the pairs with these exceptions within the bounds begins with. Its hint is within no bounds.
+pub fn start(taken: u64, rest: Rest, equal: bool) -> Node
+    ensures { Started taken rest.bounds equal result }
+{
+    let bounds = rest.bounds;
+    let live = rest.live;
+    // Kept: a hint that is an Option would make the answer of `glimpse` an Option of an Option, since it may answer with a hint that is none.
+    let hint = Pair {
+        taken: EVERY,
+        held: EVERY,
+        denied: EVERY,
+    };
+    Node {
+        equal,
+        pair: Pair {
+            taken,
+            held: 0,
+            denied: 0,
+        },
+        bounds,
+        live,
+        hint,
+    }
+}
+
 // Puts all views with these exceptions on the page from place `at` on, in the order of pairs until the page is full;
 // where `after` is true only those later than the point, which takes these exceptions. None of those views may be beyond the bounds at rest.
 // Answers the place after them.
@@ -397,23 +422,7 @@ pub fn list_views(
     if task.room <= at {
         return at;
     }
-    let bounds = rest.bounds;
-    let live = rest.live;
-    let node = Node {
-        equal: after,
-        pair: Pair {
-            taken,
-            held: 0,
-            denied: 0,
-        },
-        bounds,
-        live,
-        hint: Pair {
-            taken: EVERY,
-            held: EVERY,
-            denied: EVERY,
-        },
-    };
+    let node = start(taken, rest, after);
     let place = Place { at, dry: 0 };
     settle(words, ranks, index, task, task.statements, node, out, place).at
 }

@@ -1,5 +1,6 @@
 -- Each return of the search makes the page that was promised, and the memory stays right from call to call.
 use Rattle.std.proofs.Common.{◌≡◌, ℕ, ◌+◌, ◌-◌, ◌*◌, ◌<◌, ◌≤◌, Bool, true, false, not, List, [], ◌∷◌, arith}
+use Rattle.std.specs.Prelude.{Option, Some, None}
 use lib.Seq.{sets}
 use Rattle.logic.specs.Tests.{Decides, both}
 use Rattle.logic.proofs.Decide.{decides_not, decides_and, reworded}
@@ -13,12 +14,10 @@ use Rattle.queue.specs.declared.waiting.Waiting.{Waiting}
 use Rattle.admissible.specs.Admissible.{Stands}
 use Rattle.page.specs.declared.Task.{Task}
 use Rattle.page.specs.declared.Node.{Node}
-use Rattle.page.specs.declared.Branch.{Branch}
-use Rattle.page.specs.declared.Branch.TheVariants.{Cut, Open}
 use Rattle.page.specs.Orders.{bare, PartOf}
-use Rattle.page.specs.Pages.{Page, Settled, Tried, TriedOne, Branched, Listed}
+use Rattle.page.specs.Pages.{Page, Settled, Tried, TriedOne, Branched, Started, Listed}
 use Rattle.page.proofs.Listed.{all_listed}
-use Rattle.page.proofs.Search.{finish-equal, finish-not, finish-put, settle-open, settle-last, one-full, one-cut, one-void, one-narrower, try_one, try-last, list_full, list-settled}
+use Rattle.page.proofs.Search.{finish-equal, finish-not, finish-put, settle-open, settle-last, one-full, one-cut, one-void, one-narrower, Trying, trying-none, trying-next, trying-all, list_full, list-settled}
 use Rattle.meaning.specs.Books.{Book, Lawful}
 use Rattle.meaning.specs.Order.{Point}
 use Rattle.meaning.specs.Twins.Verdicts.{view, views, dominated_by}
@@ -73,11 +72,11 @@ module _ (ws ranks : List ℕ) (root : Bounds) (q : Task) where
     pub sift-full : q.room ≤ at → Sifts ws ranks root q w w at (TriedOne Wanted q (left - 1) value d at o o at)
     sift-full l = alone w at _ place (one-full Wanted q left value d at o place l)
 
-    module _ (b : Branch) (br : Branched ws ranks q (left - 1) value d b) where
-      pub sift-cut : b ≡ Cut → Sifts ws ranks root q w w at (TriedOne Wanted q (left - 1) value d at o o at)
+    module _ (b : Option Node) (br : Branched ws ranks q (left - 1) value d b) where
+      pub sift-cut : b ≡ None → Sifts ws ranks root q w w at (TriedOne Wanted q (left - 1) value d at o o at)
       sift-cut e = alone w at _ place (one-cut Wanted q left value d at o place ws ranks (λ v x. x.view) b br e)
 
-      module _ (c : Node) (e : b ≡ Open c) (k : Bounds) (keeps : (u : Bounds) → Right ws q.rules ranks u w → Keeps (StandingView ws q.rules ranks u) c.bounds k) where
+      module _ (c : Node) (e : b ≡ Some c) (k : Bounds) (keeps : (u : Bounds) → Right ws q.rules ranks u w → Keeps (StandingView ws q.rules ranks u) c.bounds k) where
         pub sift-void : (z : Bool) → Decides z (Sub k.lo k.hi) → not z ≡ true → Sifts ws ranks root q w w at (TriedOne Wanted q (left - 1) value d at o o at)
         sift-void z dz ez = record {
           most = place;
@@ -95,16 +94,23 @@ module _ (ws ranks : List ℕ) (root : Bounds) (q : Task) where
         }
 
   module _ (left : ℕ) (d : Node) (at : ℕ) (o w : List ℕ) where
-    pub sift-one : (v : ℕ) → (v ≡ 0 → ⊥) → (r r' : ℕ) (o' o'' w' w'' : List ℕ) → Sifts ws ranks root q w w' r (TriedOne Wanted q left (3 - v) d at o o' r)
-        → Sifts ws ranks root q w' w'' r' (Tried Wanted q left (v - 1) d r o' o'' r') → Sifts ws ranks root q w w'' r' (Tried Wanted q left v d at o o'' r')
-    sift-one v n r r' o' o'' w' w'' s t = record {
-      most = t.most;
-      memory = λ x. t.memory (s.memory x);
-      page = λ x. try_one Wanted q left d at o v n r r' o' o'' (s.page x) (t.page (s.memory x));
+    -- After k of the values: what is put on the page for the others completes the page for all.
+    abbrev pub Sifting : ℕ → ℕ → List ℕ → List ℕ → Type 0
+    Sifting k r o' w' = Sifts ws ranks root q w w' r (Trying Wanted q left d at o k r o')
+
+    pub sifting-none : at ≤ q.room → Sifting 0 at o w
+    sifting-none h = alone w at _ h (trying-none Wanted q left d at o h)
+
+    pub sifting-next : (k r : ℕ) (o' w' : List ℕ) → k < 3 → Sifting k r o' w' → (z : ℕ) → z ≡ k → (r' : ℕ) (o'' w'' : List ℕ)
+        → Sifts ws ranks root q w' w'' r' (TriedOne Wanted q left z d r o' o'' r') → Sifting (k + 1) r' o'' w''
+    sifting-next k r o' w' h f z ez r' o'' w'' s = record {
+      most = s.most;
+      memory = λ x. s.memory (f.memory x);
+      page = λ x. trying-next Wanted q left d at o k r o' h (f.page x) z ez r' o'' (s.page (f.memory x));
     }
 
-    pub sift-alone : (v : ℕ) → v ≡ 1 → (r : ℕ) (o' w' : List ℕ) → Sifts ws ranks root q w w' r (TriedOne Wanted q left 2 d at o o' r) → Sifts ws ranks root q w w' r (Tried Wanted q left v d at o o' r)
-    sift-alone v e r o' w' s = record { most = s.most; memory = s.memory; page = λ x. try-last Wanted q left d at o v e r o' (s.page x) }
+    pub sifting-all : (k r : ℕ) (o' w' : List ℕ) → 3 ≤ k → Sifting k r o' w' → Sifts ws ranks root q w w' r (Tried Wanted q left 3 d at o o' r)
+    sifting-all k r o' w' h f = record { most = f.most; memory = f.memory; page = λ x. trying-all Wanted q left d at o k r o' h (f.page x) }
 
   -- ---- the whole search
   -- Whether a pair is a view that stands, by the definitions.
@@ -129,9 +135,8 @@ module _ (ws ranks : List ℕ) (root : Bounds) (q : Task) where
     in_order : Sifts ws ranks root q w w' r (Listed Wanted q t c after k o o' r) → AllSifted ws ranks root q t c after k w w' o o' r
     in_order s = record { most = s.most; memory = s.memory; part = λ b from a. all-part t c after w b from a k o o' r (s.page a.right) }
 
-    pub sift-settled : (live : Waiting) (hint : Pair)
-        → Sifts ws ranks root q w w' r (Settled Wanted q q.statements (record { equal = after; pair = bare t; bounds = c; live = live; hint = hint }) k o o' r) → AllSifted ws ranks root q t c after k w w' o o' r
-    sift-settled live hint s = in_order (record { most = s.most; memory = s.memory; page = λ x. list-settled Wanted q t c after k o live hint o' r (s.page x) })
+    pub sift-settled : (d : Node) → Started t c after d → Sifts ws ranks root q w w' r (Settled Wanted q q.statements d k o o' r) → AllSifted ws ranks root q t c after k w w' o o' r
+    sift-settled d e s = in_order (record { most = s.most; memory = s.memory; page = λ x. list-settled Wanted q t c after k o d e o' r (s.page x) })
 
   pub sift-none : (t : ℕ) (c : Bounds) (after : Bool) (k : ℕ) (o w : List ℕ) → k ≤ q.room → q.room ≤ k → AllSifted ws ranks root q t c after k w w o o k
   sift-none t c after k o w h l = in_order t c after k o o w w k (alone w k _ h (list_full Wanted q t c after k o h l))
