@@ -9,7 +9,7 @@ ghost use Rattle.few.specs.Few.{most, Gathered, Collected, Sooner, Follows, Lead
 
 use masks::Bounds;
 use page::Task;
-use probe::{Answer, Node};
+use probe::Node;
 use queue::index::Index;
 use queue::waiting::Work;
 use queue::{Rest, index, waiting};
@@ -137,11 +137,11 @@ pub fn collect(
     }
     let a = probe::probe_shaved(words, n, ranks, index, w, rest.bounds);
     match a {
-        Answer::Found(_) => Stored {
+        Some(_) => Stored {
             count: cap,
             visited,
         },
-        Answer::Nothing => Stored { count: 0, visited },
+        None => Stored { count: 0, visited },
     }
 }
 

@@ -15,7 +15,6 @@ use Rattle.bounds.specs.Sound.{Keeps}
 use Rattle.meaning.specs.Order.{value}
 use Rattle.meaning.specs.Twins.Tables.{differs_from}
 use Rattle.queue.specs.declared.waiting.Waiting.{Waiting}
-use Rattle.probe.specs.declared.Answer.TheVariants.{Found, Nothing}
 use Rattle.page.specs.declared.Task.{Task}
 use Rattle.page.specs.declared.Node.{Node}
 use Rattle.std.specs.Prelude.{Option, Some, None}
@@ -128,5 +127,5 @@ module _ (ws ranks : List ℕ) (q : Task) (left w : ℕ) (d : Node) (rd : Branch
           child c y = cc
 
 -- What is found is not nothing.
-pub found-not : (v : Pair) {P : Type 0} → Found v ≡ Nothing → P
+pub found-not : (v : Pair) {P : Type 0} → Some v ≡ None → P
 found-not v e = absurd (let x : ◌≡◌ {A = ℕ} 0 1 = cc in omega arith)

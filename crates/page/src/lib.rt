@@ -7,14 +7,13 @@ ghost use Rattle.logic.specs.Tests.{both};
 ghost use Rattle.masks.specs.Views.{MaskView};
 ghost use Rattle.bounds.specs.Sound.{Keeps};
 ghost use Rattle.queue.specs.Chains.{Chains};
-ghost use Rattle.probe.specs.declared.Answer.TheVariants.{Nothing};
 ghost use Rattle.meaning.specs.Order.{value as value_of};
 ghost use Rattle.page.specs.Orders.{number, about as about_of, said as said_of, given as given_of};
 ghost use Rattle.sets.specs.Pairs.{flat};
 ghost use Rattle.page.specs.Pages.{pair_at, Giving, ViewGiving, Barren, Fits, BranchReady, Ready, GoneOn, Settled, TriedOne, Branched, Started, Listed};
 
+use bounds::Part;
 use masks::Bounds;
-use probe::Answer;
 use queue::index::Index;
 use queue::waiting::Waiting;
 use queue::{Rest, index, waiting};
@@ -97,13 +96,9 @@ pub fn said(i: u64, value: Value) -> Pair
     ensures { result ≡ said_of i (number value) }
 {
     match value {
-        Value::Absent => Pair {
-            taken: 0,
-            held: 0,
-            denied: 0,
-        },
-        Value::Held => bounds::one(bounds::HELD, i - 1),
-        Value::Denied => bounds::one(bounds::DENIED, i - 1),
+        Value::Absent => Pair::EMPTY,
+        Value::Held => bounds::one(Part::Held, i - 1),
+        Value::Denied => bounds::one(Part::Denied, i - 1),
     }
 }
 
@@ -139,7 +134,7 @@ pub fn narrow(
     ensures { Keeps (ViewGiving words.now n ranks.now i (number value)) b result.bounds }
 {
     let c = fixed(b, i, value);
-    if bounds::unchanged(b, c) || !sets::within(c.lo, c.hi) {
+    if b == c || !sets::within(c.lo, c.hi) {
         return Rest { bounds: c, live };
     }
     let w = index::among(index, live, b, c);
@@ -172,12 +167,12 @@ pub fn glimpse(
     live: Waiting,
     b: Bounds,
     hint: Pair,
-) -> Answer
+) -> Option<Pair>
     requires { (n * 8 ≤ length words.now) × (length ranks.now ≤ 64) × Chains words.now n index.now }
-    ensures { result ≡ Nothing → Barren words.now n ranks.now b }
+    ensures { result ≡ None → Barren words.now n ranks.now b }
 {
     if dry < MANY || equal || (sets::within(b.lo, hint) && sets::within(hint, b.hi)) {
-        return Answer::Found(hint);
+        return Some(hint);
     }
     probe::ask(words, n, ranks, index, waiting::none(live), b)
 }
@@ -222,8 +217,8 @@ pub fn branch_of(
         words, task.rules, ranks, index, dry, equal, live, bounds, node.hint,
     );
     match a {
-        Answer::Nothing => None,
-        Answer::Found(hint) => Some(Node {
+        None => None,
+        Some(hint) => Some(Node {
             equal,
             pair: given(node.pair, i, value),
             bounds,
@@ -393,8 +388,7 @@ pub fn start(taken: u64, rest: Rest, equal: bool) -> Node
         equal,
         pair: Pair {
             taken,
-            held: 0,
-            denied: 0,
+            ..Pair::EMPTY
         },
         bounds,
         live,

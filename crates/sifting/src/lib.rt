@@ -61,7 +61,7 @@ pub fn lessened(
     let b = node.bounds;
     let live = node.live;
     let rest = Rest { bounds: b, live };
-    if bounds::unchanged(from, b) {
+    if from == b {
         return rest;
     }
     standing::bans::unbanned(words, n, ranks, index, rest, memory)

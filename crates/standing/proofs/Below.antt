@@ -39,9 +39,9 @@ module _ (ws : List ℕ) (n : ℕ) (ranks : List ℕ) (root b : Bounds) (mem : L
   pub at-sure : bit_of b.lo.taken e ≡ 1 → ToldAt mem true
   at-sure z q = (q, decides-true (record { has = λ v y i s f. omega (arith, i.lo.taken e, bit-lt taken e) }))
 
-  module _ (h : e < 64) (x : ℕ) (ex : e < 64 → x ≡ without taken (2 ^ e)) (c : Bounds) (ec : c ≡ with_sets b 0 x) where
+  module _ (x : ℕ) (ex : x ≡ without taken (2 ^ e)) (c : Bounds) (ec : c ≡ with_sets b 0 x) where
     lacking : c ≡ with_sets b 0 (without taken (2 ^ e))
-    lacking = rw (ex h) at ec
+    lacking = rw ex at ec
 
     -- A view that is found has a subset of taken that lacks e.
     exceeds : (bit_of taken e ≡ 0 → ⊥) → (v : Pair) × MaskView ws n ranks v × In c v × Stands ws n ranks root v → UnexceededAt ws n ranks root b taken e → ⊥

@@ -21,8 +21,7 @@ use Rattle.masks.proofs.Booleans.{decides-true, decides-false}
 use Rattle.masks.proofs.Steps.{common, has, leads-more}
 use Rattle.bounds.specs.Sound.{In}
 use Rattle.admissible.specs.Admissible.{Stands}
-use Rattle.probe.specs.declared.Answer.{Answer}
-use Rattle.probe.specs.declared.Answer.TheVariants.{Found, Nothing}
+use Rattle.std.specs.Prelude.{Option, Some, None}
 use Rattle.superior.proofs.Lines.{one-and}
 use Rattle.superior.specs.Superiors.{Used, Usable, Superior}
 use native.Mathlib.Nat.{le_refl}
@@ -73,7 +72,7 @@ module _ (ws : List ℕ) (n : ℕ) (ranks : List ℕ) where
     })
 
     -- No view within root leads to t by lines of u.
-    pub free-right : root.hi.taken < 2 ^ 64 → (t u : ℕ) (x : Answer) → Superior ws n ranks root t u u x → x ≡ Nothing → RightFree ws n ranks root t u
+    pub free-right : root.hi.taken < 2 ^ 64 → (t u : ℕ) (x : Option Pair) → Superior ws n ranks root t u u x → x ≡ None → RightFree ws n ranks root t u
     free-right h t u x q e v f g = record {
       free = λ w y i d. q.none e w y i d.upper (low w i d.upper d.upper_in) d.upper_in (record {
         lower = d.lower;
@@ -86,7 +85,7 @@ module _ (ws : List ℕ) (n : ℕ) (ranks : List ℕ) where
         low w i a z = ⊎_elim (λ (l : a < 64). l) (λ (l : 64 ≤ a). let p = i.hi.taken a in let o = bit-over root.hi.taken 64 a h l in absurd (omega arith)) (lt-or-le a 64)
 
     -- A view within root that leads by lines whose steps rank in v dominates it.
-    pub found-falls : (v : Pair) (u : ℕ) → Ranked ws n v u → (x : Answer) → Superior ws n ranks root v.taken u u x → (w : Pair) → x ≡ Found w → Stands ws n ranks root v → ⊥
+    pub found-falls : (v : Pair) (u : ℕ) → Ranked ws n v u → (x : Option Pair) → Superior ws n ranks root v.taken u u x → (w : Pair) → x ≡ Some w → Stands ws n ranks root v → ⊥
     found-falls v u k x q w e s =
         let f = q.found w e in
         let d = f.2.2 in
@@ -147,8 +146,8 @@ pub some-ban : (ws : List ℕ) (n : ℕ) (ranks : List ℕ) (mem : List ℕ) (m 
 some-ban ws n ranks mem m s k h r d e = record { row = k; small = h; has = d.yes e }
 
 -- ---- a search, and the memory after it
-module _ (ws : List ℕ) (n : ℕ) (ranks : List ℕ) (root : Bounds) (t u : ℕ) (mem : List ℕ) (x : Answer) (p : Superior ws n ranks root t u u x) (mem' : List ℕ) where
-  pub searched-found : (w : Pair) → x ≡ Found w → (l : ℕ) → Ranked ws n w l → Banned mem mem' w.taken l → Searched ws n ranks root t u mem mem' false
+module _ (ws : List ℕ) (n : ℕ) (ranks : List ℕ) (root : Bounds) (t u : ℕ) (mem : List ℕ) (x : Option Pair) (p : Superior ws n ranks root t u u x) (mem' : List ℕ) where
+  pub searched-found : (w : Pair) → x ≡ Some w → (l : ℕ) → Ranked ws n w l → Banned mem mem' w.taken l → Searched ws n ranks root t u mem mem' false
   searched-found w e l k b =
       let f = p.found w e in
       record {
@@ -157,7 +156,7 @@ module _ (ws : List ℕ) (n : ℕ) (ranks : List ℕ) (root : Bounds) (t u : ℕ
         falls = λ q v et k s. found-falls ws n ranks root v u k x (rw et p) w e s;
       }
 
-  pub searched-none : root.hi.taken < 2 ^ 64 → x ≡ Nothing → Freed mem mem' t u → Searched ws n ranks root t u mem mem' true
+  pub searched-none : root.hi.taken < 2 ^ 64 → x ≡ None → Freed mem mem' t u → Searched ws n ranks root t u mem mem' true
   searched-none h e b =
       let f = free-right ws n ranks root h t u x p e in
       record { right = λ r. b.right ws n ranks root r f; free = λ q. f; falls = λ q. absurd (clash (sym q)) }

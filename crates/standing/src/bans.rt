@@ -80,8 +80,7 @@ pub fn by_ban(
         b,
         Pair {
             taken: f,
-            held: 0,
-            denied: 0,
+            ..Pair::EMPTY
         },
     );
     let left = may & lines;
@@ -128,7 +127,7 @@ pub fn in_turn(
     for _ in 0..ROUNDS {
         let b = r.bounds;
         let o = by_bans(words, n, ranks, mem, b);
-        if bounds::unchanged(o, b) {
+        if o == b {
             return r;
         }
         let w = index::among(index, r.live, b, o);

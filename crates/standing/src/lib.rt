@@ -9,7 +9,7 @@ ghost use Rattle.standing.specs.Standing.{Ranked, Right, Searched, StandingIn, A
 
 use crate::memory::Memory;
 use masks::Bounds;
-use probe::{Answer, Node, Outcome};
+use probe::{Node, Outcome};
 use queue::index::Index;
 use queue::waiting::Work;
 use queue::{Rest, index, waiting};
@@ -45,13 +45,12 @@ pub fn undominated(
         bounds: root,
         live: waiting::everything(),
     };
-    let x = superior::superior(words, n, ranks, index, rest, taken, u, u);
-    match x {
-        Answer::Found(w) => {
+    match superior::superior(words, n, ranks, index, rest, taken, u, u) {
+        Some(w) => {
             memory::forbid(mem, w.taken, ranking(words, n, w));
             false
         }
-        Answer::Nothing => {
+        None => {
             memory::allow(mem, taken, u);
             true
         }
@@ -246,7 +245,7 @@ pub fn unexceeded_at(
     if (b.lo.taken >> e) % 2 == 1 {
         return true;
     }
-    let c = bounds::with_sets(b, 0, waiting::cleared(taken, e));
+    let c = bounds::with_sets(b, 0, sets::cleared(taken, e));
     let w = index::among(index, rest.live, b, c);
     !standing(words, n, ranks, index, root, w, c, mem)
 }

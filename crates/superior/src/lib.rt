@@ -7,7 +7,7 @@ ghost use Rattle.masks.specs.Steps.{Chosen, Choice};
 ghost use Rattle.queue.specs.Chains.{Chains};
 ghost use Rattle.superior.specs.Superiors.{Source, Taking, TakingAt, Left, Assumed, Hopeless, Picks, Superior};
 
-use probe::Answer;
+use bounds::Part;
 use queue::index::Index;
 use queue::{Rest, index, waiting};
 use sets::Pair;
@@ -62,30 +62,37 @@ pub fn taking_at(
     rest: Rest,
     s: u64,
     a: u64,
-) -> Answer
+) -> Option<Pair>
     requires { (n * 8 ≤ length words.now) × (length ranks.now ≤ 64) × (a < 64) × Chains words.now n index.now }
     ensures { TakingAt words.now n ranks.now rest.bounds s a result }
 {
     if (s >> a) % 2 == 0 {
-        return Answer::Nothing;
+        return None;
     }
     let b = rest.bounds;
-    let c = bounds::into(b, bounds::one(bounds::TAKEN, a));
+    let c = bounds::into(b, bounds::one(Part::Taken, a));
     let w = index::among(index, rest.live, b, c);
     probe::ask(words, n, ranks, index, w, c)
 }
 
 // A view within the bounds that takes one of the exceptions of s, or none.
-pub fn taking(words: &[u64], n: usize, ranks: &[u64], index: &Index, rest: Rest, s: u64) -> Answer
+pub fn taking(
+    words: &[u64],
+    n: usize,
+    ranks: &[u64],
+    index: &Index,
+    rest: Rest,
+    s: u64,
+) -> Option<Pair>
     requires { (n * 8 ≤ length words.now) × (length ranks.now ≤ 64) × Chains words.now n index.now }
     ensures { Taking words.now n ranks.now rest.bounds s 64 result }
 {
     for a in 0..64 {
-        if let Answer::Found(v) = taking_at(words, n, ranks, index, rest, s, a) {
-            return Answer::Found(v);
+        if let Some(v) = taking_at(words, n, ranks, index, rest, s, a) {
+            return Some(v);
         }
     }
-    Answer::Nothing
+    None
 }
 
 // The bounds without the exceptions of s, at rest.
@@ -98,8 +105,7 @@ pub fn left(words: &[u64], n: usize, ranks: &[u64], index: &Index, rest: Rest, s
         b,
         Pair {
             taken: s,
-            held: 0,
-            denied: 0,
+            ..Pair::EMPTY
         },
     );
     queue::propagate(
@@ -151,10 +157,7 @@ pub fn hopeless(
         return false;
     }
     let s = sources(words, n, ranks, m, rest.bounds.hi.taken, t);
-    match taking(words, n, ranks, index, rest, s) {
-        Answer::Found(_) => false,
-        Answer::Nothing => true,
-    }
+    taking(words, n, ranks, index, rest, s).is_none()
 }
 
 // The lines that end in a member of k. No contract depends on this.
@@ -194,7 +197,7 @@ pub fn superior(
     t: u64,
     usable: u64,
     free: u64,
-) -> Answer
+) -> Option<Pair>
     requires { ((n + 32) * 8 ≤ length words.now) × (length ranks.now ≤ 64) × Chains words.now n index.now }
     ensures { Superior words.now n ranks.now rest.bounds t usable free result }
 {
@@ -202,36 +205,32 @@ pub fn superior(
     let lo = b.lo;
     let hi = b.hi;
     if !sets::within(lo, hi) {
-        return Answer::Nothing;
+        return None;
     }
     let sure = masks::lines::lines_in(words, n, hi, lo) & usable;
     let may = masks::lines::lines_in(words, n, lo, hi) & free;
     let far = masks::lines::reach(words, n, ranks, sure | may, hi.taken);
     if far & t == 0 {
-        return Answer::Nothing;
+        return None;
     }
     let s = sources(words, n, ranks, sure, hi.taken, t);
-    let x = taking(words, n, ranks, index, rest, s);
-    match x {
-        Answer::Found(v) => Answer::Found(v),
-        Answer::Nothing => {
-            let m = may ^ (may & sure);
-            if m == 0 {
-                return Answer::Nothing;
-            }
-            let decided = usable ^ (usable & free);
-            if hopeless(words, n, ranks, index, rest, sure | may, t, decided) {
-                return Answer::Nothing;
-            }
-            let j = line_to_try(words, n, m, t | s);
-            let less = waiting::cleared(free, j);
-            let others = left(words, n, ranks, index, rest, s);
-            let inner = assumed(words, n, ranks, index, others, j as usize);
-            let y = superior(words, n, ranks, index, inner, t, usable, less);
-            match y {
-                Answer::Found(v) => Answer::Found(v),
-                Answer::Nothing => superior(words, n, ranks, index, others, t, usable, less),
-            }
-        }
+    if let Some(v) = taking(words, n, ranks, index, rest, s) {
+        return Some(v);
     }
+    let m = may ^ (may & sure);
+    if m == 0 {
+        return None;
+    }
+    let decided = usable ^ (usable & free);
+    if hopeless(words, n, ranks, index, rest, sure | may, t, decided) {
+        return None;
+    }
+    let j = line_to_try(words, n, m, t | s);
+    let less = sets::cleared(free, j);
+    let others = left(words, n, ranks, index, rest, s);
+    let inner = assumed(words, n, ranks, index, others, j as usize);
+    if let Some(v) = superior(words, n, ranks, index, inner, t, usable, less) {
+        return Some(v);
+    }
+    superior(words, n, ranks, index, others, t, usable, less)
 }

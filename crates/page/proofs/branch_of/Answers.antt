@@ -8,8 +8,8 @@ returns-then-earlier c = branch-before _ _ _ _ _ _ c.requires.0 _ c.value_at-own
 pub returns-then-not-within : goal.returns-then-not-within
 returns-then-not-within c = branch-clash _ _ _ _ _ _ c.requires.0 _ c.value_at-own.ensures _ c.earlier.ensures (search rules) _ c.narrow-rest.ensures _ c.within.ensures (search rules)
 
-pub returns-in-Nothing : goal.returns-in-Nothing
-returns-in-Nothing c = branch-barren _ _ _ _ _ _ c.requires.0 _ c.value_at-own.ensures _ c.earlier.ensures (search rules) _ c.narrow-rest.ensures (c.glimpse-a.ensures (search rules))
+pub returns-in-None : goal.returns-in-None
+returns-in-None c = branch-barren _ _ _ _ _ _ c.requires.0 _ c.value_at-own.ensures _ c.earlier.ensures (search rules) _ c.narrow-rest.ensures (c.glimpse-a.ensures (search rules))
 
-pub returns-in-Found : goal.returns-in-Found
-returns-in-Found c = branch-open _ _ _ _ _ _ c.requires.0 _ c.value_at-own.ensures _ c.earlier.ensures (search rules) _ c.narrow-rest.ensures _ _ _ _ c.still-equal.ensures c.given.ensures
+pub returns-in-Some : goal.returns-in-Some
+returns-in-Some c = branch-open _ _ _ _ _ _ c.requires.0 _ c.value_at-own.ensures _ c.earlier.ensures (search rules) _ c.narrow-rest.ensures _ _ _ _ c.still-equal.ensures c.given.ensures
