@@ -8,7 +8,6 @@ ghost use Rattle.queue.specs.Chains.{Chains};
 ghost use Rattle.admissible.specs.Admissible.{Stands};
 ghost use Rattle.standing.specs.Standing.{Right, Failing, ShutAt, Shut, Spared, StandingView, Unbanned};
 
-use crate::memory;
 use crate::memory::Memory;
 use masks::{Bounds, Masks};
 use queue::index::Index;
@@ -92,15 +91,14 @@ pub fn by_bans(words: &[u64], n: usize, ranks: &[u64], mem: &Memory, b: Bounds) 
     requires { ((n + 32) * 8 ≤ length words.now) × (length ranks.now ≤ 64) }
     ensures { (root : BoundsOf) → Right words.now n ranks.now root mem.now → Keeps (Stands words.now n ranks.now root) b result }
 {
-    if mem[memory::NEXT_BAN] == 0 {
+    if mem.next_ban == 0 {
         return b;
     }
     let sure = masks::lines::lines_in(words, n, b.hi, b.lo);
     let may = masks::lines::lines_in(words, n, b.lo, b.hi);
     let mut o = b;
-    for k in 0..memory::BANS {
-        let at = k * 2;
-        o = by_ban(words, n, ranks, mem[at], mem[at + 1], sure, may, o);
+    for ban in &mem.bans {
+        o = by_ban(words, n, ranks, ban.taken, ban.lines, sure, may, o);
         if !sets::within(o.lo, o.hi) {
             return o;
         }

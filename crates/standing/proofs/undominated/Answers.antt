@@ -3,7 +3,7 @@ use borrow.Author.Rules.{rules}
 use Rattle.standing.proofs.undominated.Goals as goal
 
 pub returns-in-Some : goal.returns-in-Some
-returns-in-Some c = searched-found _ _ _ _ _ _ _ _ c.superior-x.ensures _ _ (search rules) _ c.ranking.ensures c.forbid.ensures
+returns-in-Some c = searched-found _ _ _ _ _ _ _ _ c.superior.ensures _ _ (search rules) _ c.ranking.ensures c.forbid.ensures
 
 pub returns-in-None : goal.returns-in-None
-returns-in-None c = searched-none _ _ _ _ _ _ _ _ c.superior-x.ensures _ (search rules) (search rules) c.allow.ensures
+returns-in-None c = searched-none _ _ _ _ _ _ _ _ c.superior.ensures _ (search rules) (search rules) c.allow.ensures
