@@ -1,7 +1,7 @@
 // The views with one set of exceptions, in the order of pairs, from a point on, into a lent slice until it is full.
 #![tactic(auto)]
 
-ghost use Rattle.std.specs.Prelude.{◌≡◌, ◌+◌, ◌-◌, ◌*◌, ◌<◌, ◌≤◌, [], ◌∷◌, length, ◌==◌, nat_lt};
+ghost use Rattle.std.specs.Prelude.{None, ◌≡◌, ◌+◌, ◌-◌, ◌*◌, ◌<◌, ◌≤◌, [], ◌∷◌, length, ◌==◌, nat_lt};
 ghost use Rattle.std.proofs.lemmas.List.Edits.{sets};
 ghost use Rattle.logic.specs.Tests.{both};
 ghost use Rattle.masks.specs.Views.{MaskView};
@@ -213,19 +213,17 @@ pub fn branch_of(
         return None;
     }
     let equal = still(node.equal, value, own);
-    let a = glimpse(
+    let hint = glimpse(
         words, task.rules, ranks, index, dry, equal, live, bounds, node.hint,
-    );
-    match a {
-        None => None,
-        Some(hint) => Some(Node {
-            equal,
-            pair: given(node.pair, i, value),
-            bounds,
-            live,
-            hint,
-        }),
-    }
+    )?;
+    let pair = given(node.pair, i, value);
+    Some(Node {
+        equal,
+        pair,
+        bounds,
+        live,
+        hint,
+    })
 }
 
 // Writes the pair at place `at`.
