@@ -176,6 +176,7 @@ pub fn follows(store: &[u64], k: usize, last: Option<usize>, i: usize) -> bool
 }
 
 // Of the first k pairs the one at place i comes before the one at place `best`, if there is one.
+// Kept: one function for this and `follows` would take which of the two places comes first as a flag, or a closure with a `requires` of its own.
 pub fn leads(store: &[u64], k: usize, i: usize, best: Option<usize>) -> bool
     requires { (k * 3 ≤ length store.now) × (i < k) }
     ensures { Leads store.now k i best result }

@@ -227,6 +227,7 @@ pub fn branch_of(
 }
 
 // Writes the pair at place `at`.
+// Kept: the C interface lends a page as words, three to a pair (`bantameasel_first_page`), so a page is no slice of pairs.
 pub fn put(out: &mut [u64], at: usize, p: Pair)
     requires { at * 3 + 3 ≤ length out.old }
     ensures { out.new ≡ sets out.old (at * 3) (flat (p ∷ [])) }
