@@ -68,6 +68,8 @@ pub fn lessened(
 }
 
 // Settles the last `left` statements: puts the views that come from the node and stand on the page, in order, and answers the place after them.
+// Kept: one function for this and `page::settle` would take a trait for the property, the memory, the last test and the narrowing, of which `page` needs
+// the test alone; `page::settle` besides passes over settled statements.
 #[cycle(settle_try_value)]
 pub fn settle(
     words: &[u64],

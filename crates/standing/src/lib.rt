@@ -124,6 +124,7 @@ pub fn search(
 const FUEL: u64 = 256;
 
 // The same search, which visits at most `fuel` nodes.
+// Kept: one function for this and `search` would make the fuel an Option, and `search` would have an answer `Stopped` that never comes.
 pub fn attempt(
     words: &[u64],
     n: usize,
@@ -251,6 +252,7 @@ pub fn unexceeded_at(
 }
 
 // No view within bounds at rest that stands has a proper subset of `taken`: for each member there is none without it.
+// Kept: one function for this and `admissible::each_needed` would take a closure that changes the memory, with a `requires` of its own.
 pub fn each_needed(
     words: &[u64],
     n: usize,
