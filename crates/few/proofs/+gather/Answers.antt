@@ -5,12 +5,6 @@ use Rattle.few.proofs.Gathering.{store-again, gathered-full, gathered-dry, gathe
 use Prim.Native.Nat.{◌<◌}
 use Rattle.few.proofs.+gather.Goals as goal
 
-pub returns-then-cap-k : goal.returns-then-cap-k
-returns-then-cap-k t c = gathered-full _ _ _ _ _ _ _ (search rules) (search rules)
-
-pub returns-then-place-eq0 : goal.returns-then-place-eq0
-returns-then-place-eq0 t c = gathered-dry _ _ _ _ _ _ _ (search rules) (search rules)
-
 pub gather-j-requires : goal.gather-j-requires
 gather-j-requires t c = let h = out-less c.visit-x.ensures _ _ _ c.in-Open.is _ c.out-o.ensures in (omega (arith, c.decreases), (c.requires.0, c.requires.1, c.requires.2, c.requires.3, c.requires.4))
 
