@@ -1,8 +1,7 @@
 use borrow.Author.Rules.{rules}
 use native.Mathlib.Omega.{arith}
 use Rattle.probe.proofs.Halves.{out-less, into_less}
-use Rattle.few.proofs.Gathering.{store-again, gathered-full, gathered-dry, gathered-view, gathered-empty, gathered-both}
-use Prim.Native.Nat.{◌<◌}
+use Rattle.few.proofs.Gathering.{store-again, gathered-view, gathered-empty, gathered-both}
 use Rattle.few.proofs.+gather.Goals as goal
 
 pub gather-j-requires : goal.gather-j-requires

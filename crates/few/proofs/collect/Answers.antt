@@ -1,4 +1,4 @@
-use Rattle.few.proofs.Listing.{collected-is, collected-full, collected-found, collected-nothing}
+use Rattle.few.proofs.Listing.{collected-is, collected-full, collected-nothing}
 use borrow.Author.Rules.{rules}
 use Rattle.few.proofs.collect.Goals as goal
 

@@ -1,7 +1,7 @@
-use Rattle.std.proofs.Common.{◌+◌, ◌-◌, ◌*◌, ◌<◌, arith, rules}
+use Rattle.std.proofs.Common.{rules}
 use Rattle.page.proofs.Ends.{settle-ahead}
-use Rattle.page.proofs.Statements.{number-most, number-at}
-use Rattle.page.proofs.Search.{settle-open, settle-last, ready-again, ready-fewer, branch-ready, child-ready, one-full, one-cut, one-open, trying-none, trying-next, trying-all}
+use Rattle.page.proofs.Statements.{number-at}
+use Rattle.page.proofs.Search.{settle-open, settle-last, one-full, one-cut, one-open, trying-next, trying-all}
 use Rattle.page.proofs.+settle_try_value.Goals as goal
 
 pub settle-returns-then-a-eq0 : goal.settle-returns-then-a-eq0

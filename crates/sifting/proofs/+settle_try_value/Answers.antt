@@ -1,7 +1,6 @@
-use Rattle.std.proofs.Common.{◌-◌, ◌*◌, ◌<◌, arith, rules}
-use Rattle.page.proofs.Statements.{number-most, number-at}
-use Rattle.page.proofs.Search.{ready-again, branch-ready, child-ready}
-use Rattle.sifting.proofs.Sifting.{sift-open, sift-last, sift-full, sift-cut, sift-void, sift-narrower, sifting-none, sifting-next, sifting-all}
+use Rattle.std.proofs.Common.{rules}
+use Rattle.page.proofs.Statements.{number-at}
+use Rattle.sifting.proofs.Sifting.{sift-open, sift-last, sift-full, sift-cut, sift-void, sift-narrower, sifting-next, sifting-all}
 use Rattle.sifting.proofs.+settle_try_value.Goals as goal
 
 pub settle-returns-then-left-eq0 : goal.settle-returns-then-left-eq0

@@ -1,9 +1,8 @@
 use mathlib.Core.Path.{refl}
 use native.Mathlib.Omega.{arith}
 use borrow.Author.Rules.{rules}
-use Rattle.standing.proofs.Attempting.{says_nothing, tried-view, tried-fallen, tried-empty, tried-void, tried-out, tried-into}
+use Rattle.standing.proofs.Attempting.{tried-fallen, tried-empty, tried-void, tried-out, tried-into}
 use Rattle.standing.proofs.Halving.{less-out, less-into, opened-anew}
-use Prim.Native.Nat.{◌<◌}
 use Rattle.standing.proofs.+attempt.Goals as goal
 
 pub returns-then-not-within : goal.returns-then-not-within

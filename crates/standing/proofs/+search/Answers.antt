@@ -2,7 +2,6 @@ use mathlib.Core.Path.{refl}
 use native.Mathlib.Omega.{arith}
 use borrow.Author.Rules.{rules}
 use Rattle.standing.proofs.Halving.{told-view, told-empty, told-void, told-out, told-into, less-out, less-into, opened-anew}
-use Prim.Native.Nat.{◌<◌}
 use Rattle.standing.proofs.+search.Goals as goal
 
 pub returns-then-not-within : goal.returns-then-not-within

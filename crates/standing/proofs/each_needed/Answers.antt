@@ -1,7 +1,5 @@
 use borrow.Author.Rules.{rules}
-use native.Mathlib.Omega.{arith}
-use Rattle.standing.proofs.Below.{so-far-none, so-far-turn, so-far-lost, so-far-all}
-use Prim.Native.Nat.{◌-◌, ◌≤◌}
+use Rattle.standing.proofs.Below.{so-far-turn, so-far-lost, so-far-all}
 use Rattle.standing.proofs.each_needed.Goals as goal
 
 pub returns-then-not-unexceeded_at : goal.returns-then-not-unexceeded_at

@@ -1,4 +1,4 @@
-use Rattle.standing.proofs.Attempting.{stands-has, stands-lacks, stands-anew}
+use Rattle.standing.proofs.Attempting.{stands-has}
 use Rattle.standing.proofs.standing.Goals as goal
 
 pub returns-in-Has : goal.returns-in-Has

@@ -1,4 +1,4 @@
-use Rattle.standing.proofs.Barring.{leaves_all, leaves-turn}
+use Rattle.standing.proofs.Barring.{leaves-turn}
 use Rattle.standing.proofs.bans.by_bans.Goals as goal
 
 pub returns-then-not-within : goal.returns-then-not-within

@@ -1,4 +1,4 @@
-use Rattle.standing.proofs.Barring.{spares-all, spares-turn}
+use Rattle.standing.proofs.Barring.{spares-turn}
 use Rattle.standing.proofs.bans.in_turn.Goals as goal
 
 pub returns-then-not-within : goal.returns-then-not-within

@@ -1,8 +1,5 @@
 use borrow.Author.Rules.{rules}
-use native.Mathlib.Omega.{arith}
 use Rattle.standing.proofs.Barring.{shut-turn}
-use Rattle.bounds.proofs.Steps.{keeps_same}
-use Prim.Native.Nat.{◌-◌, ◌≤◌}
 use Rattle.standing.proofs.bans.shut.Goals as goal
 
 pub loop-j-preserved : goal.loop-j-preserved

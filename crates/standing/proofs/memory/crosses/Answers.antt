@@ -1,5 +1,5 @@
-use Rattle.std.proofs.Common.{◌≡◌, refl, arith, rules}
-use Rattle.standing.proofs.Domination.{crosses-none, crosses-is}
+use Rattle.std.proofs.Common.{arith}
+use Rattle.standing.proofs.Domination.{crosses-is}
 use Rattle.standing.proofs.memory.crosses.Goals as goal
 
 pub returns-then-t-ne0 : goal.returns-then-t-ne0
