@@ -1,17 +1,17 @@
 -- Why the search by lines is right. A line that counts in a view within bounds may count within them, and one that surely counts counts in it;
 -- a view that satisfies a line's body is within the bounds where it surely counts, and one that does not leads by the other lines.
 use mathlib.Core.Path.{◌≡◌, refl, sym, ◌∙◌}
-use mathlib.Core.Bool.{Bool, true, false, not}
+use mathlib.Core.Bool.{Bool, true, not}
 use mathlib.Core.List.{List}
 use mathlib.Core.Logic.{◌⊎◌, inl, inr, ⊎_elim}
-use Prim.Native.Nat.{ℕ, ◌+◌, ◌-◌, ◌*◌, ◌%◌, ◌^◌, ◌<◌, ◌≤◌}
+use Prim.Native.Nat.{ℕ, ◌+◌, ◌*◌, ◌%◌, ◌^◌, ◌<◌, ◌≤◌}
 use native.Mathlib.Nat.{eq-or-lt_of_le}
 use lib.Dec.{eqb}
 use borrow.Author.Tests.{eqb-true, eq-eqb}
 use native.Mathlib.Omega.{arith}
 use lib.Bits.{bit_and, bit_or, and_le_l}
 use Rattle.logic.specs.Tests.{Decides}
-use Rattle.logic.proofs.Decide.{clash, decides_eq, decides_not, holds-or-not, reworded}
+use Rattle.logic.proofs.Decide.{decides_eq, decides_not, holds-or-not, reworded}
 use Rattle.sets.specs.declared.Pair.{Pair}
 use Rattle.sets.specs.Sets.{bit_of, Apart, without, Lowest}
 use Rattle.sets.specs.Pairs.{Sub, join_of, minus_of}
@@ -29,11 +29,9 @@ use Rattle.bounds.proofs.Singles.{has-place}
 use Rattle.bounds.proofs.Steps.{in-into, in-out}
 use Rattle.masks.specs.Steps.{Of, Reached, Chosen, Counting}
 use Rattle.masks.proofs.Facts.{fires-or-not}
-use Rattle.masks.proofs.Booleans.{decides-false}
 use Rattle.masks.proofs.Steps.{common, has, leads-more}
 use Rattle.probe.specs.Probes.{Probed}
-use Rattle.probe.specs.declared.Answer.{Answer}
-use Rattle.probe.specs.declared.Answer.TheVariants.{Found, Nothing}
+use Rattle.std.specs.Prelude.{Option, Some, None}
 use Rattle.superior.specs.Superiors.{ToMember, Used, Usable, Superior, Source, Taking, TakingAt, Left, Without, Hopeless, Picks}
 
 -- ---- bodies
@@ -67,10 +65,6 @@ to-more : (ws : List ℕ) (n : ℕ) (ranks : List ℕ) (L K : ℕ → Type 0) (t
 to-more ws n ranks L K t a f h = record { lower = h.lower; member = h.member; leads = leads-more ws n ranks L K f h.leads }
 
 module _ (ws : List ℕ) (n : ℕ) (ranks : List ℕ) (b : Bounds) (t usable free : ℕ) where
-  -- Bounds with nothing in them have no view.
-  pub none-void : (Sub b.lo b.hi → ⊥) → Superior ws n ranks b t usable free Nothing
-  none-void f = record { found = λ w e. absurd (let z : ◌≡◌ {A = ℕ} 0 1 = cc in omega arith); none = λ e w v i a g x h. f (sub_trans i.lo i.hi) }
-
   module _ (s0 m0 : ℕ) (cs : Counting ws n b.hi b.lo s0) (cm : Counting ws n b.lo b.hi m0) where
     abbrev sure : ℕ
     sure = bit_and s0 usable
@@ -89,7 +83,7 @@ module _ (ws : List ℕ) (n : ℕ) (ranks : List ℕ) (b : Bounds) (t usable fre
     sure-used w i j e = let o = one-and s0 usable j e in (fires-more _ _ _ _ _ i.hi i.lo (cs.only j o.0).1, o.1)
 
     -- Nothing that may be used leads to t.
-    pub none-far : (r : ℕ) → Reached ws n ranks (bit_or sure may) b.hi.taken r → bit_and r t ≡ 0 → Superior ws n ranks b t usable free Nothing
+    pub none-far : (r : ℕ) → Reached ws n ranks (bit_or sure may) b.hi.taken r → bit_and r t ≡ 0 → Superior ws n ranks b t usable free None
     none-far r f z = record {
       found = λ w e. absurd (let z : ◌≡◌ {A = ℕ} 0 1 = cc in omega arith);
       none = λ e w v i a below x h.
@@ -99,16 +93,16 @@ module _ (ws : List ℕ) (n : ℕ) (ranks : List ℕ) (b : Bounds) (t usable fre
           let k = and_none r t z h.lower in let o = h.member in omega arith;
     }
 
-    pub none-hopeless : (r : Bool) → Hopeless ws n ranks b (bit_or sure may) t r → r ≡ true → Superior ws n ranks b t usable free Nothing
+    pub none-hopeless : (r : Bool) → Hopeless ws n ranks b (bit_or sure may) t r → r ≡ true → Superior ws n ranks b t usable free None
     none-hopeless r f q = record {
       found = λ w e. absurd (let z : ◌≡◌ {A = ℕ} 0 1 = cc in omega arith);
       none = λ e w v i a g x h.
           f.none q w v i a g x (to-more ws n ranks (Usable ws n b w usable free) (Of (bit_or sure may)) t a (λ j k u. or-one sure may j (⊎_elim (λ y. inl y) (λ y. inr y.0) (usable-is w i j k u))) h);
     }
 
-    module _ (s : ℕ) (so : Chosen (Source ws n ranks sure b.hi.taken t) 64 s) (r : Answer) (ta : Taking ws n ranks b s 64 r) where
+    module _ (s : ℕ) (so : Chosen (Source ws n ranks sure b.hi.taken t) 64 s) (r : Option Pair) (ta : Taking ws n ranks b s 64 r) where
       -- A view that takes a source.
-      pub found-source : (w : Pair) → r ≡ Found w → Superior ws n ranks b t usable free (Found w)
+      pub found-source : (w : Pair) → r ≡ Some w → Superior ws n ranks b t usable free (Some w)
       found-source w e = record {
         found = λ u q. let y : w ≡ u = cc in
             let f = ta.found w e in
@@ -116,13 +110,13 @@ module _ (ws : List ℕ) (n : ℕ) (ranks : List ℕ) (b : Bounds) (t usable fre
         none = λ q. absurd (let z : ◌≡◌ {A = ℕ} 0 1 = cc in omega arith);
       }
 
-      module _ (e : r ≡ Nothing) where
+      module _ (e : r ≡ None) where
         -- A view within the bounds takes no source.
         no_source : (w : Pair) → MaskView ws n ranks w → In b w → (a : ℕ) → bit_of w.taken a ≡ 1 → bit_of s a ≡ 1 → ⊥
         no_source w v i a x y = ta.none e w v i a (so.only a y).0 x y
 
         -- All lines that may be used are sure.
-        pub none-sure : without may sure ≡ 0 → Superior ws n ranks b t usable free Nothing
+        pub none-sure : without may sure ≡ 0 → Superior ws n ranks b t usable free None
         none-sure z = record {
           found = λ w q. absurd (let z : ◌≡◌ {A = ℕ} 0 1 = cc in omega arith);
           none = λ q w v i a g x h.
@@ -166,13 +160,13 @@ module _ (ws : List ℕ) (n : ℕ) (ranks : List ℕ) (b : Bounds) (t usable fre
           from_inner : (w : Pair) → In inner w → In b w
           from_inner w i = record { lo = sub_trans lo (sub_trans inner-lo i.lo); hi = sub_trans i.hi (sub_trans inner-hi hi) }
 
-          pub found-inner : (y : Answer) → Superior ws n ranks inner t usable less y → (w : Pair) → y ≡ Found w → Superior ws n ranks b t usable free (Found w)
+          pub found-inner : (y : Option Pair) → Superior ws n ranks inner t usable less y → (w : Pair) → y ≡ Some w → Superior ws n ranks b t usable free (Some w)
           found-inner y f w g = record {
             found = λ u q. let x = f.found u (g ∙ q) in (x.0, from_inner u x.1, x.2);
             none = λ q. absurd (let z : ◌≡◌ {A = ℕ} 0 1 = cc in omega arith);
           }
 
-          pub both_halves : (z x : Answer) → Superior ws n ranks inner t usable less z → z ≡ Nothing → Superior ws n ranks c t usable less x → Superior ws n ranks b t usable free x
+          pub both_halves : (z x : Option Pair) → Superior ws n ranks inner t usable less z → z ≡ None → Superior ws n ranks c t usable less x → Superior ws n ranks b t usable free x
           both_halves z x f nil g = record {
             found = λ u q. let y = g.found u q in (y.0, record { lo = sub_trans lo y.1.lo; hi = sub_trans y.1.hi hi }, y.2);
             none = λ q w v i a below y h.
@@ -190,9 +184,6 @@ module _ (ws : List ℕ) (n : ℕ) (ranks : List ℕ) (b : Bounds) (t usable fre
 
 -- ---- sources
 module _ (ws : List ℕ) (n : ℕ) (ranks : List ℕ) (m among t : ℕ) where
-  pub source-outside : (a : ℕ) → bit_of among a ≡ 0 → Decides false (Source ws n ranks m among t a)
-  source-outside a z = decides-false (λ s. let k = s.0 in omega arith)
-
   pub source-decides : (a r : ℕ) → a < 64 → (bit_of among a ≡ 0 → ⊥) → r < 2 ^ 64 → Reached ws n ranks m (1 * 2 ^ a % 2 ^ 64) r → Decides (not (eqb (bit_and r t) 0)) (Source ws n ranks m among t a)
   source-decides a r l z h f =
       reworded (decides_not (decides_eq (bit_and r t) 0))
@@ -214,10 +205,7 @@ module _ (ws : List ℕ) (n : ℕ) (ranks : List ℕ) (m among t : ℕ) where
 
 -- ---- views that take a source
 module _ (ws : List ℕ) (n : ℕ) (ranks : List ℕ) (b : Bounds) (s : ℕ) where
-  pub taking-off : (a : ℕ) → bit_of s a ≡ 0 → TakingAt ws n ranks b s a Nothing
-  taking-off a z = record { found = λ w e. absurd (let z : ◌≡◌ {A = ℕ} 0 1 = cc in omega arith); none = λ e w v i x y. absurd (omega arith) }
-
-  pub taking-probed : (a : ℕ) (m : Pair) → m ≡ one_of 2 a → (c : Bounds) → c ≡ into_of b m → (r : Answer) → Probed ws n ranks c r → (bit_of s a ≡ 0 → ⊥) → TakingAt ws n ranks b s a r
+  pub taking-probed : (a : ℕ) (m : Pair) → m ≡ one_of 2 a → (c : Bounds) → c ≡ into_of b m → (r : Option Pair) → Probed ws n ranks c r → (bit_of s a ≡ 0 → ⊥) → TakingAt ws n ranks b s a r
   unfolding into_of one_of
   taking-probed a m em c ec r p z = record {
     found = λ w e.
@@ -236,17 +224,14 @@ module _ (ws : List ℕ) (n : ℕ) (ranks : List ℕ) (b : Bounds) (s : ℕ) whe
   pub none_first : NoneTo 0
   none_first w v i a h = absurd (omega arith)
 
-  pub none-turn : (k : ℕ) (r : Answer) → TakingAt ws n ranks b s k r → r ≡ Nothing → NoneTo k → NoneTo (k + 1)
+  pub none-turn : (k : ℕ) (r : Option Pair) → TakingAt ws n ranks b s k r → r ≡ None → NoneTo k → NoneTo (k + 1)
   none-turn k r t e f w v i a h x y = ⊎_elim (λ (q : a ≡ k). t.none e w v i (rw q at x) (rw q at y)) (λ (q : a < k). f w v i a q x y) (eq-or-lt_of_le (omega arith))
 
-  pub taking-found : (k : ℕ) (r : Answer) → TakingAt ws n ranks b s k r → (w : Pair) → r ≡ Found w → Taking ws n ranks b s 64 (Found w)
+  pub taking-found : (k : ℕ) (r : Option Pair) → TakingAt ws n ranks b s k r → (w : Pair) → r ≡ Some w → Taking ws n ranks b s 64 (Some w)
   taking-found k r t w e = record {
     found = λ u q. let y : w ≡ u = cc in let f = t.found w e in rw (← y) (f.0, f.1, (k, f.2, f.3));
     none = λ q. absurd (let z : ◌≡◌ {A = ℕ} 0 1 = cc in omega arith);
   }
-
-  pub taking-none : (k : ℕ) → 64 ≤ k → NoneTo k → Taking ws n ranks b s 64 Nothing
-  taking-none k h f = record { found = λ w e. absurd (let z : ◌≡◌ {A = ℕ} 0 1 = cc in omega arith); none = λ e w v i a l. f w v i a (omega arith) }
 
 -- ---- the halves
 pub left_is : (ws : List ℕ) (n : ℕ) (ranks : List ℕ) (b : Bounds) (s : ℕ) (c o : Bounds) → c ≡ out_of b (record { taken = s; held = 0; denied = 0 }) → Propagated ws n ranks c o → Left ws n ranks b s o
@@ -263,35 +248,27 @@ left_is ws n ranks b s c o e p = record {
     apart : (x y : ℕ) → ((a : ℕ) → bit_of x a ≡ 1 → bit_of y a ≡ 1 → ⊥) → Apart x y
     apart x y f a = by_digits (λ u v. (u ≡ 1 → v ≡ 1 → ⊥) → u + v ≤ 1) (λ g. omega arith) (λ g. omega arith) (λ g. omega arith) (λ g. absurd (g refl refl)) (bit_of x a) (bit_of y a) (bit-lt x a) (bit-lt y a) (f a)
 
-pub assumed-made : (ws : List ℕ) (n j : ℕ) (b : Bounds) (l : Masks) → l ≡ masks_at ws (n + j) → (c : Bounds) → c ≡ out_of b l.bar → {d : Bounds} → d ≡ into_of c l.need → d ≡ into_of (out_of b (masks_at ws (n + j)).bar) (masks_at ws (n + j)).need
-assumed-made ws n j b l e c f {d} g = g ∙ rw (f, e)
-
-pub without_is : (free j : ℕ) → j < 64 → Without free j (without free (1 * 2 ^ j % 2 ^ 64))
-without_is free j l = record { others = others; less = less }
+-- The set without a member.
+pub without_is : (free j r : ℕ) → r ≡ without free (2 ^ j) → Without free j r
+without_is free j r er = rw er (record { others = others; less = less })
   where
-    r : ℕ
-    r = without free (1 * 2 ^ j % 2 ^ 64)
-
-    is_one : 1 * 2 ^ j % 2 ^ 64 ≡ 2 ^ j
-    is_one = shifted j l
-
-    others : (i : ℕ) → bit_of free i ≡ 1 → (i ≡ j → ⊥) → bit_of (without free (1 * 2 ^ j % 2 ^ 64)) i ≡ 1
+    others : (i : ℕ) → bit_of free i ≡ 1 → (i ≡ j → ⊥) → bit_of (without free (2 ^ j)) i ≡ 1
     others i e f =
-        let d = bit-without free (1 * 2 ^ j % 2 ^ 64) i in
-        let q = bit-lt (1 * 2 ^ j % 2 ^ 64) i in
-        ⊎_elim (λ (z : bit_of (1 * 2 ^ j % 2 ^ 64) i ≡ 1). absurd (f (sym (eqb-true j i (sym (bit-single j i) ∙ eq-eqb _ 1 (rw is_one at z))))))
-        (λ (z : bit_of (1 * 2 ^ j % 2 ^ 64) i ≡ 1 → ⊥). let k = zero (bit_of (1 * 2 ^ j % 2 ^ 64) i) q z in omega arith) (holds-or-not (decides_eq (bit_of (1 * 2 ^ j % 2 ^ 64) i) 1))
+        let d = bit-without free (2 ^ j) i in
+        let q = bit-lt (2 ^ j) i in
+        ⊎_elim (λ (z : bit_of (2 ^ j) i ≡ 1). absurd (f (sym (eqb-true j i (sym (bit-single j i) ∙ eq-eqb _ 1 z)))))
+        (λ (z : bit_of (2 ^ j) i ≡ 1 → ⊥). let k = zero (bit_of (2 ^ j) i) q z in omega arith) (holds-or-not (decides_eq (bit_of (2 ^ j) i) 1))
       where
         zero : (u : ℕ) → u < 2 → (u ≡ 1 → ⊥) → u ≡ 0
         zero u h n = omega arith
 
-    less : bit_of free j ≡ 1 → without free (1 * 2 ^ j % 2 ^ 64) < free
+    less : bit_of free j ≡ 1 → without free (2 ^ j) < free
     less e =
-        let own : bit_of (1 * 2 ^ j % 2 ^ 64) j ≡ 1 = rw is_one (eqb-true (bit_of (2 ^ j) j) 1 (bit-single j j ∙ eq-eqb j j refl)) in
-        let d = bit-without free (1 * 2 ^ j % 2 ^ 64) j in
-        let w = sub-le (without free (1 * 2 ^ j % 2 ^ 64)) free (W.minus-sub free (1 * 2 ^ j % 2 ^ 64)) in
-        ⊎_elim (λ z. z) (λ (z : free ≤ without free (1 * 2 ^ j % 2 ^ 64)). let q : without free (1 * 2 ^ j % 2 ^ 64) ≡ free = omega arith in let y : bit_of (without free (1 * 2 ^ j % 2 ^ 64)) j ≡ bit_of free j = rw q in absurd (omega arith))
-        (lt-or-le (without free (1 * 2 ^ j % 2 ^ 64)) free)
+        let own : bit_of (2 ^ j) j ≡ 1 = eqb-true (bit_of (2 ^ j) j) 1 (bit-single j j ∙ eq-eqb j j refl) in
+        let d = bit-without free (2 ^ j) j in
+        let w = sub-le (without free (2 ^ j)) free (W.minus-sub free (2 ^ j)) in
+        ⊎_elim (λ z. z) (λ (z : free ≤ without free (2 ^ j)). let q : without free (2 ^ j) ≡ free = omega arith in let y : bit_of (without free (2 ^ j)) j ≡ bit_of free j = rw q in absurd (omega arith))
+        (lt-or-le (without free (2 ^ j)) free)
 
 -- A line that may count and is not sure is one of the first 32, and may be used.
 pub low-line : (ws : List ℕ) (n : ℕ) (v c : Pair) (m0 free sure k : ℕ) → Counting ws n v c m0 → (without (bit_and m0 free) sure ≡ 0 → ⊥)
@@ -316,9 +293,3 @@ pub picks-near : (m e k : ℕ) → m < 2 ^ 64 → k ≤ 64 → (bit_and m e ≡ 
 picks-near m e k h g z l = record { member = λ y. (one-and m e k (low-member (bit_and m e) k (let w = and_le_l m e in omega arith) g l z)).0 }
 
 -- ---- no hope
-module _ (ws : List ℕ) (n : ℕ) (ranks : List ℕ) (b : Bounds) (m t : ℕ) where
-  pub hope-left : Hopeless ws n ranks b m t false
-  hope-left = record { none = λ e. absurd (clash e) }
-
-  pub no-hope : (s : ℕ) → Chosen (Source ws n ranks m b.hi.taken t) 64 s → (x : Answer) → Taking ws n ranks b s 64 x → x ≡ Nothing → Hopeless ws n ranks b m t true
-  no-hope s so x ta e = record { none = λ q w v i a g y h. ta.none e w v i a g y (so.all a g (has w.taken b.hi.taken a i.hi.taken y, h)) }
