@@ -1,5 +1,6 @@
 -- The test of a view is exact: it is true of the views and of nothing else.
 -- Each `return` decides its proposition from what the tests before it decided; the loops keep what holds of the rules below k.
+use Rattle.std.specs.Prelude.{Some, None}
 use mathlib.Core.Path.{◌≡◌, ◌∙◌}
 use mathlib.Core.Bool.{Bool, true, false, not}
 use mathlib.Core.List.{List}
@@ -59,11 +60,11 @@ module _ (ws : List ℕ) (k : ℕ) (v : Pair) where
     pub rules-turn : MeetsAll ws k v → not w ≡ false → MeetsAll ws (k + 1) v
     rules-turn f q = below_more _ k f (rw e at (granted m q))
 
-    pub rules-lost : (n : ℕ) (d : Pair) → k < n → Beneath ws k v d → not w ≡ true → Swept ws n v (record { ok = false; reached = d })
-    rules-lost n d h b q = record { exact = decides-false (λ f. refused m q (rw e (f k h))); below = beneath-more ws k n v d (omega arith) b }
+    pub rules-lost : (n : ℕ) → k < n → not w ≡ true → Swept ws n v None
+    rules-lost n h q = record { exact = decides-false (λ f. refused m q (rw e (f k h))); below = λ d o. cc }
 
-  pub rules-won : (n : ℕ) (d : Pair) → k ≤ n → n ≤ k → MeetsAll ws k v → Beneath ws k v d → Swept ws n v (record { ok = true; reached = d })
-  rules-won n d l h f b = record { exact = decides-true (λ j i. f j (omega arith)); below = beneath-more ws k n v d l b }
+  pub rules-won : (n : ℕ) (d : Pair) → k ≤ n → n ≤ k → MeetsAll ws k v → Beneath ws k v d → Swept ws n v (Some d)
+  rules-won n d l h f b = record { exact = decides-true (λ j i. f j (omega arith)); below = λ x o. let e : d ≡ x = cc in rw e at (beneath-more ws k n v d l b) }
 
 -- ---- one member
 pub lone-none : (x : ℕ) → eqb x 0 ≡ true → Lone x

@@ -25,10 +25,8 @@ pub fn by_ranks(ranks: &[u64], t: u64, o: u64) -> u64
     ensures { ByRanks ranks.now (length ranks.now) t o result }
 {
     let mut p = o;
-    let mut a = 0;
-    while a < ranks.len() {
-        p = through(1 << (a as u64), ranks[a], t, p);
-        a += 1;
+    for (a, &rank) in ranks.iter().enumerate() {
+        p = through(1 << (a as u64), rank, t, p);
     }
     p
 }
@@ -51,10 +49,8 @@ pub fn by_lines(words: &[u64], n: usize, m: u64, t: u64, o: u64) -> u64
     ensures { ByLines words.now n m 32 t o result }
 {
     let mut p = o;
-    let mut j = 0;
-    while j < LINES {
+    for j in 0..LINES {
         p = by_line(words, n, m, j, t, p);
-        j += 1;
     }
     p
 }
@@ -102,10 +98,8 @@ pub fn lines_in(words: &[u64], n: usize, v: Pair, c: Pair) -> u64
     ensures { Counting words.now n v c result }
 {
     let mut m: u64 = 0;
-    let mut j = 0;
-    while j < LINES {
+    for j in 0..LINES {
         m = line_in(words, n, j, v, c, m);
-        j += 1;
     }
     m
 }
@@ -117,7 +111,7 @@ pub fn twin_in(words: &[u64], n: usize, i: usize, j: usize, m: u64) -> u64
 {
     let a = crate::masks_at(words, n + i);
     let b = crate::masks_at(words, n + j);
-    if sets::same(a.head, b.head) {
+    if a.head == b.head {
         return m | (1 << (j as u64));
     }
     m
@@ -129,10 +123,8 @@ pub fn twins(words: &[u64], n: usize, i: usize) -> u64
     ensures { Chosen (Alike words.now n i) 32 result }
 {
     let mut m: u64 = 0;
-    let mut j = 0;
-    while j < LINES {
+    for j in 0..LINES {
         m = twin_in(words, n, i, j, m);
-        j += 1;
     }
     m
 }
@@ -154,10 +146,8 @@ pub fn mates(words: &[u64], n: usize, m: u64) -> u64
     ensures { Mates words.now n m 32 result }
 {
     let mut o: u64 = 0;
-    let mut i = 0;
-    while i < LINES {
+    for i in 0..LINES {
         o = mates_of(words, n, m, i, o);
-        i += 1;
     }
     o
 }

@@ -4,8 +4,9 @@
 #![tactic(auto)]
 
 ghost use Rattle.std.specs.Prelude.{◌≡◌, false, not, ℕ, ◌<◌, ◌≤◌, eqb};
+ghost use Rattle.std.specs.Iterator.{at_most};
 ghost use Rattle.logic.specs.Tests.{Decides, both, either};
-ghost use Rattle.sets.specs.Sets.{member as member_of, Contained, Separate, size as size_of, Lowest};
+ghost use Rattle.sets.specs.Sets.{member as member_of, Contained, Separate, size as size_of, Lowest, Gives};
 ghost use Rattle.sets.specs.Pairs.{join_of, meet_of, minus_of, Sub, Off};
 
 // The set with no number.
@@ -76,13 +77,74 @@ pub fn low(x: u64) -> u64
     u64::trailing_zeros(x) as u64
 }
 
+// The places of a word's members, one after the other, from the lowest on.
+#[derive(Clone, Copy, Drop)]
+pub struct Places {
+    pub rest: u64,
+}
+
+impl Iterator for Places {
+    type Item = u64;
+
+    ghost next_gives = { λ s r t. Gives s.rest r t.rest };
+
+    ghost remaining = { λ s. at_most s.rest };
+
+    fn next(&mut self) -> Option<u64> {
+        let rest = self.rest;
+        if rest == 0 {
+            return None;
+        }
+        let i = low(rest);
+        self.rest = rest ^ (rest & (1 << i));
+        Some(i)
+    }
+}
+
+// The places of the members of a word.
+pub fn members(x: u64) -> Places
+    ensures { result.rest ≡ x }
+{
+    Places { rest: x }
+}
+
 // A pair (S, T) as document 01 has it: exceptions taken, statements held, statements denied. Programs in C have the same struct.
 #[repr(C)]
-#[derive(Clone, Copy)]
+#[derive(Clone, Copy, PartialEq, Eq)]
 pub struct Pair {
     pub taken: u64,
     pub held: u64,
     pub denied: u64,
+}
+
+impl Pair {
+    // The pair with nothing in it.
+    pub const EMPTY: Pair = Pair {
+        taken: 0,
+        held: 0,
+        denied: 0,
+    };
+
+    // These exceptions alone.
+    pub fn of_exceptions(taken: u64) -> Pair
+        ensures { result ≡ record { taken = taken; held = 0; denied = 0 } }
+    {
+        Pair {
+            taken,
+            ..Pair::EMPTY
+        }
+    }
+
+    // These statements alone.
+    pub fn of_statements(held: u64, denied: u64) -> Pair
+        ensures { result ≡ record { taken = 0; held = held; denied = denied } }
+    {
+        Pair {
+            taken: 0,
+            held,
+            denied,
+        }
+    }
 }
 
 // What is in a or in b.
@@ -139,5 +201,5 @@ pub fn apart(a: Pair, b: Pair) -> bool
 pub fn same(a: Pair, b: Pair) -> bool
     ensures { Decides result (a ≡ b) }
 {
-    (a.held ^ b.held) | (a.denied ^ b.denied) | (a.taken ^ b.taken) == 0
+    a == b
 }
