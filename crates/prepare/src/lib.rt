@@ -27,10 +27,7 @@ fn statement(x: i32) -> u64
     requires { nat_abs x ≤ limit.statements }
     ensures { result ≡ nat_abs x }
 {
-    if x < 0 {
-        return (0 - x) as u64;
-    }
-    x as u64
+    u64::from(x.unsigned_abs())
 }
 
 // The mask of a head or an entry: its conclusion, or nothing where it is 0.
@@ -40,25 +37,13 @@ fn entry_mask(x: i32) -> Pair
 {
     let i = statement(x);
     if i == 0 {
-        return Pair {
-            taken: 0,
-            held: 0,
-            denied: 0,
-        };
+        return Pair::EMPTY;
     }
     let one: u64 = 1 << (i - 1);
     if x < 0 {
-        return Pair {
-            taken: 0,
-            held: 0,
-            denied: one,
-        };
+        return Pair::of_statements(0, one);
     }
-    Pair {
-        taken: 0,
-        held: one,
-        denied: 0,
-    }
+    Pair::of_statements(one, 0)
 }
 
 // The mask of the heads, the needed or the barred entries of a rule or a Q line: those of n numbers from a place of the rows on.
@@ -66,14 +51,8 @@ fn entries_mask(rows: &[i32], from: usize, n: usize) -> Pair
     requires { Readable rows.now from n }
     ensures { result ≡ mask_all (entries_at rows.now from n) }
 {
-    let mut m = Pair {
-        taken: 0,
-        held: 0,
-        denied: 0,
-    };
-    let mut i = n;
-    while i > 0 {
-        i -= 1;
+    let mut m = Pair::EMPTY;
+    for i in (0..n).rev() {
         m = sets::join(entry_mask(rows[from + i]), m);
     }
     m
@@ -88,11 +67,10 @@ fn rule_masks(rows: &[i32], from: usize, heads: usize, own: u64) -> Masks
     let needed = entries_mask(rows, from + heads, Book::ENTRIES);
     let barred = entries_mask(rows, from + heads + Book::ENTRIES, Book::ENTRIES);
     Masks {
-        head: head,
+        head,
         need: Pair {
             taken: own,
-            held: needed.held,
-            denied: needed.denied,
+            ..needed
         },
         bar: barred,
     }
@@ -129,16 +107,8 @@ fn line_masks(rows: &[i32], from: usize) -> Masks
         Book::ENTRIES,
     );
     Masks {
-        head: Pair {
-            taken: 0,
-            held: upper,
-            denied: lower,
-        },
-        need: Pair {
-            taken: 0,
-            held: needed.held,
-            denied: needed.denied,
-        },
+        head: Pair::of_statements(upper, lower),
+        need: needed,
         bar: barred,
     }
 }
@@ -236,9 +206,7 @@ fn lines_from(shape: Shape, rows: &[i32], from: usize, a: u64) -> u64
     ensures { LinesFrom (book_of shape rows.now).preferences a result }
 {
     let mut set = sets::EMPTY;
-    let mut k = shape.preferences;
-    while k > 0 {
-        k -= 1;
+    for k in (0..shape.preferences).rev() {
         let at = from + k * Book::PREFERENCE_NUMBERS;
         let x = named(rows[at]);
         let y = named(rows[at + 1]);
@@ -253,10 +221,8 @@ fn lines(shape: Shape, rows: &[i32], ranks: &mut [u64])
     ensures { LinesTo (book_of shape rows.now).preferences ranks.new (length ranks.old) }
 {
     let from = book::start_of(shape, Book::AT_PREFERENCE);
-    let mut a = 0;
-    while a < ranks.len() {
-        ranks[a] = lines_from(shape, rows, from, a as u64 + 1);
-        a += 1;
+    for (a, rank) in ranks.iter_mut().enumerate() {
+        *rank = lines_from(shape, rows, from, a as u64 + 1);
     }
 }
 
@@ -277,10 +243,8 @@ fn close_through(ranks: &mut [u64], d: usize)
     ensures { ClosedThrough d ranks.old ranks.new (length ranks.old) }
 {
     let onward = ranks[d];
-    let mut a = 0;
-    while a < ranks.len() {
-        ranks[a] = extend(d as u64, onward, ranks[a]);
-        a += 1;
+    for rank in ranks.iter_mut() {
+        *rank = extend(d as u64, onward, *rank);
     }
 }
 
@@ -289,10 +253,8 @@ fn close(ranks: &mut [u64])
     requires { length ranks.old ≤ 64 }
     ensures { ClosedTo ranks.old ranks.new (length ranks.old) }
 {
-    let mut d = 0;
-    while d < ranks.len() {
+    for d in 0..ranks.len() {
         close_through(ranks, d);
-        d += 1;
     }
 }
 
@@ -321,13 +283,9 @@ pub fn root(shape: Shape) -> Bounds
     let all = up_to(shape.statements);
     let taken = up_to(shape.exceptions);
     Bounds {
-        lo: Pair {
-            taken: 0,
-            held: 0,
-            denied: 0,
-        },
+        lo: Pair::EMPTY,
         hi: Pair {
-            taken: taken,
+            taken,
             held: all,
             denied: all,
         },

@@ -10,7 +10,7 @@ pub overflow_shl-one : goal.overflow_shl-one
 overflow_shl-one c = shift_small c.args.x (search rules) _ c.statement-i.ensures
 
 pub returns-then-x-lt0 : goal.returns-then-x-lt0
-returns-then-x-lt0 c = mask_one c.args.x (search rules) _ c.statement-i.ensures true (search rules) (search rules)
+returns-then-x-lt0 c = rw c.of_statements.ensures (mask_one c.args.x (search rules) _ c.statement-i.ensures true (search rules) (search rules))
 
 pub returns : goal.returns
-returns c = mask_one c.args.x (search rules) _ c.statement-i.ensures false (search rules) (search rules)
+returns c = rw c.of_statements-2.ensures (mask_one c.args.x (search rules) _ c.statement-i.ensures false (search rules) (search rules))

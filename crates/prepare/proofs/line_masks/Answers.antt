@@ -11,4 +11,4 @@ pub entries_mask-barred-requires : goal.entries_mask-barred-requires
 entries_mask-barred-requires c = readable-part _ _ (entries_each + entries_each) entries_each entries_each c.requires.entries (omega arith)
 
 pub returns : goal.returns
-returns c = line-is _ _ c.requires _ _ _ _ c.named_set-upper.ensures c.named_set-lower.ensures c.entries_mask-needed.ensures c.entries_mask-barred.ensures
+returns c = rw c.of_statements.ensures (line-is _ _ c.requires _ _ _ _ c.named_set-upper.ensures c.named_set-lower.ensures c.entries_mask-needed.ensures c.entries_mask-barred.ensures)

@@ -7,9 +7,6 @@ use Rattle.prepare.proofs.lines_from.Goals as goal
 pub loop-k-init : goal.loop-k-init
 loop-k-init c = (omega arith, lines-last _ _ _ _)
 
-pub overflow_sub-k : goal.overflow_sub-k
-overflow_sub-k c = omega arith
-
 pub overflow_mul-at : goal.overflow_mul-at
 overflow_mul-at c = omega (arith, row_in _ _ c.requires.0 _ c.loop-k-test.true c.loop-k.invariant.0)
 
