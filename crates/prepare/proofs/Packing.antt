@@ -241,12 +241,12 @@ pub conditionals-few : (s : Shape) (t : List ℤ) → RowsLawful s t → s.condi
 conditionals-few s t w = conditionals-in s w.limits
 
 -- Heads and barred entries take no exception.
-flat : (x : Tagged) → ((masks_of x).head.taken ≡ 0) × ((masks_of x).bar.taken ≡ 0)
+pub flat : (x : Tagged) → ((masks_of x).head.taken ≡ 0) × ((masks_of x).bar.taken ≡ 0)
 unfolding masks_of
 flat x = (none-taken x.rule.heads, none-taken x.rule.body.barred)
 
 -- The two exceptions of a Q line stand in its head, and its barred entries take none.
-line-flat : (q : Conditional) → ((line_of q).head.taken ≡ 0) × ((line_of q).bar.taken ≡ 0)
+pub line-flat : (q : Conditional) → ((line_of q).head.taken ≡ 0) × ((line_of q).bar.taken ≡ 0)
 unfolding line_of
 line-flat q = (refl, none-taken q.body.barred)
 
@@ -254,7 +254,7 @@ pub packed_start : (f : ℕ → Masks) (n : ℕ) (ws : List ℕ) → PackedTo f 
 packed_start f n ws = record { same = refl; row = λ k h. absurd (omega arith); before = λ k h. refl; after = λ i h. refl }
 
 -- Row n + k is put.
-packed-turn : (f : ℕ → Masks) (n k z : ℕ) (old ws us : List ℕ) (x : Masks) → PackedTo f n old ws k → ((f k).head.taken ≡ 0) × ((f k).bar.taken ≡ 0) → x ≡ f k → z ≡ n + k
+pub packed-turn : (f : ℕ → Masks) (n k z : ℕ) (old ws us : List ℕ) (x : Masks) → PackedTo f n old ws k → ((f k).head.taken ≡ 0) × ((f k).bar.taken ≡ 0) → x ≡ f k → z ≡ n + k
     → us ≡ sets ws (z * 8) (words_of x) → (n + k) * 8 + 8 ≤ length ws → PackedTo f n old us (k + 1)
 unfolding words_of
 packed-turn f n k z old ws us x p m g ez eu h = let e : us ≡ sets ws ((n + k) * 8) (words_of x) = rw ez at eu in record {

@@ -2,12 +2,13 @@
 // its preferences as sets.
 #![tactic(auto)]
 
-ghost use Rattle.std.specs.Prelude.{◌≡◌, ◌+◌, ◌-◌, ◌*◌, ◌^◌, ◌<◌, ◌≤◌, List, ℤ, nat_abs, length};
+ghost use Rattle.std.specs.Prelude.{◌≡◌, ℕ, ◌+◌, ◌-◌, ◌*◌, ◌^◌, ◌<◌, ◌≤◌, List, ℤ, nat_abs, length};
 ghost use Rattle.std.proofs.lemmas.List.Edits.{sets as sets_at};
 ghost use Rattle.book.specs.Limits as limit;
 ghost use Rattle.book.specs.Kinds.{kind, entries_each, plain, exception, preference, conditional};
 ghost use Rattle.book.specs.Counts.{count_at, start_of};
 ghost use Rattle.meaning.specs.Meant.{entry, number, entries_at, rule_at, condition_at, book_of};
+ghost use Rattle.masks.specs.declared.Masks.{Masks};
 ghost use Rattle.bridge.specs.Packed.{mask_all, masks_of, line_of, Packs};
 ghost use Rattle.bridge.specs.Ranks.{Names, RanksOf};
 ghost use Rattle.bridge.specs.Rows.{rule_count, RowsLawful};
@@ -139,6 +140,18 @@ fn own_set(q: usize, k: usize) -> u64
     0
 }
 
+// Packs m rules or Q lines into the words from row n on: into row n + k what `row` gives for k, in which neither the head nor what bars it has exceptions.
+fn pack_rows<F: Fn(usize) -> Masks>(words: &mut [u64], n: usize, m: usize, row: F)
+    requires room { (n + m) * 8 ≤ length words.old }
+    requires given { (k : ℕ) → k < m → F.pre row k }
+    requires flat { (k : ℕ) (r : _) → F.post row k r → (r.head.taken ≡ 0) × (r.bar.taken ≡ 0) }
+    ensures { (f : ℕ → Masks) → ((k : ℕ) (r : _) → F.post row k r → r ≡ f k) → PackedTo f n words.old words.new m }
+{
+    for k in 0..m {
+        put(words, n + k, row(k));
+    }
+}
+
 // Packs the rules of the kind at place q, R, O or X lines, into the words from row n on.
 fn pack_kind(shape: Shape, rows: &[i32], q: usize, words: &mut [u64], n: usize)
     requires { RowsLawful shape rows.now × (plain ≤ q) × (q ≤ exception) × ((n + count_at shape q) * 8 ≤ length words.old) × (n ≤ rule_count shape) }
@@ -147,13 +160,10 @@ fn pack_kind(shape: Shape, rows: &[i32], q: usize, words: &mut [u64], n: usize)
     let x = book::kind_at(q);
     let m = book::count_of(shape, q);
     let from = book::start_of(shape, q);
-    let mut k = 0;
-    while k < m {
+    pack_rows(words, n, m, |k| {
         let own = own_set(q, k);
-        let r = rule_masks(rows, from + k * x.numbers, x.heads, own);
-        put(words, n + k, r);
-        k += 1;
-    }
+        rule_masks(rows, from + k * x.numbers, x.heads, own)
+    });
 }
 
 // Packs the Q lines of a book into the rows after those of its rules.
@@ -162,14 +172,13 @@ fn pack_lines(shape: Shape, rows: &[i32], words: &mut [u64])
     ensures { PackedTo (line_row rows.now (start_of shape conditional)) (rule_count shape) words.old words.new shape.conditionals }
 {
     let n = shape.plain + shape.alternatives + shape.exceptions;
-    let m = shape.conditionals;
     let from = book::start_of(shape, Book::AT_CONDITIONAL);
-    let mut k = 0;
-    while k < m {
-        let r = line_masks(rows, from + k * Book::CONDITIONAL_NUMBERS);
-        put(words, n + k, r);
-        k += 1;
-    }
+    pack_rows(
+        words,
+        n,
+        shape.conditionals,
+        |k| line_masks(rows, from + k * Book::CONDITIONAL_NUMBERS),
+    );
 }
 
 // Packs the rules of a book into words, R, O and X lines, and after them its Q lines. Behind the rules the words are lent as zeros: the rows of no line.
