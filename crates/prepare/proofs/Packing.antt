@@ -264,18 +264,5 @@ packed-turn f n k z old ws us x p m g ez eu h = let e : us ≡ sets ws ((n + k) 
   after = λ i l. rw e (sets-outside ws ((n + k) * 8) (words_of x) i (inr (omega arith)) ∙ p.after i (omega arith));
 }
 
-pub packed-rule : (t : List ℤ) (q a n k : ℕ) (old ws us : List ℕ) (o : ℕ) (x : Masks) → PackedTo (rule_row t q a) n old ws k → o ≡ own_of q k
-    → x ≡ masks_of (record { own = o; rule = rule_at (kind q).heads t (a + k * (kind q).numbers) }) → us ≡ sets ws ((n + k) * 8) (words_of x) → (n + k) * 8 + 8 ≤ length ws
-    → PackedTo (rule_row t q a) n old us (k + 1)
-unfolding rule_row
-packed-rule t q a n k old ws us o x p eo ex eu h =
-    packed-turn (rule_row t q a) n k (n + k) old ws us x p (flat (record { own = own_of q k; rule = rule_at (kind q).heads t (a + k * (kind q).numbers) })) (ex ∙ rw eo) refl eu h
-
-pub packed-line : (t : List ℤ) (a n k : ℕ) (old ws us : List ℕ) (x : Masks) → PackedTo (line_row t a) n old ws k → x ≡ line_of (condition_at t (a + k * conditional_numbers))
-    → us ≡ sets ws ((n + k) * 8) (words_of x) → (n + k) * 8 + 8 ≤ length ws → PackedTo (line_row t a) n old us (k + 1)
-unfolding line_row
-packed-line t a n k old ws us x p ex eu h =
-    packed-turn (line_row t a) n k (n + k) old ws us x p (line-flat (condition_at t (a + k * conditional_numbers))) ex refl eu h
-
 pub packed-over : (f : ℕ → Masks) (n k m : ℕ) (old ws : List ℕ) → k ≤ m → m ≤ k → PackedTo f n old ws k → PackedTo f n old ws m
 packed-over f n k m old ws h l p = let e : m ≡ k = omega arith in rw e p

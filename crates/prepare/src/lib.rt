@@ -120,13 +120,15 @@ fn put(words: &mut [u64], k: usize, r: Masks)
     ensures { words.new ≡ sets_at words.old (k * 8) (words_of r) }
 {
     let at = k * WORDS;
-    words[at] = r.head.held;
-    words[at + 1] = r.head.denied;
-    words[at + 2] = r.need.held;
-    words[at + 3] = r.need.denied;
-    words[at + 4] = r.need.taken;
-    words[at + 5] = r.bar.held;
-    words[at + 6] = r.bar.denied;
+    words[at..at + WORDS - 1].copy_from_slice(&[
+        r.head.held,
+        r.head.denied,
+        r.need.held,
+        r.need.denied,
+        r.need.taken,
+        r.bar.held,
+        r.bar.denied,
+    ]);
 }
 
 // The set of its own exception that rule k of the kind at place q has: none for a plain rule.
