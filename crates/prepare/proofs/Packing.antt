@@ -250,9 +250,6 @@ pub line-flat : (q : Conditional) → ((line_of q).head.taken ≡ 0) × ((line_o
 unfolding line_of
 line-flat q = (refl, none-taken q.body.barred)
 
-pub packed_start : (f : ℕ → Masks) (n : ℕ) (ws : List ℕ) → PackedTo f n ws ws 0
-packed_start f n ws = record { same = refl; row = λ k h. absurd (omega arith); before = λ k h. refl; after = λ i h. refl }
-
 -- Row n + k is put.
 pub packed-turn : (f : ℕ → Masks) (n k z : ℕ) (old ws us : List ℕ) (x : Masks) → PackedTo f n old ws k → ((f k).head.taken ≡ 0) × ((f k).bar.taken ≡ 0) → x ≡ f k → z ≡ n + k
     → us ≡ sets ws (z * 8) (words_of x) → (n + k) * 8 + 8 ≤ length ws → PackedTo f n old us (k + 1)
@@ -263,6 +260,3 @@ packed-turn f n k z old ws us x p m g ez eu h = let e : us ≡ sets ws ((n + k) 
   before = λ j l. rw e (put-before ws (n + k) x j (omega arith) ∙ p.before j l);
   after = λ i l. rw e (sets-outside ws ((n + k) * 8) (words_of x) i (inr (omega arith)) ∙ p.after i (omega arith));
 }
-
-pub packed-over : (f : ℕ → Masks) (n k m : ℕ) (old ws : List ℕ) → k ≤ m → m ≤ k → PackedTo f n old ws k → PackedTo f n old ws m
-packed-over f n k m old ws h l p = let e : m ≡ k = omega arith in rw e p

@@ -1,21 +1,9 @@
 use Rattle.std.proofs.Common.{rules, arith, ◌≡◌}
-use Prim.Native.Nat.{◌+◌, ◌*◌, ◌<◌}
-use Rattle.book.specs.Kinds.{kind, exception, entries_each}
-use Rattle.prepare.specs.Packing.{Readable, rule_row}
-use Rattle.prepare.proofs.Packing.{row-readable, row_small, kind-few, rules-few, flat}
+use Prim.Native.Nat.{◌<◌}
+use Rattle.book.specs.Kinds.{exception}
+use Rattle.prepare.specs.Packing.{rule_row}
+use Rattle.prepare.proofs.Packing.{row-readable, row_small, kind-few, flat}
 use Rattle.prepare.proofs.pack_kind.Goals as goal
-
-pub kind_at-x-requires : goal.kind_at-x-requires
-kind_at-x-requires c = let p = c.requires in omega (arith, p.1, p.2)
-
-pub count_of-m-requires : goal.count_of-m-requires
-count_of-m-requires c = let p = c.requires in omega (arith, p.1, p.2)
-
-pub start_of-from-requires : goal.start_of-from-requires
-start_of-from-requires c = let p = c.requires in (omega (arith, p.1, p.2), p.0.limits)
-
-pub pack_rows-requires-clause-room : goal.pack_rows-requires-clause-room
-pack_rows-requires-clause-room c = let p = c.requires in omega (arith, p.3, c.count_of-m.ensures)
 
 pub pack_rows-requires-clause-given : goal.pack_rows-requires-clause-given
 pack_rows-requires-clause-given c = λ k h.

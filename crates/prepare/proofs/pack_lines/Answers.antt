@@ -2,17 +2,8 @@ use Rattle.std.proofs.Common.{rules, refl, arith}
 use Prim.Native.Nat.{◌+◌, ◌*◌}
 use Rattle.book.specs.Kinds.{conditional_numbers}
 use Rattle.prepare.specs.Packing.{LineReadable, line_row}
-use Rattle.prepare.proofs.Packing.{line-readable, line-flat, starts-small, rules-few, conditionals-few}
+use Rattle.prepare.proofs.Packing.{line-readable, line-flat, starts-small, conditionals-few}
 use Rattle.prepare.proofs.pack_lines.Goals as goal
-
-pub overflow_add-n : goal.overflow_add-n
-overflow_add-n c = let w = rules-few _ _ c.requires.0 in omega (arith, w.0, w.1)
-
-pub overflow_add-n-2 : goal.overflow_add-n-2
-overflow_add-n-2 c = let w = rules-few _ _ c.requires.0 in omega (arith, w.0, w.1, w.2)
-
-pub start_of-from-requires : goal.start_of-from-requires
-start_of-from-requires c = (omega arith, c.requires.0.limits)
 
 pub pack_rows-requires-clause-given : goal.pack_rows-requires-clause-given
 pack_rows-requires-clause-given c = λ k h.
