@@ -26,8 +26,6 @@ use Rattle.bridge.proofs.Ranks.{ranks-stepped}
 use Rattle.bridge.proofs.Rows.{rows_named, lines_named}
 use Rattle.prepare.specs.Ranking.{LinesTo, Extended, ClosedThrough, ClosedTo}
 
--- ---- the P rows
-
 -- ---- one set extended
 or-digit : (x y : ℕ) → x < 2 → y < 2 → (max x y ≡ 1) ↔ ((x ≡ 1) ⊎ (y ≡ 1))
 or-digit x y hx hy =
