@@ -1,6 +1,6 @@
 -- A pair with one member: any pair has it whole or not at all, and the highest member of a word makes one.
 -- By cases on the word in which the member stands, from the laws of one place of a word (sets, single).
-use mathlib.Core.Path.{◌≡◌, refl, ap, ◌∙◌}
+use mathlib.Core.Path.{◌≡◌, ap, ◌∙◌}
 use mathlib.Core.Logic.{⊎_elim}
 use Prim.Native.Nat.{ℕ, zero, suc, ◌+◌, ◌-◌, ◌*◌, ◌/◌, ◌^◌, ◌%◌, ◌<◌, ◌≤◌}
 use native.Mathlib.Nat.{le_refl, pow-suc}
@@ -17,20 +17,18 @@ use Rattle.sets.proofs.Pairs.{atom-held, atom-denied, atom-taken}
 use Rattle.bounds.specs.Singles.{word_of, one_of, Place, Picked}
 
 -- ---- the pair made
-module _ (s k : ℕ) (h : k < 64) where
-  pub one-held : s ≡ 0 → ◌≡◌ {A = Pair} (record { taken = 0; held = 1 * 2 ^ k % 2 ^ 64; denied = 0 }) (one_of s k)
+module _ (k : ℕ) (h : k < 64) where
+  pub one-held : ◌≡◌ {A = Pair} (record { taken = 0; held = 1 * 2 ^ k % 2 ^ 64; denied = 0 }) (one_of 0 k)
   unfolding one_of
-  one-held e = rw (e, shifted k h)
+  one-held = rw (shifted k h)
 
-  pub one-denied : s ≡ 1 → ◌≡◌ {A = Pair} (record { taken = 0; held = 0; denied = 1 * 2 ^ k % 2 ^ 64 }) (one_of s k)
+  pub one-denied : ◌≡◌ {A = Pair} (record { taken = 0; held = 0; denied = 1 * 2 ^ k % 2 ^ 64 }) (one_of 1 k)
   unfolding one_of
-  one-denied e = rw (e, shifted k h)
+  one-denied = rw (shifted k h)
 
-pub one-taken : (s k : ℕ) → k < 64 → (s ≡ 0 → ⊥) → (s ≡ 1 → ⊥) → ◌≡◌ {A = Pair} (record { taken = 1 * 2 ^ k % 2 ^ 64; held = 0; denied = 0 }) (one_of s k)
-unfolding one_of
-one-taken zero k h f g = absurd (f refl)
-one-taken (suc zero) k h f g = absurd (g refl)
-one-taken (suc (suc s)) k h f g = rw (shifted k h)
+  pub one-taken : ◌≡◌ {A = Pair} (record { taken = 1 * 2 ^ k % 2 ^ 64; held = 0; denied = 0 }) (one_of 2 k)
+  unfolding one_of
+  one-taken = rw (shifted k h)
 
 -- ---- its laws
 own-place : (k : ℕ) → bit_of (2 ^ k) k ≡ 1

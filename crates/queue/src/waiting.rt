@@ -1,6 +1,5 @@
 // Sets of rules that wait for a step. Which rules wait, no contract depends on: every step is sound.
-ghost use Rattle.std.specs.Prelude.{◌≡◌, ◌^◌, ◌<◌, ◌≤◌};
-ghost use Rattle.sets.specs.Sets.{without as without_of};
+ghost use Rattle.std.specs.Prelude.{◌<◌, IfSome};
 
 use sets::Pair;
 
@@ -34,7 +33,7 @@ pub fn nothing() -> Waiting {
 
 // Every rule waits.
 pub fn everything() -> Waiting {
-    let all = 0xffff_ffff_ffff_ffff;
+    let all = u64::MAX;
     Waiting {
         a: all,
         b: all,
@@ -47,79 +46,59 @@ pub fn everything() -> Waiting {
 pub fn none(live: Waiting) -> Work {
     Work {
         rules: nothing(),
-        asked: Pair {
-            taken: 0,
-            held: 0,
-            denied: 0,
-        },
+        asked: Pair::EMPTY,
         live,
     }
 }
 
 // All is to be done.
 pub fn all() -> Work {
-    let all = 0xffff_ffff_ffff_ffff;
+    let all = u64::MAX;
     Work {
         rules: everything(),
-        asked: Pair {
-            taken: 0,
-            held: all,
-            denied: all,
-        },
+        asked: Pair::of_statements(all, all),
         live: everything(),
     }
 }
 
-// The word without its member at place i.
-pub fn cleared(x: u64, i: u64) -> u64
-    ensures { i < 64 → result ≡ without_of x (2 ^ i) }
-{
-    if i < 64 {
-        return x ^ (x & (1 << i));
-    }
-    x
-}
-
 // The word without its lowest member.
 pub fn fewer(x: u64) -> u64 {
-    cleared(x, sets::low(x))
+    let Some(i) = sets::first(x) else {
+        return x;
+    };
+    sets::cleared(x, i)
 }
 
-// The first rule that waits, 256 if none does.
-pub fn next(t: Waiting) -> u64
-    ensures { result ≤ 256 }
+// The first rule that waits, if one does.
+pub fn next(t: Waiting) -> Option<u64>
+    ensures { IfSome result (λ j. j < 256) }
 {
-    if t.a != 0 {
-        return sets::low(t.a);
+    if let Some(i) = sets::first(t.a) {
+        return Some(i);
     }
-    if t.b != 0 {
-        return 64 + sets::low(t.b);
+    if let Some(i) = sets::first(t.b) {
+        return Some(64 + i);
     }
-    if t.c != 0 {
-        return 128 + sets::low(t.c);
+    if let Some(i) = sets::first(t.c) {
+        return Some(128 + i);
     }
-    if t.d != 0 {
-        return 192 + sets::low(t.d);
+    if let Some(i) = sets::first(t.d) {
+        return Some(192 + i);
     }
-    256
+    None
 }
 
 // The rules of t without rule j.
 pub fn without(t: Waiting, j: u64) -> Waiting {
     let mut o = t;
-    if j < 64 {
-        o.a = cleared(o.a, j);
-        return o;
+    let place = j % 64;
+    match j / 64 {
+        0 => o.a = sets::cleared(o.a, place),
+        1 => o.b = sets::cleared(o.b, place),
+        2 => o.c = sets::cleared(o.c, place),
+        3 => o.d = sets::cleared(o.d, place),
+        _ => {}
     }
-    if j < 128 {
-        o.b = cleared(o.b, j - 64);
-        return o;
-    }
-    if j < 192 {
-        o.c = cleared(o.c, j - 128);
-        return o;
-    }
-    o.d = cleared(o.d, j - 192);
     o
 }
 

@@ -1,15 +1,14 @@
 -- The place of the lowest one of a word: the zeros that trail it.
 use mathlib.Core.Path.{◌≡◌, refl, sym, ap, ◌∙◌}
 use borrow.Author.Tests.{eqb-true, eqb-false, eq-eqb, ne_eqb}
-use Prim.Native.Nat.{ℕ, zero, suc, ◌+◌, ◌*◌, ◌/◌, ◌%◌, ◌^◌, ◌<◌, ◌≤◌}
+use Prim.Native.Nat.{ℕ, zero, suc, ◌+◌, ◌/◌, ◌%◌, ◌^◌, ◌<◌, ◌≤◌}
 use native.Mathlib.Nat.{div-one, mod-lt, mod-eq_of_lt}
 use native.Mathlib.Omega.{arith}
 use lib.Count.{count_trailing_zeros, under}
-use lib.Bits.{bit_and, bit_xor}
 use lib.Dec.{lit<}
 use lib.Pow.{shr-shr, pow_pos}
 use Rattle.sets.specs.Sets.{bit_of, Lowest, without, Taken}
-use Rattle.sets.proofs.Digits.{shifted, bit-mod, bit-zero, bit-single, bit-lt, bit-without, ext}
+use Rattle.sets.proofs.Digits.{bit-mod, bit-zero, bit-single, bit-lt, bit-without, ext}
 use Rattle.sets.proofs.Words.{minus-sub, sub-le}
 
 -- The digits of half a number.
@@ -48,7 +47,7 @@ module _ (x k : ℕ) (l : Lowest x k) where
   lowest-some p h m = let none : k ≡ 64 → ⊥ = λ e. let z = mod-eq_of_lt h in let y = rw e at lowest-mod in omega arith in omega arith
 
 -- ---- a word and its lowest member
-own-digit : (i : ℕ) → bit_of (2 ^ i) i ≡ 1
+pub own-digit : (i : ℕ) → bit_of (2 ^ i) i ≡ 1
 own-digit i = eqb-true (bit_of (2 ^ i) i) 1 (bit-single i i ∙ eq-eqb i i refl)
 
 other-digit : (i j : ℕ) → (j ≡ i → ⊥) → bit_of (2 ^ i) j ≡ 0
@@ -69,14 +68,9 @@ module _ (w w' i : ℕ) (e : w' ≡ without w (2 ^ i)) where
       rw e (omega arith)
 
   -- The others stay.
-  fewer-has : (j : ℕ) → (j ≡ i → ⊥) → bit_of w j ≡ 1 → bit_of w' j ≡ 1
+  pub fewer-has : (j : ℕ) → (j ≡ i → ⊥) → bit_of w j ≡ 1 → bit_of w' j ≡ 1
   fewer-has j f h = let d = bit-without w (2 ^ i) j in let o = other-digit i j f in rw e (omega arith)
 
 -- One step along a word's members.
-pub taken-lowest : (w i : ℕ) → (w ≡ 0 → ⊥) → w < 2 ^ 64 → i ≤ 64 → Lowest w i → Taken w i (bit_xor w (bit_and w (1 * 2 ^ i % 2 ^ 64)))
-taken-lowest w i f h m l =
-    let small : i < 64 = low-some w i f h m l in
-    record { small = small; lowest = l; left = ap (λ (x : ℕ). without w x) (shifted i small) }
-
-pub taken-less : (w i t : ℕ) → Taken w i t → t < w
-taken-less w i t h = fewer-less w t i h.left (h.lowest.member h.small)
+pub taken-less : (s i t : ℕ) → Taken s i t → t < s
+taken-less s i t h = fewer-less s t i h.left (h.lowest.member h.small)

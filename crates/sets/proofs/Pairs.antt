@@ -1,6 +1,6 @@
 -- The laws of sets on the three words of a pair at once: all that the search needs to know of sets.
-use mathlib.Core.Path.{◌≡◌, refl}
-use mathlib.Core.Bool.{Bool, true, ◌&&◌}
+use mathlib.Core.Path.{◌≡◌, refl, ap, ◌∙◌}
+use mathlib.Core.Bool.{Bool, true, false, not, ◌&&◌}
 use borrow.Author.Tests.{eq-eqb}
 use mathlib.Core.Logic.{inl, inr, ⊎_elim}
 use Prim.Native.Nat.{ℕ, ◌^◌}
@@ -45,6 +45,14 @@ equal-is {a} {b} {o} e = rw e (decided yes (λ f. rw f (cc (eq-eqb b.taken b.tak
   where
     yes : (eqb a.taken b.taken && (eqb a.held b.held && eqb a.denied b.denied)) ≡ true → a ≡ b
     yes f = grind arith
+
+-- The same of `!=`.
+pub equal-not : {a b : Pair} {o : Bool} → o ≡ not (eqb a.taken b.taken && (eqb a.held b.held && eqb a.denied b.denied)) → Decides (not o) (a ≡ b)
+equal-not {a} {b} {o} e = equal-is (ap (λ (x : Bool). not x) e ∙ twice (eqb a.taken b.taken && (eqb a.held b.held && eqb a.denied b.denied)))
+  where
+    twice : (x : Bool) → not (not x) ≡ x
+    twice true = refl
+    twice false = refl
 
 -- ---- laws
 pub sub_refl : (a : Pair) → Sub a a

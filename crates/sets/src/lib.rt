@@ -3,10 +3,10 @@
 // proofs (lib.Bits); docs/ARCHITECTURE.md says which crates, and for what.
 #![tactic(auto)]
 
-ghost use Rattle.std.specs.Prelude.{◌≡◌, false, not, ℕ, ◌<◌, ◌≤◌, eqb};
+ghost use Rattle.std.specs.Prelude.{◌≡◌, false, not, ℕ, ◌^◌, ◌<◌, ◌≤◌, eqb, MatchOption};
 ghost use Rattle.std.specs.Iterator.{at_most};
 ghost use Rattle.logic.specs.Tests.{Decides, both, either};
-ghost use Rattle.sets.specs.Sets.{member as member_of, Contained, Separate, size as size_of, Lowest, Gives};
+ghost use Rattle.sets.specs.Sets.{member as member_of, Contained, Separate, size as size_of, Lowest, Gives, without as without_of};
 ghost use Rattle.sets.specs.Pairs.{join_of, meet_of, minus_of, Sub, Off};
 
 // The set with no number.
@@ -77,6 +77,24 @@ pub fn low(x: u64) -> u64
     u64::trailing_zeros(x) as u64
 }
 
+// The place of the lowest one of a word, if it has one.
+pub fn first(x: u64) -> Option<u64>
+    ensures { MatchOption result (x ≡ 0) (λ i. (i < 64) × Lowest x i) }
+{
+    if x == 0 {
+        return None;
+    }
+    Some(low(x))
+}
+
+// The word without its member at place i.
+pub fn cleared(x: u64, i: u64) -> u64
+    requires { i < 64 }
+    ensures { result ≡ without_of x (2 ^ i) }
+{
+    x ^ (x & (1 << i))
+}
+
 // The places of a word's members, one after the other, from the lowest on.
 #[derive(Clone, Copy, Drop)]
 pub struct Places {
@@ -91,12 +109,8 @@ impl Iterator for Places {
     ghost remaining = { λ s. at_most s.rest };
 
     fn next(&mut self) -> Option<u64> {
-        let rest = self.rest;
-        if rest == 0 {
-            return None;
-        }
-        let i = low(rest);
-        self.rest = rest ^ (rest & (1 << i));
+        let i = first(self.rest)?;
+        self.rest = cleared(self.rest, i);
         Some(i)
     }
 }
