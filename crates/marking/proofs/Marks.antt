@@ -52,18 +52,12 @@ words-full x h =
     let p : 2 ^ x ≡ 64 * 2 ^ (x - 6) = ap (λ (m : ℕ). 2 ^ m) e ∙ pow-add 2 6 (x - 6) in
     omega arith
 
-module _ (x k : ℕ) (h : 6 ≤ x) (l : 2 ^ x ≤ 64 * k) (n : ℕ) (e : n ≡ 2 ^ x / 64 + 1) where
-  pub words-in : n ≤ k + 1
-  words-in = omega arith
+-- A part of words of zeros has its length.
+pub zeros-long : (n k : ℕ) → n ≤ k → length (zeros n k) ≡ n
+zeros-long n k h = length-take-le n (replicate k 0) (rw (length-replicate {A = ℕ} k 0) h)
 
-  words_long : length (zeros n (k + 1)) ≡ n
-  words_long = length-take-le n (replicate (k + 1) 0) (rw (length-replicate {A = ℕ} (k + 1) 0) words-in)
-
-  pub words_count : n ≡ length (zeros n (k + 1))
-  words_count = sym words_long
-
-  pub words-enough : 2 ^ x ≤ marks_in (zeros n (k + 1))
-  words-enough = rw words_long (let f = words-full x h in omega arith)
+pub words-in : (x k : ℕ) → 6 ≤ x → 2 ^ x ≤ 64 * k → (n : ℕ) → n ≡ 2 ^ x / 64 + 1 → n ≤ k + 1
+words-in x k h l n e = omega arith
 
 -- ---- the numbers of a word
 -- A word of numbers with a digit, found by looking at all 64.
