@@ -97,12 +97,7 @@ pub fn first_in(words: &Words, ranks: &Ranks, s: Shape, out: &mut [u64]) -> usiz
     requires { InLimits s }
     ensures { PageIs s words.now ranks.now start out.old out.new result }
 {
-    let nothing = Pair {
-        taken: 0,
-        held: 0,
-        denied: 0,
-    };
-    page_in(words, ranks, s, nothing, false, out)
+    page_in(words, ranks, s, Pair::EMPTY, false, out)
 }
 
 // The first resolutions later than a pair that is lawful in the prepared book.
