@@ -1,5 +1,5 @@
 -- The walk over the sets of exceptions: what has been passed, and the page that it leaves.
-use Rattle.std.specs.Prelude.{ℕ, zero, suc, ◌^◌, ◌<◌, ◌≤◌, ◌≡◌, Bool, true, false, List, ◌⊎◌, length}
+use Rattle.std.specs.Prelude.{ℕ, zero, suc, ◌^◌, ◌<◌, ◌≤◌, ◌≡◌, Bool, true, false, List, ◌⊎◌, Option, None, Some, length}
 use Rattle.sets.specs.declared.Pair.{Pair}
 use Rattle.sets.specs.Sets.{without}
 use Rattle.order.specs.Formula.{set_at}
@@ -12,6 +12,7 @@ use Rattle.meaning.proofs.Parts.{Part}
 use Rattle.walk.specs.declared.Position.{Position}
 use Rattle.walk.specs.declared.Span.{Span}
 use Rattle.marking.specs.Marks.{marks_in, IsMarked, RightMarks}
+use Rattle.standing.specs.declared.memory.Memory.{Memory}
 use Rattle.standing.specs.Standing.{Right}
 use Rattle.sifting.specs.Sifted.{Serves}
 use Rattle.one_set.specs.Plans.{Told, Full}
@@ -39,12 +40,18 @@ pub record Spanned (x : ℕ) (root : Bounds) (s : Span) : Type 0 where
   pub after : (i : ℕ) → s.past ≤ i → i < 2 ^ x → without (set_at x i) root.hi.taken ≡ 0 → ⊥
   pub to : s.past ≤ 2 ^ x
 
--- The place r is the first from p on at which a look is not enough, or one from `past` on.
-pub record Skipped (x past : ℕ) (root : Bounds) (marks : List ℕ) (p r : Position) : Type 0 where
+-- The place r is the first from p on at which a look is not enough, and one before `past`.
+pub record Stops (x past : ℕ) (root : Bounds) (marks : List ℕ) (p r : Position) : Type 0 where
   pub from : p.place ≤ r.place
+  pub to : r.place < past
   pub stands : AtPlace x r
   pub ruled_out : (i : ℕ) → p.place ≤ i → i < r.place → RuledOut root marks (set_at x i)
-  pub undecided : r.place < past → RuledOut root marks r.set → ⊥
+  pub undecided : RuledOut root marks r.set → ⊥
+
+-- That place is r, or there is none from p on before `past`.
+pub record Skipped (x past : ℕ) (root : Bounds) (marks : List ℕ) (p : Position) (r : Option Position) : Type 0 where
+  pub some : (s : Position) → r ≡ Some s → Stops x past root marks p s
+  pub none : r ≡ None → (i : ℕ) → p.place ≤ i → i < past → RuledOut root marks (set_at x i)
 
 -- From place j on every pair is later than the point.
 pub record Beyond (x : ℕ) (from : Point) (j : ℕ) : Type 0 where
@@ -58,7 +65,7 @@ pub record Ready (ws : List ℕ) (n : ℕ) (ranks : List ℕ) (root : Bounds) (x
 
 -- The walk from place j of the sets of x exceptions, in a book that has no more: with the page of all that stands at the places before it, it makes
 -- the page of all later resolutions.
-pub record Walked (ws ranks : List ℕ) (root : Bounds) (q : Task) (x j : ℕ) (known : Bool) (k : ℕ) (m w o o' : List ℕ) (r : ℕ) : Type 0 where
+pub record Walked (ws ranks : List ℕ) (root : Bounds) (q : Task) (x j : ℕ) (known : Bool) (k : ℕ) (m : List ℕ) (w : Memory) (o o' : List ℕ) (r : ℕ) : Type 0 where
   pub whole : (b : Book) (from : Point) → Serves b ws ranks root q → length b.exceptions ≤ x → RightMarks b m → Right ws q.rules ranks root w → (known ≡ true → Ready ws q.rules ranks root x j m) → LawfulPoint b from → Beyond x from j
       → (blank : List ℕ) (xs : List Pair) → Part b from (Passed x j) xs → Page q.room 0 blank o xs k
       → (zs : List Pair) × AllLater b from zs × Page q.room 0 blank o' zs r
