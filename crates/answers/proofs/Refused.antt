@@ -16,8 +16,7 @@ use Rattle.book.specs.declared.Content.{Content}
 use Rattle.book.specs.declared.Content.TheVariants.{Edition, Statements, Literal, Exception, Total}
 use Rattle.book.specs.Kinds.{kinds, kind, unknown, fields_of, bytes, none, exception, Range, range_of, most, longest}
 use Rattle.text.specs.declared.State.{State}
-use Rattle.text.specs.declared.Field.{Field}
-use Rattle.text.specs.declared.Field.TheVariants.{Value, Misspelt}
+use Rattle.std.specs.Prelude.{Result, Ok, Err}
 use Rattle.text.specs.Fields.{Misspells, is_stray, is_gapped, is_wrong_zero, first_field}
 use Rattle.text.specs.Lines.{Numbers, numbers, fault, and_then, inside, test_field, read_fields, headless, missing, miscounted, whole_of, Line, line, wrong, unless, judged, read_rest, read_kind, kind_for, read_line, lines, to_first}
 use Rattle.text.specs.Reading.{Outcome, prepend, on_line, read_end, read_lines, step, row_of, start, last_byte, read_text, shape_of}
@@ -61,9 +60,9 @@ then-faulted v (numbers vs) f = tt
 then-faulted v (fault q) f = f
 
 -- What four columns are: a number, or misspelt by a refusal.
-abbrev Spelt : Field → Type 0
-Spelt (Value v) = Unit {0}
-Spelt (Misspelt q) = Fault q
+abbrev Spelt : Result ℤ ℕ → Type 0
+Spelt (Ok v) = Unit {0}
+Spelt (Err q) = Fault q
 
 spelling-fault : (bs : List ℕ) (q : ℕ) → Misspells bs q → Fault q
 spelling-fault bs q (is_stray e) = record { low = omega arith; high = omega arith }
@@ -74,14 +73,14 @@ first-spelt : (bs : List ℕ) → Spelt (first_field bs)
 unfolding first_field
 first-spelt bs = go (first_field bs) refl
   where
-    go : (f : Field) → first_field bs ≡ f → Spelt f
-    go (Value v) e = tt
-    go (Misspelt q) e = spelling-fault _ q ((misspelt-iff (get_or bs 0 0) (get_or bs 1 0) (get_or bs 2 0) (get_or bs 3 0) q).0 e)
+    go : (f : Result ℤ ℕ) → first_field bs ≡ f → Spelt f
+    go (Ok v) e = tt
+    go (Err q) e = spelling-fault _ q ((misspelt-iff (get_or bs 0 0) (get_or bs 1 0) (get_or bs 2 0) (get_or bs 3 0) q).0 e)
 
-field-faulted : (f : Field) (r : Range) (ns : Numbers) → Spelt f → Fault r.fault → Faulted ns → Faulted (test_field f r ns)
+field-faulted : (f : Result ℤ ℕ) (r : Range) (ns : Numbers) → Spelt f → Fault r.fault → Faulted ns → Faulted (test_field f r ns)
 unfolding test_field
-field-faulted (Misspelt q) r ns s g h = s
-field-faulted (Value v) r ns s g h = either_way Faulted (inside r v) (and_then v ns) (fault r.fault) (then-faulted v ns h) g
+field-faulted (Err q) r ns s g h = s
+field-faulted (Ok v) r ns s g h = either_way Faulted (inside r v) (and_then v ns) (fault r.fault) (then-faulted v ns h) g
 
 fields-faulted : (cs : List Content) (n : ℕ) (bs : List ℕ) → Faulted (read_fields cs n bs)
 unfolding read_fields

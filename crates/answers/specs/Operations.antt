@@ -1,6 +1,6 @@
 -- What Judge, First, After, a page and Line answer on every input (document 01, 'Six operations'): the text's refusal first, then the pair's,
 -- then that of the lent buffer, then the answer.
-use Rattle.std.specs.Prelude.{ℕ, zero, suc, ◌/◌, ◌≡◌, List, ltb, length}
+use Rattle.std.specs.Prelude.{ℕ, zero, suc, ◌/◌, ◌≡◌, List, ltb, length, Option, Some, None, Result, Ok, Err}
 use Rattle.logic.specs.Tests.{pick}
 use Rattle.sets.specs.declared.Pair.{Pair}
 use Rattle.sets.specs.Pairs.{flat}
@@ -13,14 +13,7 @@ use Rattle.meaning.specs.Order.{start, at}
 use Rattle.meaning.specs.Listings.{Answer, found, end, refused, Operation, first, after}
 use Rattle.meaning.specs.Twins.Verdicts.{pair_refusal, verdict}
 use Rattle.meaning.specs.Twins.Next.{next_from, page_from}
-use Rattle.answers.specs.declared.Judged.{Judged}
-use Rattle.answers.specs.declared.Judged.TheVariants.{Verdict, Refused as NotJudged}
-use Rattle.answers.specs.declared.Paged.{Paged}
-use Rattle.answers.specs.declared.Paged.TheVariants.{Pairs, Refused as NotPaged}
-use Rattle.text.specs.declared.Writing.{Writing}
-use Rattle.text.specs.declared.Writing.TheVariants.{Written, Refused as NotWritten}
-use Rattle.answers.specs.declared.Found.{Found}
-use Rattle.answers.specs.declared.Found.TheVariants.{Resolution, End, Refused}
+use Rattle.text.specs.declared.Refusal.{Refusal}
 
 -- ---- the paper's answers
 -- A number or list that an operation answers, or a refusal's number and line.
@@ -28,25 +21,27 @@ pub data Told (A : Type 0) : Type 0 where
   told : A → Told A
   turned : ℕ → ℕ → Told A
 
--- The paper's answer of each case of First's and After's enum: the pair, End, the refusal's number and line.
-unfoldable pub answer_of : Found → Answer
-answer_of (Resolution p) = found p
-answer_of End = end
-answer_of (Refused q) = refused q.number q.line
+-- The paper's answer of each case of First's and After's: the pair, End, the refusal's number and line.
+unfoldable pub answer_of : Result (Option Pair) Refusal → Answer
+answer_of (Ok (Some p)) = found p
+answer_of (Ok None) = end
+answer_of (Err q) = refused q.number q.line
+
+-- Of any other operation's: what it gives, the refusal's number and line.
+unfoldable pub told_of : {A : Type 0} → Result A Refusal → Told A
+told_of (Ok x) = told x
+told_of (Err q) = turned q.number q.line
 
 -- Of Judge's: the verdict's number.
-unfoldable pub verdict_of : Judged → Told ℕ
-verdict_of (Verdict k) = told k
-verdict_of (NotJudged q) = turned q.number q.line
+abbrev pub verdict_of : Result ℕ Refusal → Told ℕ
+verdict_of r = told_of r
 
 -- Of a page's and of Line's: how many pairs, how many bytes.
-unfoldable pub count_of : Paged → Told ℕ
-count_of (Pairs k) = told k
-count_of (NotPaged q) = turned q.number q.line
+abbrev pub count_of : Result ℕ Refusal → Told ℕ
+count_of r = told_of r
 
-unfoldable pub length_of : Writing → Told ℕ
-length_of (Written k) = told k
-length_of (NotWritten q) = turned q.number q.line
+abbrev pub length_of : Result ℕ Refusal → Told ℕ
+length_of r = told_of r
 
 -- A list that was told is answered by its length.
 unfoldable pub counted : {A : Type 0} → Told (List A) → Told ℕ
@@ -105,7 +100,7 @@ left f l (told x) = over l (f x)
 left f l (turned q line) = l
 
 -- What a page answers and leaves: how many pairs, and the pairs in front of the lent slice.
-pub record PageMet (t : Told (List Pair)) (o o' : List ℕ) (r : Paged) : Type 0 where
+pub record PageMet (t : Told (List Pair)) (o o' : List ℕ) (r : Result ℕ Refusal) : Type 0 where
   pub count : count_of r ≡ counted t
   pub filled : o' ≡ left flat o t
 

@@ -1,27 +1,3 @@
-// What the operations on a text and a pair answer.
+// What the operations on a text and a pair answer, in specs/: First and After a resolution or none, Judge the verdict, 0 to 5, a page how many resolutions
+// were written; each of them or the refusal. There is no code here.
 #![tactic(auto)]
-
-use sets::Pair;
-use text::Refusal;
-
-// What Judge answers: the verdict, 0 to 5, or the refusal.
-#[derive(Clone, Copy)]
-pub enum Judged {
-    Verdict(u32),
-    Refused(Refusal),
-}
-
-// What First and After answer: a resolution, End, or the refusal.
-#[derive(Clone, Copy)]
-pub enum Found {
-    Resolution(Pair),
-    End,
-    Refused(Refusal),
-}
-
-// What a page answers: how many resolutions were written, or the refusal.
-#[derive(Clone, Copy)]
-pub enum Paged {
-    Pairs(usize),
-    Refused(Refusal),
-}

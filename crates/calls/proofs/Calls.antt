@@ -3,13 +3,14 @@
 use mathlib.Core.Path.{◌≡◌, refl, sym, ap, ◌∙◌}
 use mathlib.Core.Bool.{Bool, true, false}
 use mathlib.Core.List.{List, [], ◌∷◌, ◌++◌, append-nil, append_assoc}
-use Prim.Native.Nat.{ℕ, zero, suc, ◌+◌, ◌*◌, ◌/◌, ◌%◌, ◌<◌, ◌≤◌}
+use Prim.Native.Nat.{ℕ, zero, suc, ◌+◌, ◌-◌, ◌*◌, ◌/◌, ◌%◌, ◌<◌, ◌≤◌}
 use native.Mathlib.Nat.{div-mul-le_self}
 use native.Mathlib.Numerals.{add-one}
 use native.Mathlib.Omega.{arith}
 use lib.Dec.{eqb, ltb}
-use lib.ListN.{length, length-append, set}
+use lib.ListN.{length, take, drop, length-append, length-take, length-drop}
 use lib.Seq.{sets}
+use borrow.Rule.Slice.PartMut.{put_mid}
 use borrow.Author.Tests.{ltb-false, lt-ltb, le-ltb, eq-eqb, ne_eqb}
 use Rattle.logic.specs.Tests.{pick}
 use Rattle.logic.proofs.Stores.{sets-append}
@@ -17,48 +18,46 @@ use Rattle.sets.specs.declared.Pair.{Pair}
 use Rattle.sets.specs.Pairs.{flat}
 use Rattle.page.proofs.Pages.{flat_append, flat-length}
 use Rattle.text.proofs.Lent.{over-sets}
-use Rattle.meaning.specs.Order.{Point, at}
+use Rattle.meaning.specs.Order.{Point}
 use Rattle.meaning.specs.Listings.{Answer, found, end, refused, Call, handed, moved, answered, answers_to, listing, reached}
-use Rattle.answers.specs.declared.Found.{Found}
-use Rattle.answers.specs.declared.Found.TheVariants.{Resolution, End, Refused}
+use Rattle.std.specs.Prelude.{Option, Some, None, Result, Ok, Err}
 use Rattle.answers.specs.Operations.{answer_of, asks, first_answer, after_answer}
+use Rattle.answers.proofs.Copies.{part-put}
 use Rattle.answers.proofs.Listed.{demand3-of-text, point-alone-of-texts}
 use Rattle.text.specs.declared.Refusal.{Refusal}
-use Rattle.calls.specs.declared.Spot.{Spot}
-use Rattle.calls.specs.declared.Spot.TheVariants.{Start, At}
 use Rattle.calls.specs.declared.Handed.{Handed}
 use Rattle.calls.specs.Calls.{as_point, call_of, call_at, calls_from, calls_of, row, rows, Makes, Ran, run_refusal}
 
 -- ---- one answer
 module _ (bs : List ℕ) where
-  pub answer-other : (kind : ℕ) (p : Pair) (s : Spot) (r : Found) → (kind ≡ 0 → ⊥) → answer_of r ≡ after_answer bs p → answer_of r ≡ answered (asks bs) (call_of kind p) (as_point s)
+  pub answer-other : (kind : ℕ) (p : Pair) (s : Option Pair) (r : Result (Option Pair) Refusal) → (kind ≡ 0 → ⊥) → answer_of r ≡ after_answer bs p → answer_of r ≡ answered (asks bs) (call_of kind p) (as_point s)
   unfolding answered asks call_of
   answer-other zero p s r n e = absurd (n refl)
   answer-other (suc k) p s r n e = e
 
-  pub answer-first : (kind : ℕ) (p : Pair) (s : Spot) (r : Found) → kind ≡ 0 → s ≡ Start → answer_of r ≡ first_answer bs → answer_of r ≡ answered (asks bs) (call_of kind p) (as_point s)
+  pub answer-first : (kind : ℕ) (p : Pair) (s : Option Pair) (r : Result (Option Pair) Refusal) → kind ≡ 0 → s ≡ None → answer_of r ≡ first_answer bs → answer_of r ≡ answered (asks bs) (call_of kind p) (as_point s)
   unfolding answered asks call_of as_point
   answer-first kind p s r z d e = rw (z, d) e
 
-  pub answer-after : (kind : ℕ) (p q : Pair) (s : Spot) (r : Found) → kind ≡ 0 → s ≡ At q → answer_of r ≡ after_answer bs q → answer_of r ≡ answered (asks bs) (call_of kind p) (as_point s)
+  pub answer-after : (kind : ℕ) (p q : Pair) (s : Option Pair) (r : Result (Option Pair) Refusal) → kind ≡ 0 → s ≡ Some q → answer_of r ≡ after_answer bs q → answer_of r ≡ answered (asks bs) (call_of kind p) (as_point s)
   unfolding answered asks call_of as_point
   answer-after kind p q s r z d e = rw (z, d) e
 
 -- ---- answers as numbers
-pub four-put : (l : List ℕ) (i a b c d : ℕ) → set (set (set (set l i a) (i + 1) b) (i + 2) c) (i + 3) d ≡ sets l i (a ∷ b ∷ c ∷ d ∷ [])
-four-put l i a b c d =
-    let e : i + 1 ≡ suc i = omega arith in let f : i + 2 ≡ suc (suc i) = omega arith in let g : i + 3 ≡ suc (suc (suc i)) = omega arith in rw (e, f, g)
+-- A copied row is stored from its place on.
+pub row-put : (l xs ys : List ℕ) (i : ℕ) → i + 4 ≤ length l → length xs ≡ length (take (i + 4 - i) (drop i l)) → xs ≡ ys → put_mid i (i + 4 - i) l xs ≡ sets l i ys
+row-put l xs ys i h n e = part-put l xs ys i (i + 4) e (rw (← e) (omega (arith, n, length-take (i + 4 - i) (drop i l), length-drop i l))) h
 
-module _ (l l' : List ℕ) (i : ℕ) (a : Found) where
-  pub found-put : (p : Pair) → a ≡ Resolution p → l' ≡ sets l i (1 ∷ p.taken ∷ p.held ∷ p.denied ∷ []) → l' ≡ sets l i (row (answer_of a))
+module _ (l l' : List ℕ) (i : ℕ) (a : Result (Option Pair) Refusal) where
+  pub found-put : (p : Pair) → a ≡ Ok (Some p) → l' ≡ sets l i (1 ∷ p.taken ∷ p.held ∷ p.denied ∷ []) → l' ≡ sets l i (row (answer_of a))
   unfolding row answer_of
   found-put p d e = rw d e
 
-  pub end-put : a ≡ End → l' ≡ sets l i (0 ∷ 0 ∷ 0 ∷ 0 ∷ []) → l' ≡ sets l i (row (answer_of a))
+  pub end-put : a ≡ Ok None → l' ≡ sets l i (0 ∷ 0 ∷ 0 ∷ 0 ∷ []) → l' ≡ sets l i (row (answer_of a))
   unfolding row answer_of
   end-put d e = rw d e
 
-  pub refused-put : (q : Refusal) → a ≡ Refused q → l' ≡ sets l i (2 ∷ q.number ∷ q.line ∷ 0 ∷ []) → l' ≡ sets l i (row (answer_of a))
+  pub refused-put : (q : Refusal) → a ≡ Err q → l' ≡ sets l i (2 ∷ q.number ∷ q.line ∷ 0 ∷ []) → l' ≡ sets l i (row (answer_of a))
   unfolding row answer_of
   refused-put q d e = rw d e
 
@@ -90,16 +89,16 @@ module _ (bs ns : List ℕ) (k : ℕ) (from : Point) (n : ℕ) (ans out : List �
     pairs = rw (← e, append-nil (handed x)) g;
   }
 
-  module _ (a : Found) (ans' : List ℕ) (e : answer_of a ≡ answered (asks bs) (call_at ns k) from) (f : ans' ≡ sets ans (k * 4) (row (answer_of a))) where
-    pub called-found : (q : Pair) (out' : List ℕ) → a ≡ Resolution q → out' ≡ sets out (n * 3) (flat (q ∷ [])) → Makes bs ns k 1 from n ans ans' out out' (record { count = n + 1; spot = At q })
+  module _ (a : Result (Option Pair) Refusal) (ans' : List ℕ) (e : answer_of a ≡ answered (asks bs) (call_at ns k) from) (f : ans' ≡ sets ans (k * 4) (row (answer_of a))) where
+    pub called-found : (q : Pair) (out' : List ℕ) → a ≡ Ok (Some q) → out' ≡ sets out (n * 3) (flat (q ∷ [])) → Makes bs ns k 1 from n ans ans' out out' (record { count = n + 1; spot = Some q })
     unfolding answer_of handed moved as_point
-    called-found q out' d g = one (found q) (rw d at e) ans' out' (record { count = n + 1; spot = At q }) refl refl (rw d at f) g
+    called-found q out' d g = one (found q) (rw d at e) ans' out' (record { count = n + 1; spot = Some q }) refl refl (rw d at f) g
 
-    pub called-end : (s : Spot) → from ≡ as_point s → a ≡ End → Makes bs ns k 1 from n ans ans' out out (record { count = n; spot = s })
+    pub called-end : (s : Option Pair) → from ≡ as_point s → a ≡ Ok None → Makes bs ns k 1 from n ans ans' out out (record { count = n; spot = s })
     unfolding answer_of handed moved flat
     called-end s z d = one end (rw d at e) ans' out (record { count = n; spot = s }) (omega arith) (sym z) (rw d at f) refl
 
-    pub called-refused : (q : Refusal) (s : Spot) → from ≡ as_point s → a ≡ Refused q → Makes bs ns k 1 from n ans ans' out out (record { count = n; spot = s })
+    pub called-refused : (q : Refusal) (s : Option Pair) → from ≡ as_point s → a ≡ Err q → Makes bs ns k 1 from n ans ans' out out (record { count = n; spot = s })
     unfolding answer_of handed moved flat
     called-refused q s z d = one (refused q.number q.line) (rw d at e) ans' out (record { count = n; spot = s }) (omega arith) (sym z) (rw d at f) refl
 
@@ -152,7 +151,7 @@ calls-length ns zero k = refl
 calls-length ns (suc m) k = ap suc (calls-length ns m (suc k))
 
 module _ (bs ns : List ℕ) (from : Point) (ans out : List ℕ) where
-  pub makes_none : (s : Spot) → from ≡ as_point s → Makes bs ns 0 0 from 0 ans ans out out (record { count = 0; spot = s })
+  pub makes_none : (s : Option Pair) → from ≡ as_point s → Makes bs ns 0 0 from 0 ans ans out out (record { count = 0; spot = s })
   unfolding calls_from answers_to listing reached rows flat
   makes_none s e = record { count = refl; spot = sym e; answers = refl; pairs = refl }
 
@@ -221,12 +220,9 @@ module _ (n a p : ℕ) where
   unfolding run_refusal pick
   pairs-short e h g = rw (eq-eqb (n % 4) 0 e, le-ltb a n h, lt-ltb p (n / 4 * 3) g) refl
 
-  pub not_short : n % 4 ≡ 0 → n ≤ a → n / 4 * 3 ≤ p → 0 ≡ run_refusal n a p
+  pub not_short : n % 4 ≡ 0 → n ≤ a → n / 4 * 3 ≤ p → run_refusal n a p ≡ 0
   unfolding run_refusal pick
   not_short e h g = rw (eq-eqb (n % 4) 0 e, le-ltb a n h, le-ltb p (n / 4 * 3) g) refl
-
-  pub none-applies : (r : ℕ) → r ≡ run_refusal n a p → r ≡ 0 → run_refusal n a p ≡ 0
-  none-applies r e z = sym e ∙ z
 
   -- Where none applies there is room.
   pub room-enough : run_refusal n a p ≡ 0 → (n ≤ a) × (n / 4 * 3 ≤ p)

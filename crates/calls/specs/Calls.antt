@@ -1,26 +1,23 @@
 -- A list of calls as numbers, what making them through First and After leaves, and demand 3 of it: `Runs`, the contract of `run`.
-use Rattle.std.specs.Prelude.{ℕ, zero, suc, ◌+◌, ◌*◌, ◌/◌, ◌%◌, ◌≡◌, List, [], ◌∷◌, ◌++◌, eqb, ltb, ℤ, length, get_or}
+use Rattle.std.specs.Prelude.{ℕ, zero, suc, ◌+◌, ◌*◌, ◌/◌, ◌%◌, ◌≡◌, List, [], ◌∷◌, ◌++◌, eqb, ltb, ℤ, length, get_or, Option, Some, None, Result, Ok, Err}
 use Rattle.std.proofs.lemmas.List.Edits.{sets}
 use Rattle.logic.specs.Tests.{pick}
 use Rattle.sets.specs.declared.Pair.{Pair}
 use Rattle.sets.specs.Pairs.{flat}
 use Rattle.book.specs.declared.Shape.{Shape}
+use Rattle.text.specs.declared.Refusal.{Refusal}
 use Rattle.text.specs.Reading.{read_text, over}
 use Rattle.text.specs.Reading.Outcome.{accepted}
 use Rattle.meaning.specs.Meant.{book_of}
 use Rattle.meaning.specs.Order.{Point, start, at, LawfulPoint}
 use Rattle.meaning.specs.Listings.{Answer, found, end, refused, Call, go_on, turned_down, after, answers_to, listing, reached, Calls, Demand3, PointAlone}
 use Rattle.answers.specs.Operations.{asks}
-use Rattle.calls.specs.declared.Spot.{Spot}
-use Rattle.calls.specs.declared.Spot.TheVariants.{Start, At}
 use Rattle.calls.specs.declared.Handed.{Handed}
-use Rattle.calls.specs.declared.Calling.{Calling}
-use Rattle.calls.specs.declared.Calling.TheVariants.{Made, Refused}
 
--- The point where a listing stands.
-unfoldable pub as_point : Spot → Point
-as_point Start = start
-as_point (At p) = at p
+-- The point where a listing stands: before the first pair, or at a pair.
+unfoldable pub as_point : Option Pair → Point
+as_point None = start
+as_point (Some p) = at p
 
 -- ---- calls and answers as numbers, four each
 -- Kind 0 goes on; any other kind is After with the pair. First and After lend no buffer, so the room does not matter.
@@ -79,7 +76,7 @@ unfoldable pub run_refusal : ℕ → ℕ → ℕ → ℕ
 run_refusal n a p = pick (eqb (n % 4) 0) (pick (ltb a n) 15 (pick (ltb p (n / 4 * 3)) 15 0)) 16
 
 -- A refused run has made no call and leaves both slices as they were; any other has made them all.
-abbrev pub Runs : (bs ns : List ℕ) (from : Point) (ans ans' out out' : List ℕ) → Calling → Type 0
-Runs bs ns from ans ans' out out' (Refused q) =
+abbrev pub Runs : (bs ns : List ℕ) (from : Point) (ans ans' out out' : List ℕ) → Result Handed Refusal → Type 0
+Runs bs ns from ans ans' out out' (Err q) =
     (q.number ≡ run_refusal (length ns) (length ans) (length out)) × (q.number ≡ 0 → ⊥) × (q.line ≡ 0) × (ans' ≡ ans) × (out' ≡ out)
-Runs bs ns from ans ans' out out' (Made r) = (run_refusal (length ns) (length ans) (length out) ≡ 0) × Ran bs (calls_of ns) from ans ans' out out' r
+Runs bs ns from ans ans' out out' (Ok r) = (run_refusal (length ns) (length ans) (length out) ≡ 0) × Ran bs (calls_of ns) from ans ans' out out' r

@@ -1,87 +1,67 @@
 // Lists of calls of First and After, made one after the other: the contract of `run` is demand 3.
 #![tactic(auto)]
 
-ghost use Rattle.std.specs.Prelude.{◌≡◌, [], ◌∷◌, ◌+◌, ◌*◌, ◌/◌, ◌≤◌, length};
+ghost use Rattle.std.specs.Prelude.{◌≡◌, ◌≢◌, ◌+◌, ◌*◌, ◌/◌, ◌≤◌, length, MatchResult};
 ghost use Rattle.std.proofs.lemmas.List.Edits.{sets};
 ghost use Rattle.meaning.specs.Listings.{answered};
 ghost use Rattle.answers.specs.Operations.{answer_of, asks};
 ghost use Rattle.calls.specs.Calls.{call_of, as_point, row, run_refusal, Makes, Runs};
 
-use answers::Found;
 use sets::Pair;
 use text::Refusal;
 
-// Where a listing stands: before the first pair, or at a pair.
-#[derive(Clone, Copy)]
-pub enum Spot {
-    Start,
-    At(Pair),
-}
-
-// How many pairs a list of calls has handed out, and where it has come to.
+// How many pairs a list of calls has handed out, and where it has come to: before the first pair, or at a pair.
 #[derive(Clone, Copy)]
 pub struct Handed {
     pub count: usize,
-    pub spot: Spot,
-}
-
-// What making a list of calls answers: what it came to, or the refusal.
-#[derive(Clone, Copy)]
-pub enum Calling {
-    Made(Handed),
-    Refused(Refusal),
+    pub spot: Option<Pair>,
 }
 
 // One call of a listing: kind 0 goes on from the point, by First or After; any other kind is After with the pair p.
-pub fn answer(text: &[u8], kind: u64, p: Pair, spot: Spot) -> Found
+pub fn answer(text: &[u8], kind: u64, p: Pair, spot: Option<Pair>) -> Result<Option<Pair>, Refusal>
     ensures { answer_of result ≡ answered (asks text.now) (call_of kind p) (as_point spot) }
 {
     if kind != 0 {
         return operations::after(text, p);
     }
     match spot {
-        Spot::Start => operations::first(text),
-        Spot::At(q) => operations::after(text, q),
+        None => operations::first(text),
+        Some(q) => operations::after(text, q),
     }
 }
 
 // Puts four numbers to place k of a slice, four numbers each.
-pub fn put_row(out: &mut [u64], k: usize, a: u64, b: u64, c: u64, d: u64)
+pub fn put_row(out: &mut [u64], k: usize, row: [u64; 4])
     requires { k * 4 + 4 ≤ length out.old }
-    ensures { out.new ≡ sets out.old (k * 4) (a ∷ b ∷ c ∷ d ∷ []) }
+    ensures { out.new ≡ sets out.old (k * 4) row }
 {
-    let i = k * 4;
-    out[i] = a;
-    out[i + 1] = b;
-    out[i + 2] = c;
-    out[i + 3] = d;
+    out[k * 4..k * 4 + 4].copy_from_slice(&row);
 }
 
 // Puts an answer to place k: 1 and the pair, or 0 at the End, or 2 and the refusal's number and line.
-pub fn put_answer(out: &mut [u64], k: usize, a: Found)
+pub fn put_answer(out: &mut [u64], k: usize, a: Result<Option<Pair>, Refusal>)
     requires { k * 4 + 4 ≤ length out.old }
     ensures { out.new ≡ sets out.old (k * 4) (row (answer_of a)) }
 {
     match a {
-        Found::Resolution(p) => put_row(out, k, 1, p.taken, p.held, p.denied),
-        Found::End => put_row(out, k, 0, 0, 0, 0),
-        Found::Refused(q) => put_row(out, k, 2, q.number as u64, q.line as u64, 0),
+        Ok(Some(p)) => put_row(out, k, [1, p.taken, p.held, p.denied]),
+        Ok(None) => put_row(out, k, [0; 4]),
+        Err(q) => put_row(out, k, [2, u64::from(q.number), q.line as u64, 0]),
     }
 }
 
 // Makes call k of a list, four numbers each: the kind, and a pair. Its answer goes to place k of `answers`; a pair that is handed out goes to
-// place `at` of `pairs`.
+// the place in `pairs` after those that were handed out before.
 pub fn one_call(
     text: &[u8],
     calls: &[u64],
     k: usize,
-    spot: Spot,
+    before: Handed,
     answers: &mut [u64],
     pairs: &mut [u64],
-    at: usize,
 ) -> Handed
-    requires { (k * 4 + 4 ≤ length calls.now) × (k * 4 + 4 ≤ length answers.old) × (at * 3 + 3 ≤ length pairs.old) }
-    ensures { Makes text.now calls.now k 1 (as_point spot) at answers.old answers.new pairs.old pairs.new result }
+    requires { (k * 4 + 4 ≤ length calls.now) × (k * 4 + 4 ≤ length answers.old) × (before.count * 3 + 3 ≤ length pairs.old) }
+    ensures { Makes text.now calls.now k 1 (as_point before.spot) before.count answers.old answers.new pairs.old pairs.new result }
 {
     let i = k * 4;
     let p = Pair {
@@ -89,18 +69,18 @@ pub fn one_call(
         held: calls[i + 2],
         denied: calls[i + 3],
     };
-    let a = answer(text, calls[i], p, spot);
+    let a = answer(text, calls[i], p, before.spot);
     put_answer(answers, k, a);
     match a {
-        Found::Resolution(q) => {
-            page::put(pairs, at, q);
+        Ok(Some(q)) => {
+            page::put(pairs, before.count, q);
             Handed {
-                count: at + 1,
-                spot: Spot::At(q),
+                count: before.count + 1,
+                spot: Some(q),
             }
         }
-        Found::End => Handed { count: at, spot },
-        Found::Refused(_) => Handed { count: at, spot },
+        Ok(None) => before,
+        Err(_) => before,
     }
 }
 
@@ -108,7 +88,7 @@ pub fn one_call(
 pub fn make_calls(
     text: &[u8],
     calls: &[u64],
-    spot: Spot,
+    spot: Option<Pair>,
     answers: &mut [u64],
     pairs: &mut [u64],
 ) -> Handed
@@ -117,31 +97,27 @@ pub fn make_calls(
 {
     let m = calls.len() / 4;
     let mut r = Handed { count: 0, spot };
-    let mut k = 0;
-    while k < m {
-        let here = r.spot;
-        let at = r.count;
-        r = one_call(text, calls, k, here, answers, pairs, at);
-        k += 1;
+    for k in 0..m {
+        r = one_call(text, calls, k, r, answers, pairs);
     }
     r
 }
 
 // The refusal of a list of n numbers with room for so many numbers of answers and of pairs: 16 where it is not four numbers a call, 15 where
-// there is less room than for the answers or for as many pairs; 0 if none.
-pub fn run_refusal(n: usize, answers: usize, pairs: usize) -> u32
-    ensures { result ≡ run_refusal n answers pairs }
+// there is less room than for the answers or for as many pairs.
+pub fn check(n: usize, answers: usize, pairs: usize) -> Result<(), Refusal>
+    ensures { MatchResult result (λ _. run_refusal n answers pairs ≡ 0) (λ q. (q.number ≡ run_refusal n answers pairs) × (q.number ≢ 0) × (q.line ≡ 0)) }
 {
-    if n % 4 != 0 {
-        return 16;
-    }
-    if answers < n {
-        return 15;
-    }
-    if pairs < n / 4 * 3 {
-        return 15;
-    }
-    0
+    let number = if n % 4 != 0 {
+        16
+    } else if answers < n {
+        15
+    } else if pairs < n / 4 * 3 {
+        15
+    } else {
+        return Ok(());
+    };
+    Err(Refusal { number, line: 0 })
 }
 
 // Makes a list of calls through First and After from a point. Each answer goes to `answers`, four numbers each, and each pair that is handed
@@ -149,15 +125,12 @@ pub fn run_refusal(n: usize, answers: usize, pairs: usize) -> u32
 pub fn run(
     text: &[u8],
     calls: &[u64],
-    spot: Spot,
+    spot: Option<Pair>,
     answers: &mut [u64],
     pairs: &mut [u64],
-) -> Calling
+) -> Result<Handed, Refusal>
     ensures { Runs text.now calls.now (as_point spot) answers.old answers.new pairs.old pairs.new result }
 {
-    let k = run_refusal(calls.len(), answers.len(), pairs.len());
-    if k != 0 {
-        return Calling::Refused(Refusal { number: k, line: 0 });
-    }
-    Calling::Made(make_calls(text, calls, spot, answers, pairs))
+    check(calls.len(), answers.len(), pairs.len())?;
+    Ok(make_calls(text, calls, spot, answers, pairs))
 }

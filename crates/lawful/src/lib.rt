@@ -1,27 +1,27 @@
 // The refusal of a pair: 12 to 14 of document 01, or none.
 #![tactic(auto)]
 
-ghost use Rattle.std.specs.Prelude.{◌<◌};
+ghost use Rattle.std.specs.Prelude.{◌≡◌, ◌≢◌, ◌<◌, MatchResult};
 ghost use Rattle.lawful.specs.Refusals.{Refuses};
 
 use sets::Pair;
+use text::Refusal;
 
-// The number of the first refusal that applies to the pair in a book of so many statements and exceptions; 0 where it is lawful.
-pub fn refusal(statements: usize, exceptions: usize, p: Pair) -> u32
+// The first refusal that applies to the pair in a book of so many statements and exceptions, tied to no line.
+pub fn check(statements: usize, exceptions: usize, p: Pair) -> Result<(), Refusal>
     requires { (statements < 64) × (exceptions < 64) }
-    ensures { Refuses statements exceptions p result }
+    ensures { MatchResult result (λ _. Refuses statements exceptions p 0) (λ q. Refuses statements exceptions p q.number × (q.number ≢ 0) × (q.line ≡ 0)) }
 {
-    if p.taken >> exceptions != 0 {
-        return 12;
-    }
-    if p.held >> statements != 0 {
-        return 13;
-    }
-    if p.denied >> statements != 0 {
-        return 13;
-    }
-    if p.held & p.denied != 0 {
-        return 14;
-    }
-    0
+    let number = if p.taken >> exceptions != 0 {
+        12
+    } else if p.held >> statements != 0 {
+        13
+    } else if p.denied >> statements != 0 {
+        13
+    } else if p.held & p.denied != 0 {
+        14
+    } else {
+        return Ok(());
+    };
+    Err(Refusal { number, line: 0 })
 }

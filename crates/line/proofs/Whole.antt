@@ -11,10 +11,8 @@ use Rattle.logic.specs.Tests.{pick}
 use Rattle.sets.specs.declared.Pair.{Pair}
 use Rattle.book.specs.declared.Shape.{Shape}
 use Rattle.text.specs.declared.Refusal.{Refusal}
-use Rattle.text.specs.declared.Reading.{Reading}
-use Rattle.text.specs.declared.Reading.TheVariants.{Accepted, Refused}
-use Rattle.text.specs.declared.Writing.{Writing}
-use Rattle.text.specs.declared.Writing.TheVariants.{Written, Refused as NotWritten}
+use Rattle.std.specs.Prelude.{Result, Ok, Err}
+use Rattle.std.specs.Result.{result_unwrap_or}
 use Rattle.text.specs.Reading.{read_text, over}
 use Rattle.text.specs.Reading.Outcome.{accepted, refused}
 use Rattle.book.specs.Counts.{row_numbers}
@@ -26,7 +24,7 @@ use Rattle.read.specs.Parsing.{Parsing}
 use Rattle.meaning.specs.Meant.{book_of}
 use Rattle.meaning.specs.Twins.Verdicts.{pair_refusal}
 use Rattle.meaning.proofs.Meant.{exceptions-count}
-use Rattle.answers.specs.Operations.{Told, told, turned, length_of, counted, on_text, unless_down, line_in, room_for, line_answer, left}
+use Rattle.answers.specs.Operations.{Told, told, turned, told_of, length_of, counted, on_text, unless_down, line_in, room_for, line_answer, left}
 use Rattle.answers.proofs.Listed.{unless-other, unless-none}
 use Rattle.lawful.specs.Refusals.{Refuses}
 use Rattle.line.specs.Parts.{line_bytes}
@@ -34,28 +32,28 @@ use Rattle.line.specs.Promise.{Met, part_of, part_length}
 use Rattle.line.proofs.PutLaws.{line-length}
 
 -- ---- the book of an accepted text
-pub few-statements : (bs : List ℕ) (r : Reading) (rows : List ℤ) (s : Shape) → Parsing bs r rows → r ≡ Accepted s → s.statements < 64
+pub few-statements : (bs : List ℕ) (r : Result Shape Refusal) (rows : List ℤ) (s : Shape) → Parsing bs r rows → r ≡ Ok s → s.statements < 64
 few-statements bs r rows s g e = omega (arith, (g.facts s e).limits.statements)
 
-pub few-exceptions : (bs : List ℕ) (r : Reading) (rows : List ℤ) (s : Shape) → Parsing bs r rows → r ≡ Accepted s → s.exceptions < 64
+pub few-exceptions : (bs : List ℕ) (r : Result Shape Refusal) (rows : List ℤ) (s : Shape) → Parsing bs r rows → r ≡ Ok s → s.exceptions < 64
 few-exceptions bs r rows s g e = omega (arith, exceptions-in s (g.facts s e).limits)
 
 -- ---- refusals
 -- A refusal that is the definition's leaves the slice as it was.
-turned-met : (bs : List ℕ) (p : Pair) (l : List ℕ) (q : Refusal) → line_answer bs p (length l) ≡ turned q.number q.line → Met bs p l (NotWritten q) l
-unfolding length_of counted left
+turned-met : (bs : List ℕ) (p : Pair) (l : List ℕ) (q : Refusal) → line_answer bs p (length l) ≡ turned q.number q.line → Met bs p l (Err q) l
+unfolding told_of counted left
 turned-met bs p l q e = record { answer = rw e; slice = rw e }
 
-told-met : (bs : List ℕ) (p : Pair) (l m xs : List ℕ) (k : ℕ) → line_answer bs p (length l) ≡ told xs → k ≡ length xs → m ≡ over l xs → Met bs p l (Written k) m
-unfolding length_of counted left
+told-met : (bs : List ℕ) (p : Pair) (l m xs : List ℕ) (k : ℕ) → line_answer bs p (length l) ≡ told xs → k ≡ length xs → m ≡ over l xs → Met bs p l (Ok k) m
+unfolding told_of counted left
 told-met bs p l m xs k e ek em = record { answer = rw (e, ek); slice = rw e em }
 
-module _ (bs : List ℕ) (r : Reading) (rows : List ℤ) (g : Parsing bs r rows) (p : Pair) (l : List ℕ) where
-  pub line-unread : (q : Refusal) → r ≡ Refused q → Met bs p l (NotWritten q) l
+module _ (bs : List ℕ) (r : Result Shape Refusal) (rows : List ℤ) (g : Parsing bs r rows) (p : Pair) (l : List ℕ) where
+  pub line-unread : (q : Refusal) → r ≡ Err q → Met bs p l (Err q) l
   unfolding outcome_of line_answer on_text
   line-unread q e = let f : read_text bs ≡ refused q.number q.line = sym (rw e at g.is) in turned-met bs p l q (rw f refl)
 
-  module _ (s : Shape) (e : r ≡ Accepted s) where
+  module _ (s : Shape) (e : r ≡ Ok s) where
     read_is : read_text bs ≡ accepted s (take (row_numbers s) rows)
     unfolding outcome_of
     read_is = sym (rw e at g.is)
@@ -73,8 +71,8 @@ module _ (bs : List ℕ) (r : Reading) (rows : List ℤ) (g : Parsing bs r rows)
       unfolding line_answer on_text here
       answer-is = rw read_is (ap (λ (j : ℕ). unless_down turned j (room_for (length l) (line_in (book_of s (take (row_numbers s) rows)) p))) (sym same))
 
-      pub line-unlawful : (k ≡ 0 → ⊥) → Met bs p l (NotWritten (record { number = k; line = 0 })) l
-      line-unlawful n = turned-met bs p l (record { number = k; line = 0 }) (answer-is ∙ unless-other turned k (room_for (length l) here) n)
+      pub line-unlawful : (q : Refusal) → q.number ≡ k → (k ≡ 0 → ⊥) → q.line ≡ 0 → Met bs p l (Err q) l
+      line-unlawful q e n z = turned-met bs p l q (rw (e, z) (answer-is ∙ unless-other turned k (room_for (length l) here) n))
 
       module _ (z : k ≡ 0) (w : ℕ) (ew : w ≡ line_fields s.exceptions) where
         here-is : here ≡ a_line w s.statements p
@@ -84,11 +82,11 @@ module _ (bs : List ℕ) (r : Reading) (rows : List ℤ) (g : Parsing bs r rows)
         room-is : line_answer bs p (length l) ≡ room_for (length l) (a_line w s.statements p)
         room-is = rw (← here-is) (answer-is ∙ unless-none turned k (room_for (length l) here) z)
 
-        pub line-short : (m : ℕ) → m ≡ line_bytes w s.statements → length l < m → Met bs p l (NotWritten (record { number = 15; line = 0 })) l
+        pub line-short : (m : ℕ) → m ≡ line_bytes w s.statements → length l < m → Met bs p l (Err (record { number = 15; line = 0 })) l
         unfolding room_for pick
         line-short m em h = turned-met bs p l (record { number = 15; line = 0 }) (room-is ∙ rw (lt-ltb (length l) (length (a_line w s.statements p)) (omega (arith, line-length w s.statements p))))
 
-        pub line-whole : (m : ℕ) (l' : List ℕ) → m ≡ line_bytes w s.statements → m ≤ length l → l' ≡ sets l 0 (a_line w s.statements p) → Met bs p l (Written m) l'
+        pub line-whole : (m : ℕ) (l' : List ℕ) → m ≡ line_bytes w s.statements → m ≤ length l → l' ≡ sets l 0 (a_line w s.statements p) → Met bs p l (Ok m) l'
         unfolding room_for pick
         line-whole m l' em h e =
             let f = line-length w s.statements p in
@@ -96,20 +94,17 @@ module _ (bs : List ℕ) (r : Reading) (rows : List ℤ) (g : Parsing bs r rows)
             (room-is ∙ rw (le-ltb (length l) (length (a_line w s.statements p)) (omega (arith, f)))) (em ∙ sym f) (e ∙ over-sets l (a_line w s.statements p) (omega (arith, f)))
 
 -- ---- the part that holds the line
-pub length-written : (w : Writing) (k : ℕ) → w ≡ Written k → k ≡ part_length (length_of w)
-unfolding length_of part_length
-length-written w k e = rw e
-
-pub length-refused : (w : Writing) (q : Refusal) → w ≡ NotWritten q → 0 ≡ part_length (length_of w)
-unfolding length_of part_length
-length-refused w q e = rw e
+pub length-is : (w : Result ℕ Refusal) → result_unwrap_or w 0 ≡ part_length (length_of w)
+unfolding told_of part_length
+length-is (Ok k) = refl
+length-is (Err q) = refl
 
 part-told : (l k : List ℕ) (a : Told (List ℕ)) (n : ℕ) → k ≡ left (λ (x : List ℕ). x) l a → n ≡ part_length (counted a) → (take n k ≡ part_of a) × (n ≤ length k)
 unfolding left over part_length counted part_of
 part-told l k (told xs) n ek en = rw (ek, en) (take_at xs (drop (length xs) l) (length xs) refl, rw (length-append xs (drop (length xs) l)) (omega arith))
 part-told l k (turned q line) n ek en = rw en (refl, omega arith)
 
-module _ (bs : List ℕ) (p : Pair) (l k : List ℕ) (w : Writing) (n : ℕ) (g : Met bs p l w k) (e : n ≡ part_length (length_of w)) where
+module _ (bs : List ℕ) (p : Pair) (l k : List ℕ) (w : Result ℕ Refusal) (n : ℕ) (g : Met bs p l w k) (e : n ≡ part_length (length_of w)) where
   part : (take n k ≡ part_of (line_answer bs p (length l))) × (n ≤ length k)
   part = part-told l k (line_answer bs p (length l)) n g.slice (e ∙ ap part_length g.answer)
 

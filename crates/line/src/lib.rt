@@ -5,13 +5,13 @@ ghost use Rattle.std.specs.Prelude.{◌≡◌, map, ◌+◌, ◌*◌, ◌<◌, �
 ghost use Rattle.std.proofs.lemmas.List.Edits.{sets};
 ghost use Rattle.book.specs.Limits as limit;
 ghost use Rattle.text.specs.ALines.{from, line_fields, taken_fields, mark as mark_of, a_line};
-ghost use Rattle.answers.specs.Operations.{length_of, line_answer};
+ghost use Rattle.answers.specs.Operations.{line_answer};
 ghost use Rattle.line.specs.Parts.{fields_of, taken_of, line_bytes};
-ghost use Rattle.line.specs.Promise.{Met, part_of, part_length};
+ghost use Rattle.line.specs.Promise.{Met, part_of};
 
 use book::Book;
 use sets::Pair;
-use text::{Reading, Refusal, Writing};
+use text::Refusal;
 
 // Where the fields of the exceptions begin in a line.
 const AT_TAKEN: usize = 1 + Book::COLUMNS;
@@ -44,13 +44,11 @@ pub fn put_members(buf: &mut [u8], at: usize, w: usize, taken: u64) -> usize
     ensures { (buf.new ≡ sets buf.old at (fields_of (taken_of w taken))) × (result ≡ length (taken_of w taken)) × (result ≤ w) }
 {
     let mut k = 0;
-    let mut i = 0;
-    while i < w {
+    for i in 0..w {
         if sets::member((i + 1) as u64, taken) {
             fields::put_columns(buf, at + k * Book::COLUMNS, false, (i + 1) as u32);
             k += 1;
         }
-        i += 1;
     }
     k
 }
@@ -60,10 +58,8 @@ pub fn put_zeros(buf: &mut [u8], at: usize, w: usize)
     requires { at + w * 4 ≤ length buf.old }
     ensures { buf.new ≡ sets buf.old at (fields_of (replicate w 0)) }
 {
-    let mut i = 0;
-    while i < w {
+    for i in 0..w {
         fields::put_columns(buf, at + i * Book::COLUMNS, false, 0);
-        i += 1;
     }
 }
 
@@ -97,10 +93,8 @@ pub fn put_marks(buf: &mut [u8], at: usize, n: usize, p: Pair)
     requires { (n ≤ 64) × (at + n ≤ length buf.old) }
     ensures { buf.new ≡ sets buf.old at (map (mark_of p) (from 1 n)) }
 {
-    let mut i = 0;
-    while i < n {
+    for i in 0..n {
         buf[at + i] = mark(p, (i + 1) as u64);
-        i += 1;
     }
 }
 
@@ -121,46 +115,25 @@ pub fn put_line(buf: &mut [u8], at: usize, w: usize, n: usize, p: Pair)
 
 // Line: the line of a lawful pair in front of the lent buffer. It answers the line's length, or the refusal of the text, then of the
 // pair, then 15 for a buffer that is too short; after a refusal the buffer is as it was.
-pub fn line(text: &[u8], p: Pair, buf: &mut [u8]) -> Writing
+pub fn line(text: &[u8], p: Pair, buf: &mut [u8]) -> Result<usize, Refusal>
     ensures { Met text.now p buf.old result buf.new }
 {
     let mut scratch = Book::empty();
-    let got = read::parse(text, &mut scratch.rows);
-    match got {
-        Reading::Refused(q) => Writing::Refused(q),
-        Reading::Accepted(s) => {
-            let k = lawful::refusal(s.statements, s.exceptions, p);
-            if k != 0 {
-                return Writing::Refused(Refusal { number: k, line: 0 });
-            }
-            let w = line_fields(s.exceptions);
-            let m = line_bytes(w, s.statements);
-            if buf.len() < m {
-                return Writing::Refused(Refusal {
-                    number: 15,
-                    line: 0,
-                });
-            }
-            put_line(buf, 0, w, s.statements, p);
-            Writing::Written(m)
-        }
+    let s = read::parse(text, &mut scratch.rows)?;
+    lawful::check(s.statements, s.exceptions, p)?;
+    let w = line_fields(s.exceptions);
+    let m = line_bytes(w, s.statements);
+    if buf.len() < m {
+        return Err(Refusal::new(15, 0));
     }
-}
-
-// The bytes that Line wrote: none after a refusal.
-pub fn part_length(w: Writing) -> usize
-    ensures { result ≡ part_length (length_of w) }
-{
-    match w {
-        Writing::Written(k) => k,
-        Writing::Refused(_) => 0,
-    }
+    put_line(buf, 0, w, s.statements, p);
+    Ok(m)
 }
 
 // Line's second form: the part of the buffer that holds the line, an empty part on refusal. The bytes past it are as `line` leaves them.
 pub fn line_part<'a>(text: &[u8], p: Pair, buf: &'a mut [u8]) -> &'a mut [u8]
     ensures { result.now ≡ part_of (line_answer text.now p (length buf.old)) }
 {
-    let k = part_length(line(text, p, buf));
+    let k = line(text, p, buf).unwrap_or(0);
     &mut buf[..k]
 }

@@ -1,5 +1,5 @@
 -- What the stores of the functions leave in a buffer.
-use Prim.Native.Nat.{ℕ, zero, suc, ◌+◌, ◌*◌, ◌<◌, ◌≤◌}
+use Prim.Native.Nat.{ℕ, zero, suc, ◌+◌, ◌-◌, ◌*◌, ◌<◌, ◌≤◌}
 use mathlib.Core.Path.{◌≡◌, refl, ap}
 use mathlib.Core.Bool.{false}
 use mathlib.Core.List.{List, [], ◌∷◌, ◌++◌}
@@ -7,7 +7,9 @@ use native.Mathlib.Numerals.{unary_clauses}
 use native.Mathlib.Omega.{arith}
 use borrow.Author.Tests.{lt-leb}
 use lib.Dec.{leb}
-use lib.ListN.{length, set}
+use borrow.Rule.Slice.PartMut.{put_mid}
+use lib.ListN.{length, take, drop, set, replicate, length-take, length-drop, length-set}
+use Rattle.answers.proofs.Copies.{part-put}
 use lib.Seq.{sets}
 use Rattle.logic.specs.Tests.{both, either, pick, concat_map}
 use Rattle.logic.proofs.Stores.{pieces, pieces-length, Putting, putting-room, putting-end}
@@ -36,12 +38,16 @@ closing-is : (x k : ℕ) → k ≤ most_lines → closing_line x k ≡ x ∷ 32 
 unfolding closing_line
 closing-is x k h = ap (λ (l : List ℕ). x ∷ (l ++ (10 ∷ []))) (count-short k h)
 
-pub closed : (l m₁ : List ℕ) (at x k : ℕ) → k ≤ most_lines → m₁ ≡ sets (set (set (set (set (set l at x) (at + 1) 32) (at + 2) 32) (at + 3) 32) (at + 4) 32) (at + 5) (columns false k)
-    → set m₁ (at + 9) 10 ≡ sets l at (closing_line x k)
+pub closed : (l m₁ xs : List ℕ) (at x k : ℕ) → k ≤ most_lines → at + closing_bytes ≤ length l → xs ≡ replicate (length (take (at + 5 - (at + 1)) (drop (at + 1) (set l at x)))) 32
+    → m₁ ≡ sets (put_mid (at + 1) (at + 5 - (at + 1)) (set l at x) xs) (at + 5) (columns false k) → set m₁ (at + 9) 10 ≡ sets l at (closing_line x k)
 unfolding columns in_columns
-closed l m₁ at x k h e =
+closed l m₁ xs at x k h r d e =
+    let c : length (take (at + 5 - (at + 1)) (drop (at + 1) (set l at x))) ≡ 4 =
+    omega (arith, length-take (at + 5 - (at + 1)) (drop (at + 1) (set l at x)), length-drop (at + 1) (set l at x), length-set l at x) in
+    let f : xs ≡ 32 ∷ 32 ∷ 32 ∷ 32 ∷ [] = rw c at d in
+    let g = part-put (set l at x) xs (32 ∷ 32 ∷ 32 ∷ 32 ∷ []) (at + 1) (at + 5) f (omega arith) (omega (arith, length-set l at x)) in
     let n : at + 9 ≡ suc (suc (suc (suc (suc (suc (suc (suc (suc at)))))))) = omega arith in
-    rw (closing-is x k h, e, n) (simp unary_clauses refl)
+    rw (closing-is x k h, e, g, n) (simp unary_clauses refl)
 
 pub failed-put : (l m₁ m₂ : List ℕ) (q k : ℕ) → m₁ ≡ sets (set l 0 70) 1 (columns false q) → m₂ ≡ sets m₁ 5 (columns false k) → set m₂ 9 10 ≡ sets l 0 (failed q k)
 unfolding failed written_all written columns in_columns

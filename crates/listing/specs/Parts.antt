@@ -1,5 +1,5 @@
 -- What `ways` prints, part by part: the first from the text, each other from the prepared book, the point and the lines that are left.
-use Rattle.std.specs.Prelude.{ℕ, ◌+◌, ◌-◌, ◌*◌, ◌<◌, ◌≤◌, true, false, ◌≡◌, List, ◌++◌, ℤ, length, take, drop}
+use Rattle.std.specs.Prelude.{ℕ, ◌+◌, ◌-◌, ◌*◌, ◌<◌, ◌≤◌, ◌≡◌, List, ◌++◌, ℤ, length, take, drop, Some, None}
 use Rattle.sets.specs.declared.Pair.{Pair}
 use Rattle.book.specs.declared.Shape.{Shape}
 use Rattle.book.specs.Limits as limit
@@ -32,15 +32,14 @@ part_bytes = part_lines * longest_line + closing_bytes
 pub record Closes (w n : ℕ) (ns : List ℕ) (k letter done : ℕ) (o' : List ℕ) (r : Part) : Type 0 where
   pub fits : r.bytes ≤ length o'
   pub small : r.bytes ≤ part_bytes
-  pub not_full : r.full ≡ false
+  pub ends : r.next ≡ None
   pub is : take r.bytes o' ≡ lines_of w n (pairs_in ns 0 k) ++ closing_line letter (done + k)
 
--- The lines of all k pairs, and the last of them.
+-- The lines of all k pairs, and the last of them, from which the listing goes on.
 pub record Fills (w n : ℕ) (ns : List ℕ) (k : ℕ) (o' : List ℕ) (r : Part) : Type 0 where
   pub fits : r.bytes ≤ length o'
   pub small : r.bytes ≤ part_bytes
-  pub is_full : r.full ≡ true
-  pub last : r.last ≡ pair_at ns (part_lines - 1)
+  pub goes_on : r.next ≡ Some (pair_at ns (part_lines - 1))
   pub is : take r.bytes o' ≡ lines_of w n (pairs_in ns 0 k)
 
 -- A page of k pairs where m lines are left: `M` where it is more than may be printed, `E` where it is all there is, else the listing goes on.
@@ -64,10 +63,10 @@ pub record Ready (s : Shape) (ws ranks : List ℕ) (p : Pair) : Type 0 where
 pub record Lists (s : Shape) (ws ranks : List ℕ) (from : Point) (m : ℕ) (o' : List ℕ) (r : Part) : Type 0 where
   pub fits : r.bytes ≤ length o'
   pub small : r.bytes ≤ part_bytes
-  pub fewer : r.full ≡ true → part_lines ≤ m
-  pub whole : (rows : List ℤ) → Loaded s rows ws ranks → LawfulPoint (book_of s rows) from → r.full ≡ false → take r.bytes o' ≡ listed (book_of s rows) m from
-  pub lawful : (rows : List ℤ) → Loaded s rows ws ranks → LawfulPoint (book_of s rows) from → r.full ≡ true → Lawful (book_of s rows) r.last
-  pub front : (rows : List ℤ) → Loaded s rows ws ranks → LawfulPoint (book_of s rows) from → r.full ≡ true → take r.bytes o' ++ listed (book_of s rows) (m - part_lines) (at r.last) ≡ listed (book_of s rows) m from
+  pub fewer : (p : Pair) → r.next ≡ Some p → part_lines ≤ m
+  pub whole : (rows : List ℤ) → Loaded s rows ws ranks → LawfulPoint (book_of s rows) from → r.next ≡ None → take r.bytes o' ≡ listed (book_of s rows) m from
+  pub lawful : (rows : List ℤ) → Loaded s rows ws ranks → LawfulPoint (book_of s rows) from → (p : Pair) → r.next ≡ Some p → Lawful (book_of s rows) p
+  pub front : (rows : List ℤ) → Loaded s rows ws ranks → LawfulPoint (book_of s rows) from → (p : Pair) → r.next ≡ Some p → take r.bytes o' ++ listed (book_of s rows) (m - part_lines) (at p) ≡ listed (book_of s rows) m from
 
 -- ---- of a text
 -- What was printed, with what is listed from the pair on, m lines being left, is all that `ways` prints.
@@ -77,10 +76,10 @@ pub record GoesOn (bs : List ℕ) (ws ranks done : List ℕ) (s : Shape) (p : Pa
 
 -- The first part of a text.
 pub record Begins (bs ws ranks o' : List ℕ) (r : Begun) : Type 0 where
-  pub fits : r.part.bytes ≤ length o'
-  pub small : r.part.bytes ≤ part_bytes
-  pub whole : r.part.full ≡ false → take r.part.bytes o' ≡ ways_of bs
-  pub more : r.part.full ≡ true → GoesOn bs ws ranks (take r.part.bytes o') r.shape r.part.last (most_lines - part_lines)
+  pub fits : r.bytes ≤ length o'
+  pub small : r.bytes ≤ part_bytes
+  pub whole : r.next ≡ None → take r.bytes o' ≡ ways_of bs
+  pub more : (s : Shape) (p : Pair) → r.next ≡ Some (s, p) → GoesOn bs ws ranks (take r.bytes o') s p (most_lines - part_lines)
 
 -- ---- byte by byte
 -- The bytes are the first of those that `ways` prints for the text from place i on.

@@ -14,7 +14,7 @@ ghost use Rattle.listing.specs.Parts.{part_lines, closing_bytes, part_bytes, Pre
 use book::{Book, Shape};
 use engine::{Ranks, Words};
 use sets::Pair;
-use text::{Reading, Refusal};
+use text::Refusal;
 
 // The most lines that are printed, and the most that a part has.
 pub const MOST: usize = 9999;
@@ -35,13 +35,11 @@ pub fn put_lines(out: &mut [u8], w: usize, n: usize, pairs: &[u64], k: usize) ->
     ensures { (out.new ≡ sets out.old 0 (lines_of w n (pairs_in pairs.now 0 k))) × (result ≡ k * line_bytes w n) }
 {
     let bytes = line::line_bytes(w, n);
-    let mut i = 0;
     let mut at = 0;
-    while i < k {
+    for i in 0..k {
         let p = page::pair_at(pairs, i);
         line::put_line(out, at, w, n, p);
-        at = at + bytes;
-        i += 1;
+        at += bytes;
     }
     at
 }
@@ -52,20 +50,16 @@ pub fn put_closing(out: &mut [u8], at: usize, letter: u8, count: usize)
     ensures { out.new ≡ sets out.old at (closing_line letter count) }
 {
     out[at] = letter;
-    out[at + 1] = b' ';
-    out[at + 2] = b' ';
-    out[at + 3] = b' ';
-    out[at + 4] = b' ';
+    out[at + 1..at + 5].fill(b' ');
     fields::put_columns(out, at + 5, false, count as u32);
     out[at + 9] = b'\n';
 }
 
-// A part: how many bytes it has, whether the listing goes on after it, and its last pair then.
+// A part: how many bytes it has, and its last pair if the listing goes on after it.
 #[derive(Clone, Copy)]
 pub struct Part {
     pub bytes: usize,
-    pub full: bool,
-    pub last: Pair,
+    pub next: Option<Pair>,
 }
 
 // The first k pairs of a page in lines, done lines having been printed before, and a closing line: no part follows.
@@ -85,12 +79,7 @@ pub fn close_part(
     put_closing(out, at, letter, done + k);
     Part {
         bytes: at + CLOSING,
-        full: false,
-        last: Pair {
-            taken: 0,
-            held: 0,
-            denied: 0,
-        },
+        next: None,
     }
 }
 
@@ -108,8 +97,7 @@ pub fn put_part(out: &mut [u8], w: usize, n: usize, pairs: &[u64], k: usize, m: 
     }
     Part {
         bytes: put_lines(out, w, n, pairs, PART),
-        full: true,
-        last: page::pair_at(pairs, PART - 1),
+        next: Some(page::pair_at(pairs, PART - 1)),
     }
 }
 
@@ -146,11 +134,11 @@ pub fn put_failed(out: &mut [u8], q: Refusal)
     out[9] = b'\n';
 }
 
-// The first part, and the book's shape.
+// The first part: how many bytes it has, and the book's shape and the last pair if the listing goes on after it.
 #[derive(Clone, Copy)]
 pub struct Begun {
-    pub part: Part,
-    pub shape: Shape,
+    pub bytes: usize,
+    pub next: Option<(Shape, Pair)>,
 }
 
 // The first part for a text: all of it, or as much as a part has. The words are lent as zeros.
@@ -158,33 +146,20 @@ pub fn begin(text: &[u8], words: &mut Words, ranks: &mut Ranks, out: &mut Text) 
     requires { Blank words.old 0 }
     ensures { Begins text.now words.new ranks.new out.new result }
 {
-    let got = operations::load(text, words, ranks);
-    match got {
-        Reading::Refused(q) => {
+    match operations::load(text, words, ranks) {
+        Err(q) => {
             put_failed(out, q);
             Begun {
-                part: Part {
-                    bytes: 10,
-                    full: false,
-                    last: Pair {
-                        taken: 0,
-                        held: 0,
-                        denied: 0,
-                    },
-                },
-                shape: Shape {
-                    statements: 0,
-                    plain: 0,
-                    exceptions: 0,
-                    preferences: 0,
-                    conditionals: 0,
-                    alternatives: 0,
-                },
+                bytes: 10,
+                next: None,
             }
         }
-        Reading::Accepted(shape) => {
-            let part = opening(words, ranks, shape, out);
-            Begun { part, shape }
+        Ok(s) => {
+            let part = opening(words, ranks, s, out);
+            Begun {
+                bytes: part.bytes,
+                next: part.next.map(|p| (s, p)),
+            }
         }
     }
 }

@@ -1,7 +1,7 @@
 -- A parsed text is loaded: an accepted book's facts are what packing its rules, its Q lines and its preferences ask of its rows.
-use mathlib.Core.Path.{◌≡◌, sym}
+use mathlib.Core.Path.{◌≡◌, refl, sym}
 use mathlib.Core.List.{List}
-use Prim.Native.Nat.{ℕ, zero, suc, ◌+◌, ◌*◌, ◌<◌, ◌≤◌}
+use Prim.Native.Nat.{ℕ, zero, suc, ◌+◌, ◌*◌, ◌^◌, ◌<◌, ◌≤◌}
 use native.Mathlib.Omega.{arith}
 use lib.IntN.{ℤ, nat_abs}
 use lib.ListN.{length, take, length-take}
@@ -10,10 +10,6 @@ use Rattle.book.specs.declared.Shape.{Shape}
 use Rattle.book.specs.Kinds.{kinds, kind, entries_each, plain, alternative, exception, preference, conditional, preference_numbers, conditional_numbers}
 use Rattle.book.specs.Counts.{counts_of, all_counts, count_at, start_of, row_numbers, InLimits}
 use Rattle.text.specs.declared.Refusal.{Refusal}
-use Rattle.text.specs.declared.Reading.{Reading}
-use Rattle.text.specs.declared.Reading.TheVariants.{Accepted, Refused}
-use Rattle.text.specs.Reading.{read_text}
-use Rattle.text.specs.Reading.Outcome.{accepted, refused}
 use Rattle.text.specs.Accepted.{Accepted as Facts}
 use Rattle.text.proofs.Facts.{plain-rules, alternative-rules, exception-rules, entry-small, Named, preference-named, conditional-named, conditional-small}
 use Rattle.read.specs.Storing.{outcome_of}
@@ -22,8 +18,14 @@ use Rattle.meaning.specs.Meant.{at, number, book_of}
 use Rattle.bridge.specs.Packed.{Packs}
 use Rattle.bridge.specs.Ranks.{Names, RanksOf}
 use Rattle.bridge.specs.Rows.{rule_count, RowsLawful}
-use Rattle.engine.specs.Loaded.{Loaded}
-use Rattle.operations.specs.Loads.{Loads, Filled}
+use Rattle.std.specs.Prelude.{Result, Ok, Err}
+use Rattle.sets.specs.declared.Pair.{Pair}
+use Rattle.lawful.specs.Refusals.{Refuses}
+use Rattle.meaning.specs.Twins.Verdicts.{pair_refusal}
+use Rattle.meaning.proofs.Meant.{exceptions-count}
+use Rattle.meaning.proofs.Refusals.{none-lawful}
+use Rattle.operations.specs.Loads.{Loads, LoadsFor, Filled}
+use Rattle.operations.specs.Loads.RefusedFor.{by_pair}
 
 -- The facts of an accepted book, row by row. The rules are the rows of R, O and X lines.
 entries-lawful : (s : Shape) (ws : List ℤ) → Facts s ws → (q : ℕ) → plain ≤ q → q ≤ exception → (k : ℕ) → k < count_at s q → (i : ℕ) → i < (kind q).heads + (entries_each + entries_each)
@@ -73,25 +75,34 @@ module _ (s : Shape) (rows : List ℤ) (m : ℕ) (e : m ≡ row_numbers s) (f : 
   pub front-filled : (ws ranks : List ℕ) → Packs (book_of s (take m rows)) ws (rule_count s) → RanksOf (book_of s (take m rows)) ranks → Filled s (take (row_numbers s) rows) ws ranks
   front-filled ws ranks p k = record { packs = rw e at p; ranked = rw e at k }
 
-module _ (bs : List ℕ) (r : Reading) (l : List ℤ) (p : Parsing bs r l) where
-  pub loads-refused : (q : Refusal) → r ≡ Refused q → (ws ranks : List ℕ) → Loads bs (Refused q) ws ranks
-  unfolding Loads outcome_of
+module _ (bs : List ℕ) (r : Result Shape Refusal) (l : List ℤ) (p : Parsing bs r l) where
+  pub loads-refused : (q : Refusal) → r ≡ Err q → (ws ranks : List ℕ) → Loads bs (Err q) ws ranks
+  unfolding outcome_of
   loads-refused q e ws ranks = sym (rw e at p.is)
 
-  pub loads-accepted : (s : Shape) → r ≡ Accepted s → (ws ranks : List ℕ) → Filled s (take (row_numbers s) l) ws ranks → Loads bs (Accepted s) ws ranks
-  unfolding Loads outcome_of
+  pub loads-accepted : (s : Shape) → r ≡ Ok s → (ws ranks : List ℕ) → Filled s (take (row_numbers s) l) ws ranks → Loads bs (Ok s) ws ranks
+  unfolding outcome_of
   loads-accepted s e ws ranks k =
       let f = p.facts s e in
       (take (row_numbers s) l, sym (rw e at p.is), record { packs = k.packs; ranked = k.ranked; limits = f.limits })
 
--- What a loaded text was.
-pub refused-was : (bs : List ℕ) (r : Reading) (q : Refusal) (ws ranks : List ℕ) → r ≡ Refused q → Loads bs r ws ranks → read_text bs ≡ refused q.number q.line
-unfolding Loads
-refused-was bs r q ws ranks e l = rw e at l
+-- A loaded book's shape is in the limits.
+pub loaded-small : (bs : List ℕ) (s : Shape) (ws ranks : List ℕ) → Loads bs (Ok s) ws ranks → InLimits s
+loaded-small bs s ws ranks d = d.2.limits
 
-pub accepted-was : (bs : List ℕ) (r : Reading) (s : Shape) (ws ranks : List ℕ) → r ≡ Accepted s → Loads bs r ws ranks → (rows : List ℤ) × (read_text bs ≡ accepted s rows) × Loaded s rows ws ranks
-unfolding Loads
-accepted-was bs r s ws ranks e l = rw e at l
+-- ---- the pair
+-- What the test of a pair says of the book with these rows.
+refusal-is : (s : Shape) (rows : List ℤ) (p : Pair) (k : ℕ) → Refuses s.statements s.exceptions p k → k ≡ pair_refusal (book_of s rows) p
+unfolding book_of
+refusal-is s rows p k c = c.refusal (book_of s rows) refl (exceptions-count s rows)
 
-pub small-was : (bs : List ℕ) (r : Reading) (s : Shape) (ws ranks : List ℕ) → r ≡ Accepted s → Loads bs r ws ranks → InLimits s
-small-was bs r s ws ranks e l = (accepted-was bs r s ws ranks e l).2.limits
+module _ (bs : List ℕ) (s : Shape) (p : Pair) (ws ranks : List ℕ) (d : Loads bs (Ok s) ws ranks) where
+  pub refused-for : (q : Refusal) → Refuses s.statements s.exceptions p q.number → (q.number ≡ 0 → ⊥) → q.line ≡ 0 → LoadsFor bs p (Err q) ws ranks
+  refused-for q c n z = by_pair s d.0 d.1 (refusal-is s d.0 p q.number c) n z
+
+  pub lawful-for : Refuses s.statements s.exceptions p 0 → LoadsFor bs p (Ok s) ws ranks
+  lawful-for c = (d.0, d.1, d.2, none-lawful (book_of s d.0) p (sym (refusal-is s d.0 p 0 c)))
+
+-- A lawful pair takes exceptions of the book.
+pub few-taken : (bs : List ℕ) (s : Shape) (p : Pair) (ws ranks : List ℕ) → LoadsFor bs p (Ok s) ws ranks → InLimits s × (p.taken < 2 ^ s.exceptions)
+few-taken bs s p ws ranks d = (d.2.limits, rw (exceptions-count s d.0) at d.3.exceptions)

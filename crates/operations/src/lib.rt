@@ -10,13 +10,12 @@ ghost use Rattle.answers.specs.Operations.{turned, answer_of, verdict_of, first_
 ghost use Rattle.answers.specs.Means.{Means, Judges};
 ghost use Rattle.bridge.specs.Rows.{rule_count};
 ghost use Rattle.prepare.specs.Packing.{Blank};
-ghost use Rattle.operations.specs.Loads.{Loads, Filled, found_in};
+ghost use Rattle.operations.specs.Loads.{Loads, LoadsFor, Filled, found_in};
 
-use answers::{Found, Judged, Paged};
 use book::{Book, Shape};
 use engine::{Ranks, Words};
 use sets::Pair;
-use text::{Reading, Refusal};
+use text::Refusal;
 
 // Prepares an accepted book: the words of its rules and its Q lines, and those of its ranks. The words after the rules are lent as zeros.
 pub fn fill(s: Shape, rows: &[i32], words: &mut Words, ranks: &mut Ranks)
@@ -37,123 +36,88 @@ pub fn fill_from(s: Shape, rows: &[i32; Book::ROOM], words: &mut Words, ranks: &
 }
 
 // Reads a text and prepares its book. The words are lent as zeros.
-pub fn load(text: &[u8], words: &mut Words, ranks: &mut Ranks) -> Reading
+pub fn load(text: &[u8], words: &mut Words, ranks: &mut Ranks) -> Result<Shape, Refusal>
     requires { Blank words.old 0 }
     ensures { Loads text.now result words.new ranks.new }
 {
     let mut scratch = Book::empty();
-    let got = read::parse(text, &mut scratch.rows);
-    match got {
-        Reading::Refused(q) => Reading::Refused(q),
-        Reading::Accepted(s) => {
-            fill_from(s, &scratch.rows, words, ranks);
-            Reading::Accepted(s)
-        }
-    }
+    let s = read::parse(text, &mut scratch.rows)?;
+    fill_from(s, &scratch.rows, words, ranks);
+    Ok(s)
+}
+
+// The same for a pair that has to be lawful in the book: the refusal of the text, then of the pair.
+pub fn load_for(
+    text: &[u8],
+    p: Pair,
+    words: &mut Words,
+    ranks: &mut Ranks,
+) -> Result<Shape, Refusal>
+    requires { Blank words.old 0 }
+    ensures { LoadsFor text.now p result words.new ranks.new }
+{
+    let s = load(text, words, ranks)?;
+    lawful::check(s.statements, s.exceptions, p)?;
+    Ok(s)
 }
 
 // Judge: the verdict on a pair, or the refusal of the text, then of the pair.
-pub fn judge(text: &[u8], p: Pair) -> Judged
+pub fn judge(text: &[u8], p: Pair) -> Result<u32, Refusal>
     ensures result_value { verdict_of result ≡ judge_answer text.now p }
     ensures means { Means turned Judges text.now (at p) (verdict_of result) }
 {
     let mut words = [0u64; (Book::RULES + Book::CONDITIONALS) * 8];
     let mut ranks = [0u64; Book::EXCEPTIONS];
-    let got = load(text, &mut words, &mut ranks);
-    match got {
-        Reading::Refused(q) => Judged::Refused(q),
-        Reading::Accepted(s) => {
-            let k = lawful::refusal(s.statements, s.exceptions, p);
-            if k != 0 {
-                return Judged::Refused(Refusal { number: k, line: 0 });
-            }
-            Judged::Verdict(engine::verdict_in(&words, &ranks, s, p))
-        }
-    }
-}
-
-// A page of one pair as an answer.
-pub fn found(count: usize, out: &[u64; 3]) -> Found
-    ensures { result ≡ found_in count out.now }
-{
-    if count == 0 {
-        return Found::End;
-    }
-    Found::Resolution(Pair {
-        taken: out[0],
-        held: out[1],
-        denied: out[2],
-    })
-}
-
-// First: the first resolution, or End, or the refusal of the text.
-pub fn first(text: &[u8]) -> Found
-    ensures result_value { answer_of result ≡ first_answer text.now }
-    ensures means { Means refused FirstLater text.now start (answer_of result) }
-{
-    let mut words = [0u64; (Book::RULES + Book::CONDITIONALS) * 8];
-    let mut ranks = [0u64; Book::EXCEPTIONS];
-    let got = load(text, &mut words, &mut ranks);
-    match got {
-        Reading::Refused(q) => Found::Refused(q),
-        Reading::Accepted(s) => {
-            let mut out = [0u64; 3];
-            let count = engine::first_in(&words, &ranks, s, &mut out);
-            found(count, &out)
-        }
-    }
-}
-
-// After: the first resolution later than the pair, or End, or the refusal of the text, then of the pair.
-pub fn after(text: &[u8], p: Pair) -> Found
-    ensures result_value { answer_of result ≡ after_answer text.now p }
-    ensures means { Means refused FirstLater text.now (at p) (answer_of result) }
-{
-    let mut words = [0u64; (Book::RULES + Book::CONDITIONALS) * 8];
-    let mut ranks = [0u64; Book::EXCEPTIONS];
-    let got = load(text, &mut words, &mut ranks);
-    match got {
-        Reading::Refused(q) => Found::Refused(q),
-        Reading::Accepted(s) => {
-            let k = lawful::refusal(s.statements, s.exceptions, p);
-            if k != 0 {
-                return Found::Refused(Refusal { number: k, line: 0 });
-            }
-            let mut out = [0u64; 3];
-            let count = engine::after_in(&words, &ranks, s, p, &mut out);
-            found(count, &out)
-        }
-    }
+    let s = load_for(text, p, &mut words, &mut ranks)?;
+    Ok(engine::verdict_in(&words, &ranks, s, p))
 }
 
 // A page: the first resolutions, as many as the lent slice has room for, or the refusal of the text.
-pub fn first_page(text: &[u8], out: &mut [u64]) -> Paged
+pub fn first_page(text: &[u8], out: &mut [u64]) -> Result<usize, Refusal>
     ensures { PageMet (first_page text.now (length out.old)) out.old out.new result }
 {
     let mut words = [0u64; (Book::RULES + Book::CONDITIONALS) * 8];
     let mut ranks = [0u64; Book::EXCEPTIONS];
-    let got = load(text, &mut words, &mut ranks);
-    match got {
-        Reading::Refused(q) => Paged::Refused(q),
-        Reading::Accepted(s) => Paged::Pairs(engine::first_in(&words, &ranks, s, out)),
-    }
+    let s = load(text, &mut words, &mut ranks)?;
+    Ok(engine::first_in(&words, &ranks, s, out))
 }
 
 // A page: the first resolutions later than the pair, or the refusal of the text, then of the pair.
-pub fn page_after(text: &[u8], p: Pair, out: &mut [u64]) -> Paged
+pub fn page_after(text: &[u8], p: Pair, out: &mut [u64]) -> Result<usize, Refusal>
     ensures { PageMet (page_after text.now p (length out.old)) out.old out.new result }
 {
     let mut words = [0u64; (Book::RULES + Book::CONDITIONALS) * 8];
     let mut ranks = [0u64; Book::EXCEPTIONS];
-    let got = load(text, &mut words, &mut ranks);
-    match got {
-        Reading::Refused(q) => Paged::Refused(q),
-        Reading::Accepted(s) => {
-            let k = lawful::refusal(s.statements, s.exceptions, p);
-            if k != 0 {
-                return Paged::Refused(Refusal { number: k, line: 0 });
-            }
-            Paged::Pairs(engine::after_in(&words, &ranks, s, p, out))
-        }
+    let s = load_for(text, p, &mut words, &mut ranks)?;
+    Ok(engine::after_in(&words, &ranks, s, p, out))
+}
+
+// The pair of a page of one pair, if it has one.
+pub fn found(count: usize, out: &[u64; 3]) -> Option<Pair>
+    ensures { result ≡ found_in count out.now }
+{
+    if count == 0 {
+        return None;
     }
+    Some(page::pair_at(out, 0))
+}
+
+// First: the first resolution, or none at the End, or the refusal of the text.
+pub fn first(text: &[u8]) -> Result<Option<Pair>, Refusal>
+    ensures result_value { answer_of result ≡ first_answer text.now }
+    ensures means { Means refused FirstLater text.now start (answer_of result) }
+{
+    let mut out = [0u64; 3];
+    let count = first_page(text, &mut out)?;
+    Ok(found(count, &out))
+}
+
+// After: the first resolution later than the pair, or none at the End, or the refusal of the text, then of the pair.
+pub fn after(text: &[u8], p: Pair) -> Result<Option<Pair>, Refusal>
+    ensures result_value { answer_of result ≡ after_answer text.now p }
+    ensures means { Means refused FirstLater text.now (at p) (answer_of result) }
+{
+    let mut out = [0u64; 3];
+    let count = page_after(text, p, &mut out)?;
+    Ok(found(count, &out))
 }

@@ -19,8 +19,7 @@ use Rattle.book.specs.declared.Shape.{Shape}
 use Rattle.book.specs.Kinds.{kinds, kind, unknown, fields_of, bytes, none, exception, Range, range_of, longest}
 use Rattle.book.proofs.Counts.{many}
 use Rattle.text.specs.declared.State.{State}
-use Rattle.text.specs.declared.Field.{Field}
-use Rattle.text.specs.declared.Field.TheVariants.{Value, Misspelt}
+use Rattle.std.specs.Prelude.{Result, Ok, Err}
 use Rattle.text.specs.Fields.{size_of, minus_in, signed, misspelling, Misspells, is_stray, is_gapped, is_wrong_zero, read_columns, is_number, spelt, first_field}
 use Rattle.text.specs.Lines.{Numbers, Line, lines, kind_for, inside, and_then, test_field, read_fields, headless, missing, miscounted, whole_of, unless, judged, read_rest, read_kind, read_line}
 use Rattle.text.specs.Lines.Numbers.{numbers, fault}
@@ -53,19 +52,19 @@ misspelt-before bs q (is_gapped e f) = refl
 misspelt-before bs q (is_wrong_zero e f g) = refl
 
 -- Today's field, told as before: 5 for each of the three.
-abbrev told_field : Field → Field
-told_field (Value v) = Value v
-told_field (Misspelt q) = Misspelt (number_before q)
+abbrev told_field : Result ℤ ℕ → Result ℤ ℕ
+told_field (Ok v) = Ok v
+told_field (Err q) = Err (number_before q)
 
 -- What was read as a number is, and nothing else: the same columns are compared. What was 5 is one of the three.
 spelt-before : (a b c d : ℕ) → spelt_before a b c d ≡ told_field (spelt a b c d)
 unfolding spelt_before columns_before spelt read_columns pick
 spelt-before a b c d = go (is_number a b c d) refl
   where
-    go : (t : Bool) → is_number a b c d ≡ t → pick t (Value (signed (minus_in a b c) (size_of a b c d))) (Misspelt 5)
-        ≡ told_field (pick t (Value (signed (minus_in a b c) (size_of a b c d))) (Misspelt (misspelling (a ∷ b ∷ c ∷ d ∷ []))))
+    go : (t : Bool) → is_number a b c d ≡ t → pick t (Ok (signed (minus_in a b c) (size_of a b c d))) (Err 5)
+        ≡ told_field (pick t (Ok (signed (minus_in a b c) (size_of a b c d))) (Err (misspelling (a ∷ b ∷ c ∷ d ∷ []))))
     go true p = refl
-    go false p = ap Misspelt (sym (misspelt-before (a ∷ b ∷ c ∷ d ∷ []) (misspelling (a ∷ b ∷ c ∷ d ∷ [])) ((misspelt-iff a b c d (misspelling (a ∷ b ∷ c ∷ d ∷ []))).0 (rw p))))
+    go false p = ap Err (sym (misspelt-before (a ∷ b ∷ c ∷ d ∷ []) (misspelling (a ∷ b ∷ c ∷ d ∷ [])) ((misspelt-iff a b c d (misspelling (a ∷ b ∷ c ∷ d ∷ []))).0 (rw p))))
 
 first-before : (bs : List ℕ) → first_before bs ≡ told_field (first_field bs)
 unfolding first_before first_field
@@ -89,10 +88,10 @@ unfolding and_then
 then-before v (numbers vs) = refl
 then-before v (fault q) = refl
 
-field-before : (f : Field) (r : Range) (ns : Numbers) → Same r.fault → test_field (told_field f) r (numbers_before ns) ≡ numbers_before (test_field f r ns)
+field-before : (f : Result ℤ ℕ) (r : Range) (ns : Numbers) → Same r.fault → test_field (told_field f) r (numbers_before ns) ≡ numbers_before (test_field f r ns)
 unfolding test_field
-field-before (Misspelt q) r ns e = refl
-field-before (Value v) r ns e =
+field-before (Err q) r ns e = refl
+field-before (Ok v) r ns e =
     rw (then-before v ns) (ap (λ (q : ℕ). pick (inside r v) (numbers_before (and_then v ns)) (fault q)) (sym e) ∙ pick-map numbers_before (inside r v) (and_then v ns) (fault r.fault))
 
 fields-before : (cs : List Content) (n : ℕ) (bs : List ℕ) → fields_before cs n bs ≡ numbers_before (read_fields cs n bs)

@@ -4,14 +4,14 @@ use Rattle.calls.proofs.Calls.{called-found, called-end, called-refused}
 use borrow.Author.Rules.{rules}
 use Rattle.calls.proofs.one_call.Goals as goal
 
-pub returns-in-Resolution : goal.returns-in-Resolution
+pub returns-in-Ok-Some : goal.returns-in-Ok-Some
 unfolding call_at
-returns-in-Resolution c = called-found _ _ _ _ _ _ _ _ _ c.answer-a.ensures c.put_answer.ensures _ _ (search rules) c.put.ensures
+returns-in-Ok-Some c = called-found _ _ _ _ _ _ _ _ _ c.answer-a.ensures c.put_answer.ensures _ _ (search rules) c.put.ensures
 
-pub returns-in-End : goal.returns-in-End
+pub returns-in-Ok-None : goal.returns-in-Ok-None
 unfolding call_at
-returns-in-End c = called-end _ _ _ _ _ _ _ _ _ c.answer-a.ensures c.put_answer.ensures _ refl (search rules)
+returns-in-Ok-None c = called-end _ _ _ _ _ _ _ _ _ c.answer-a.ensures c.put_answer.ensures _ refl (search rules)
 
-pub returns-in-Refused : goal.returns-in-Refused
+pub returns-in-Err : goal.returns-in-Err
 unfolding call_at
-returns-in-Refused c = called-refused _ _ _ _ _ _ _ _ _ c.answer-a.ensures c.put_answer.ensures c.in-Refused.field-0 _ refl c.in-Refused.is
+returns-in-Err c = called-refused _ _ _ _ _ _ _ _ _ c.answer-a.ensures c.put_answer.ensures c.in-Err.field-0 _ refl c.in-Err.is

@@ -1,4 +1,3 @@
-use Prim.Native.Nat.{◌+◌, ◌-◌}
 use mathlib.Core.Path.{ap}
 use native.Mathlib.Omega.{arith}
 use lib.ListN.{set}
@@ -9,23 +8,11 @@ use Rattle.line.proofs.put_marks.Goals as goal
 pub loop-i-init : goal.loop-i-init
 loop-i-init c = putting-start _ _ _ _ _ (omega arith)
 
-pub overflow_add-i : goal.overflow_add-i
-overflow_add-i c = omega arith
-
 pub mark-requires : goal.mark-requires
 mark-requires c = (omega arith, omega arith)
 
-pub overflow_add-buf : goal.overflow_add-buf
-overflow_add-buf c = omega arith
-
 pub bounds-buf-at : goal.bounds-buf-at
 bounds-buf-at c = omega arith
-
-pub overflow_add-i-in-loop-i : goal.overflow_add-i-in-loop-i
-overflow_add-i-in-loop-i c = omega arith
-
-pub loop-i-smaller : goal.loop-i-smaller
-loop-i-smaller c = omega arith
 
 pub loop-i-preserved : goal.loop-i-preserved
 loop-i-preserved c =

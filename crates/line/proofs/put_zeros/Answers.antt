@@ -1,4 +1,3 @@
-use Prim.Native.Nat.{◌+◌, ◌-◌, ◌*◌}
 use native.Mathlib.Omega.{arith}
 use Rattle.logic.proofs.Stores.{putting-start, putting-next, putting-end}
 use Rattle.text.specs.Fields.{columns, in_columns}
@@ -8,20 +7,8 @@ use Rattle.line.proofs.put_zeros.Goals as goal
 pub loop-i-init : goal.loop-i-init
 loop-i-init c = putting-start _ _ _ _ _ (omega arith)
 
-pub overflow_mul-i : goal.overflow_mul-i
-overflow_mul-i c = omega arith
-
-pub overflow_add-at : goal.overflow_add-at
-overflow_add-at c = omega arith
-
 pub put_columns-requires : goal.put_columns-requires
 put_columns-requires c = (omega arith, omega arith)
-
-pub overflow_add-i : goal.overflow_add-i
-overflow_add-i c = omega arith
-
-pub loop-i-smaller : goal.loop-i-smaller
-loop-i-smaller c = omega arith
 
 pub loop-i-preserved : goal.loop-i-preserved
 unfolding columns in_columns

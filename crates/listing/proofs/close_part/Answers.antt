@@ -27,4 +27,4 @@ pub returns : goal.returns
 returns c =
     let put-lines = c.put_lines-at in
     let put-closing = c.put_closing in
-    closes _ _ _ _ _ _ _ put-lines.ensures.0 put-lines.ensures.1 (search rules) (search rules) (search rules) (search rules) _ _ _ _ put-closing.ensures (omega (arith, put-lines.auto.out, put-closing.auto.out))
+    closes _ _ _ _ _ _ _ put-lines.ensures.0 put-lines.ensures.1 (search rules) (search rules) (search rules) (search rules) _ _ _ put-closing.ensures (omega (arith, put-lines.auto.out, put-closing.auto.out))

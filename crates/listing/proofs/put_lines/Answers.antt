@@ -1,7 +1,5 @@
 use borrow.Author.Rules.{rules}
-use mathlib.Core.Path.{◌≡◌}
 use native.Mathlib.Omega.{arith}
-use Prim.Native.Nat.{◌-◌}
 use Rattle.logic.proofs.Stores.{putting-start, putting-next}
 use Rattle.line.proofs.PutLaws.{line-length}
 use Rattle.listing.proofs.Stores.{lines-room, lines-put}
@@ -25,12 +23,6 @@ pub overflow_add-at : goal.overflow_add-at
 overflow_add-at c =
     let loop = c.loop-i in
     omega (arith, lines-room _ _ _ _ _ _ _ _ loop.invariant.1 (search rules) (search rules))
-
-pub overflow_add-i : goal.overflow_add-i
-overflow_add-i c = omega arith
-
-pub loop-i-smaller : goal.loop-i-smaller
-loop-i-smaller c = omega arith
 
 pub loop-i-preserved : goal.loop-i-preserved
 loop-i-preserved c =

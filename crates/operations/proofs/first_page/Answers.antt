@@ -1,17 +1,13 @@
+use Rattle.std.proofs.lemmas.Result.{err_from_is_err_and}
 use Rattle.prepare.proofs.Packing.{blank-words}
-use Rattle.operations.proofs.Loading.{refused-was, accepted-was, small-was}
 use Rattle.operations.proofs.Answers.{first-page-down, first-page-accepted}
-use borrow.Author.Rules.{rules}
 use Rattle.operations.proofs.first_page.Goals as goal
 
-pub load-got-requires : goal.load-got-requires
-load-got-requires c = blank-words
+pub load-requires : goal.load-requires
+load-requires c = blank-words
 
-pub first_in-requires : goal.first_in-requires
-first_in-requires c = small-was _ _ _ _ _ (search rules) c.load-got.ensures
+pub returns-in_err-s : goal.returns-in_err-s
+returns-in_err-s c = let p = err_from_is_err_and c.from_residual.result c.from_residual.ensures.1 in rw (p.1, p.2) (first-page-down _ _ _ _ c.in_err-s.ensures)
 
-pub returns-in-Refused : goal.returns-in-Refused
-returns-in-Refused c = first-page-down _ _ (refused-was _ _ _ _ _ (search rules) c.load-got.ensures) _ _
-
-pub returns-in-Accepted : goal.returns-in-Accepted
-returns-in-Accepted c = first-page-accepted _ _ _ _ (accepted-was _ _ _ _ _ (search rules) c.load-got.ensures) _ _ _ c.first_in.ensures
+pub returns : goal.returns
+returns c = first-page-accepted _ _ _ _ c.in_ok-s.ensures _ _ _ c.first_in.ensures

@@ -1,14 +1,12 @@
+use Rattle.std.proofs.lemmas.Result.{err_from_is_err_and}
 use Rattle.operations.proofs.Loading.{loads-refused, loads-accepted}
-use Rattle.prepare.proofs.Packing.{blank-from}
-use native.Mathlib.Omega.{arith}
 use borrow.Author.Rules.{rules}
 use Rattle.operations.proofs.load.Goals as goal
 
-pub fill_from-requires : goal.fill_from-requires
-fill_from-requires c = (c.parse-got.ensures.facts _ (search rules), blank-from _ 0 _ (omega arith) c.requires)
+pub returns-in_err-s : goal.returns-in_err-s
+returns-in_err-s c =
+    let p = err_from_is_err_and c.from_residual.result c.from_residual.ensures.1 in
+    rw (p.1, p.2) (loads-refused _ _ _ c.parse.ensures _ (search rules) c.args.words.now c.args.ranks.now)
 
-pub returns-in-Refused : goal.returns-in-Refused
-returns-in-Refused c = loads-refused _ _ _ c.parse-got.ensures _ (search rules) _ _
-
-pub returns-in-Accepted : goal.returns-in-Accepted
-returns-in-Accepted c = loads-accepted _ _ _ c.parse-got.ensures _ (search rules) _ _ c.fill_from.ensures
+pub returns : goal.returns
+returns c = loads-accepted _ _ _ c.parse.ensures _ (search rules) _ _ c.fill_from.ensures
