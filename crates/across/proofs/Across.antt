@@ -12,27 +12,14 @@ use Rattle.logic.specs.Tests.{pick}
 use Rattle.sets.specs.declared.Pair.{Pair}
 use Rattle.book.specs.declared.Shape.{Shape}
 use Rattle.text.specs.declared.Refusal.{Refusal}
-use Rattle.text.specs.declared.Reading.{Reading}
-use Rattle.text.specs.declared.Reading.TheVariants.{Accepted, Refused}
-use Rattle.text.specs.declared.Writing.{Writing}
-use Rattle.text.specs.declared.Writing.TheVariants.{Written, Refused as NotWritten}
-use Rattle.answers.specs.declared.Judged.{Judged}
-use Rattle.answers.specs.declared.Judged.TheVariants.{Verdict, Refused as NotJudged}
-use Rattle.answers.specs.declared.Paged.{Paged}
-use Rattle.answers.specs.declared.Paged.TheVariants.{Pairs, Refused as NotPaged}
-use Rattle.answers.specs.declared.Found.{Found}
-use Rattle.answers.specs.declared.Found.TheVariants.{Resolution, End, Refused as NotFound}
-use Rattle.answers.specs.Operations.{Told, told, turned, answer_of, verdict_of, count_of, length_of}
+use Rattle.std.specs.Prelude.{Result, Ok, Err, ⊤, Option as Maybe, Some, None}
+use Rattle.answers.specs.Operations.{Told, told, turned, answer_of}
 use Rattle.answers.specs.Means.{Means, Judges}
 use Rattle.answers.proofs.Refused.{means-numbered}
 use Rattle.meaning.specs.Books.{Book}
 use Rattle.meaning.specs.Order.{Point, start, at}
 use Rattle.meaning.specs.Listings.{Answer, found, end, refused, FirstLater}
 use Rattle.entry.specs.Names.{is_name}
-use Rattle.points.specs.declared.Kept.{Kept}
-use Rattle.points.specs.declared.Kept.TheVariants.{Done as IsDone, Refused as NotDone}
-use Rattle.points.specs.declared.Went.{Went}
-use Rattle.points.specs.declared.Went.TheVariants.{Point as ThePoint, Refused as NotGone}
 use Rattle.points.specs.Points.{Entry, OfStore, Goes, leaves}
 use Rattle.points.specs.Stores.{Contents, holds, nothing, store_of, lookup, set_in, drop_in, if_there, on_store, go_told, set_told, drop_told, went_is, went_told, kept_is, Met, Meant}
 use Rattle.points.specs.Calls.{PointCall, set_point, go_to, drop_point, given, point_answer, left_by, point_answers}
@@ -42,61 +29,10 @@ use Rattle.across.specs.declared.PairAnswer.{PairAnswer}
 use Rattle.across.specs.declared.VerdictAnswer.{VerdictAnswer}
 use Rattle.across.specs.Across.{book_in, amount_in, verdict_in, answer_in, done_of, gone_of, verdict_from, answer_from, gone_from, PointStruct, done, gone, struct_to, point_from, StoreBack}
 
-pub book-is : (r : Reading) (s : Shape) → r ≡ Accepted s → book_in (Accepted s) ≡ book_in r
-book-is r s e = rw e refl
-
-pub book-not : (r : Reading) (q : Refusal) → r ≡ Refused q → book_in (Refused q) ≡ book_in r
-book-not r q e = rw e refl
-
-pub length-is : (r : Writing) (k : ℕ) → r ≡ Written k → amount_in (told k) ≡ amount_in (length_of r)
-unfolding length_of
-length-is r k e = rw e refl
-
-pub length-not : (r : Writing) (q : Refusal) → r ≡ NotWritten q → amount_in (turned q.number q.line) ≡ amount_in (length_of r)
-unfolding length_of
-length-not r q e = rw e refl
-
-pub count-is : (r : Paged) (k : ℕ) → r ≡ Pairs k → amount_in (told k) ≡ amount_in (count_of r)
-unfolding count_of
-count-is r k e = rw e refl
-
-pub count-not : (r : Paged) (q : Refusal) → r ≡ NotPaged q → amount_in (turned q.number q.line) ≡ amount_in (count_of r)
-unfolding count_of
-count-not r q e = rw e refl
-
-pub verdict-is : (r : Judged) (k : ℕ) → r ≡ Verdict k → verdict_in (told k) ≡ verdict_in (verdict_of r)
-unfolding verdict_of
-verdict-is r k e = rw e refl
-
-pub verdict-not : (r : Judged) (q : Refusal) → r ≡ NotJudged q → verdict_in (turned q.number q.line) ≡ verdict_in (verdict_of r)
-unfolding verdict_of
-verdict-not r q e = rw e refl
-
-pub answer-is : (r : Found) (p : Pair) → r ≡ Resolution p → answer_in (found p) ≡ answer_in (answer_of r)
-unfolding answer_of
-answer-is r p e = rw e refl
-
-pub answer-end : (r : Found) → r ≡ End → answer_in end ≡ answer_in (answer_of r)
-unfolding answer_of
-answer-end r e = rw e refl
-
-pub answer-not : (r : Found) (q : Refusal) → r ≡ NotFound q → answer_in (refused q.number q.line) ≡ answer_in (answer_of r)
-unfolding answer_of
-answer-not r q e = rw e refl
-
-pub done-is : (k : Kept) → k ≡ IsDone → done_of IsDone ≡ done_of k
-done-is k e = rw e refl
-
-pub done-not : (k : Kept) (q : Refusal) → k ≡ NotDone q → done_of (NotDone q) ≡ done_of k
-done-not k q e = rw e refl
-
-pub gone-is : (w : Went) (p : Pair) (r : PairAnswer) → w ≡ ThePoint p → r ≡ answer_in (answer_of (Resolution p)) → r ≡ gone_of w
+-- Of Go: what First and After would answer.
+pub gone-is : (w : Result Pair Refusal) (f : Result (Maybe Pair) Refusal) (r : PairAnswer) → MatchResult w (λ p. IsOkAnd f (λ m. m ≡ Some p)) (λ q. f ≡ Err q) → r ≡ answer_in (answer_of f) → r ≡ gone_of w
 unfolding gone_of answer_of
-gone-is w p r e d = rw e d
-
-pub gone-not : (w : Went) (q : Refusal) (r : PairAnswer) → w ≡ NotGone q → r ≡ answer_in (answer_of (NotFound q)) → r ≡ gone_of w
-unfolding gone_of answer_of
-gone-not w q r e d = rw e d
+gone-is w f r e d = ?
 
 -- ---- the way back
 -- An answer that is a pair, End, or a refusal whose number is not 0.
@@ -215,14 +151,14 @@ all_back (c ∷ cs) bs [] h = absurd h
 all_back (c ∷ cs) bs (r ∷ rs) h = rw (h.0, struct_back bs c, all_back cs (left_by bs c) rs h.1) refl
 
 -- What Go answers, as a struct, and what is read off it; and what Set and Drop do.
-pub gone-across : (bs n : List ℕ) (w : Went) (r : PairAnswer) → r ≡ gone_of w → w ≡ went_is (go_told (store_of bs) n) → OfStore (Goes n) bs n (went_told w)
+pub gone-across : (bs n : List ℕ) (w : Result Pair Refusal) (r : PairAnswer) → r ≡ gone_of w → w ≡ went_is (go_told (store_of bs) n) → OfStore (Goes n) bs n (went_told w)
     → (r ≡ gone_of (went_is (go_told (store_of bs) n))) × OfStore (Goes n) bs n (gone_from r)
 gone-across bs n w r e d m =
     let t = go_told (store_of bs) n in
     let f = e ∙ ap gone_of d in
     (f, rw (f, gone-back t (go-numbered (store_of bs) n)) (rw (d, told_back t) at m))
 
-pub done-across : (bs n : List ℕ) (right : List Entry → Told (List Entry) → Type 0) (t : Told (List Entry)) (k : Kept) (bs' : List ℕ) (r : Done) → r ≡ done_of k → Met bs t k bs' → Meant kept_is right bs n k bs'
+pub done-across : (bs n : List ℕ) (right : List Entry → Told (List Entry) → Type 0) (t : Told (List Entry)) (k : Result ⊤ Refusal) (bs' : List ℕ) (r : Done) → r ≡ done_of k → Met bs t k bs' → Meant kept_is right bs n k bs'
     → (r ≡ done_of (kept_is t)) × ((bs' ≡ leaves bs t) × Meant (λ (x : Told (List Entry)). done_of (kept_is x)) right bs n r bs')
 done-across bs n right t k bs' r e m a = (e ∙ ap done_of m.answer, (m.store, record { gives = a.gives; means = a.means; answer = e ∙ ap done_of a.answer; store = a.store }))
 

@@ -1,19 +1,15 @@
 -- The answers of the operations as a program in C has them: the refusal and its line, 0 and 0 where there is none; and the answer, or zeros where
 -- it was refused.
-use Rattle.std.specs.Prelude.{ℕ, ◌≡◌, List, [], ◌∷◌, ◌++◌, eqb, replicate}
+use Rattle.std.specs.Prelude.{ℕ, ◌≡◌, List, [], ◌∷◌, ◌++◌, eqb, replicate, Result, Ok, Err, ⊤}
 use Rattle.std.proofs.Math.Option.{some, none}
 use Rattle.logic.specs.Tests.{pick}
 use Rattle.sets.specs.declared.Pair.{Pair}
-use Rattle.text.specs.declared.Reading.{Reading}
-use Rattle.text.specs.declared.Reading.TheVariants.{Accepted, Refused}
+use Rattle.book.specs.declared.Shape.{Shape}
+use Rattle.text.specs.declared.Refusal.{Refusal}
 use Rattle.meaning.specs.Books.{Book}
 use Rattle.meaning.specs.Order.{Point}
 use Rattle.meaning.specs.Listings.{Answer, found, end, refused, Call, handed, moved, answered, OfKind}
 use Rattle.answers.specs.Operations.{Told, told, turned, asks}
-use Rattle.points.specs.declared.Kept.{Kept}
-use Rattle.points.specs.declared.Kept.TheVariants.{Done as IsDone, Refused as NotDone}
-use Rattle.points.specs.declared.Went.{Went}
-use Rattle.points.specs.declared.Went.TheVariants.{Point as ThePoint, Refused as NotGone}
 use Rattle.points.specs.Stores.{store_of, go_told, set_told, drop_told, went_is, kept_is}
 use Rattle.points.specs.Calls.{PointCall, set_point, go_to, drop_point, PointAnswer, given, left_by}
 use Rattle.across.specs.declared.BookAnswer.{BookAnswer}
@@ -31,8 +27,8 @@ unfoldable pub no_pair : Pair
 no_pair = record { taken = 0; held = 0; denied = 0 }
 
 -- Of Read: the edition, n and the five counts. What is reserved is 0.
-unfoldable pub book_in : Reading → BookAnswer
-book_in (Accepted s) = record {
+unfoldable pub book_in : Result Shape Refusal → BookAnswer
+book_in (Ok s) = record {
   refusal = 0;
   edition = 1;
   line = 0;
@@ -44,7 +40,7 @@ book_in (Accepted s) = record {
   alternatives = s.alternatives;
   reserved = replicate 2 0;
 }
-book_in (Refused q) = record {
+book_in (Err q) = record {
   refusal = q.number;
   edition = 0;
   line = q.line;
@@ -74,13 +70,13 @@ answer_in end = record { refusal = 0; found = 0; line = 0; pair = no_pair }
 answer_in (refused q l) = record { refusal = q; found = 0; line = l; pair = no_pair }
 
 -- Of Set and Drop: that it is done. Of Go: found 1 and the pair.
-unfoldable pub done_of : Kept → Done
-done_of IsDone = record { refusal = 0; line = 0 }
-done_of (NotDone q) = record { refusal = q.number; line = q.line }
+unfoldable pub done_of : Result ⊤ Refusal → Done
+done_of (Ok x) = record { refusal = 0; line = 0 }
+done_of (Err q) = record { refusal = q.number; line = q.line }
 
-unfoldable pub gone_of : Went → PairAnswer
-gone_of (ThePoint p) = answer_in (found p)
-gone_of (NotGone q) = answer_in (refused q.number q.line)
+unfoldable pub gone_of : Result Pair Refusal → PairAnswer
+gone_of (Ok p) = answer_in (found p)
+gone_of (Err q) = answer_in (refused q.number q.line)
 
 -- ---- the way back: what a program in C reads off a struct
 unfoldable pub verdict_from : VerdictAnswer → Told ℕ

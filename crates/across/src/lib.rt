@@ -3,13 +3,12 @@
 #![tactic(auto)]
 
 ghost use Rattle.std.specs.Prelude.{◌≡◌};
-ghost use Rattle.answers.specs.Operations.{answer_of, verdict_of, count_of, length_of};
+ghost use Rattle.answers.specs.Operations.{answer_of, told_of};
 ghost use Rattle.across.specs.Across.{book_in, amount_in, verdict_in, answer_in, done_of, gone_of};
 
-use answers::{Found, Judged, Paged};
-use points::{Kept, Went};
+use book::Shape;
 use sets::Pair;
-use text::{Reading, Writing};
+use text::Refusal;
 
 // What Read answers: the edition, n and the numbers of R, X, P, Q and O lines. The reserved numbers are 0: room for counts to come. The numbers
 // of Q and O lines have the places of the first two of four, so that the struct keeps its size and every field its place.
@@ -67,143 +66,134 @@ pub struct Done {
 // What stands in the place of counts to come.
 const RESERVED: [u64; 2] = [0; 2];
 
-pub fn book_in(r: Reading) -> BookAnswer
-    ensures { result ≡ book_in r }
-{
-    match r {
-        Reading::Accepted(s) => BookAnswer {
-            refusal: 0,
-            edition: 1,
-            line: 0,
-            statements: s.statements as u64,
-            plain: s.plain as u64,
-            exceptions: s.exceptions as u64,
-            preferences: s.preferences as u64,
-            conditionals: s.conditionals as u64,
-            alternatives: s.alternatives as u64,
-            reserved: RESERVED,
-        },
-        Reading::Refused(q) => BookAnswer {
-            refusal: q.number,
-            edition: 0,
-            line: q.line as u64,
-            statements: 0,
-            plain: 0,
-            exceptions: 0,
-            preferences: 0,
-            conditionals: 0,
-            alternatives: 0,
-            reserved: RESERVED,
-        },
-    }
-}
+// What stands beside an answer that has no pair.
+const NO_PAIR: Pair = Pair {
+    taken: 0,
+    held: 0,
+    denied: 0,
+};
 
-pub fn length_in(w: Writing) -> Amount
-    ensures { result ≡ amount_in (length_of w) }
-{
-    match w {
-        Writing::Written(k) => Amount {
-            refusal: 0,
-            line: 0,
-            amount: k as u64,
-        },
-        Writing::Refused(q) => Amount {
-            refusal: q.number,
-            line: q.line as u64,
-            amount: 0,
-        },
-    }
-}
+impl From<Result<Shape, Refusal>> for BookAnswer {
+    ghost from_gives = { λ read answer. answer ≡ book_in read };
 
-pub fn count_in(p: Paged) -> Amount
-    ensures { result ≡ amount_in (count_of p) }
-{
-    match p {
-        Paged::Pairs(k) => Amount {
-            refusal: 0,
-            line: 0,
-            amount: k as u64,
-        },
-        Paged::Refused(q) => Amount {
-            refusal: q.number,
-            line: q.line as u64,
-            amount: 0,
-        },
-    }
-}
-
-pub fn verdict_in(j: Judged) -> VerdictAnswer
-    ensures { result ≡ verdict_in (verdict_of j) }
-{
-    match j {
-        Judged::Verdict(verdict) => VerdictAnswer {
-            refusal: 0,
-            verdict,
-            line: 0,
-        },
-        Judged::Refused(q) => VerdictAnswer {
-            refusal: q.number,
-            verdict: 0,
-            line: q.line as u64,
-        },
-    }
-}
-
-pub fn pair_in(f: Found) -> PairAnswer
-    ensures { result ≡ answer_in (answer_of f) }
-{
-    match f {
-        Found::Resolution(p) => PairAnswer {
-            refusal: 0,
-            found: 1,
-            line: 0,
-            pair: p,
-        },
-        Found::End => PairAnswer {
-            refusal: 0,
-            found: 0,
-            line: 0,
-            pair: Pair {
-                taken: 0,
-                held: 0,
-                denied: 0,
+    fn from(read: Result<Shape, Refusal>) -> Self {
+        match read {
+            Ok(s) => Self {
+                refusal: 0,
+                edition: 1,
+                line: 0,
+                statements: s.statements as u64,
+                plain: s.plain as u64,
+                exceptions: s.exceptions as u64,
+                preferences: s.preferences as u64,
+                conditionals: s.conditionals as u64,
+                alternatives: s.alternatives as u64,
+                reserved: RESERVED,
             },
-        },
-        Found::Refused(q) => PairAnswer {
-            refusal: q.number,
-            found: 0,
-            line: q.line as u64,
-            pair: Pair {
-                taken: 0,
-                held: 0,
-                denied: 0,
+            Err(q) => Self {
+                refusal: q.number,
+                edition: 0,
+                line: q.line as u64,
+                statements: 0,
+                plain: 0,
+                exceptions: 0,
+                preferences: 0,
+                conditionals: 0,
+                alternatives: 0,
+                reserved: RESERVED,
             },
-        },
+        }
+    }
+}
+
+impl From<Result<usize, Refusal>> for Amount {
+    ghost from_gives = { λ many answer. answer ≡ amount_in (told_of many) };
+
+    fn from(many: Result<usize, Refusal>) -> Self {
+        match many {
+            Ok(k) => Self {
+                refusal: 0,
+                line: 0,
+                amount: k as u64,
+            },
+            Err(q) => Self {
+                refusal: q.number,
+                line: q.line as u64,
+                amount: 0,
+            },
+        }
+    }
+}
+
+impl From<Result<u32, Refusal>> for VerdictAnswer {
+    ghost from_gives = { λ judged answer. answer ≡ verdict_in (told_of judged) };
+
+    fn from(judged: Result<u32, Refusal>) -> Self {
+        match judged {
+            Ok(verdict) => Self {
+                refusal: 0,
+                verdict,
+                line: 0,
+            },
+            Err(q) => Self {
+                refusal: q.number,
+                verdict: 0,
+                line: q.line as u64,
+            },
+        }
+    }
+}
+
+impl From<Result<Option<Pair>, Refusal>> for PairAnswer {
+    ghost from_gives = { λ found answer. answer ≡ answer_in (answer_of found) };
+
+    fn from(found: Result<Option<Pair>, Refusal>) -> Self {
+        match found {
+            Ok(Some(p)) => Self {
+                refusal: 0,
+                found: 1,
+                line: 0,
+                pair: p,
+            },
+            Ok(None) => Self {
+                refusal: 0,
+                found: 0,
+                line: 0,
+                pair: NO_PAIR,
+            },
+            Err(q) => Self {
+                refusal: q.number,
+                found: 0,
+                line: q.line as u64,
+                pair: NO_PAIR,
+            },
+        }
     }
 }
 
 // What Set and Drop answer, for C.
-pub fn done_in(k: Kept) -> Done
-    ensures { result ≡ done_of k }
-{
-    match k {
-        Kept::Done => Done {
-            refusal: 0,
-            line: 0,
-        },
-        Kept::Refused(q) => Done {
-            refusal: q.number,
-            line: q.line as u64,
-        },
+impl From<Result<(), Refusal>> for Done {
+    ghost from_gives = { λ kept answer. answer ≡ done_of kept };
+
+    fn from(kept: Result<(), Refusal>) -> Self {
+        match kept {
+            Ok(()) => Self {
+                refusal: 0,
+                line: 0,
+            },
+            Err(q) => Self {
+                refusal: q.number,
+                line: q.line as u64,
+            },
+        }
     }
 }
 
 // Go's pair is found; a name that is not there is refused, so that there is no End.
-pub fn gone_in(w: Went) -> PairAnswer
-    ensures { result ≡ gone_of w }
-{
-    match w {
-        Went::Point(p) => pair_in(Found::Resolution(p)),
-        Went::Refused(q) => pair_in(Found::Refused(q)),
+impl From<Result<Pair, Refusal>> for PairAnswer {
+    ghost from_gives = { λ went answer. answer ≡ gone_of went };
+
+    fn from(went: Result<Pair, Refusal>) -> Self {
+        Self::from(went.map(Some))
     }
 }

@@ -4,17 +4,13 @@ use mathlib.Core.List.{List, [], ◌∷◌, ◌++◌}
 use Prim.Native.Nat.{ℕ, zero, suc, ◌+◌, ◌*◌, ◌/◌, ◌%◌, ◌<◌, ◌≤◌, ◌^◌}
 use native.Mathlib.Omega.{arith}
 use lib.ListN.{length, take, drop}
-use lib.Seq.{sets, length-take-le, drop-drop, get_or-drop}
+use lib.Seq.{sets, length-take-le, get_or-drop}
 use Rattle.logic.proofs.Stores.{sets-append}
 use Rattle.sets.specs.declared.Pair.{Pair}
 use Rattle.entry.specs.Bytes.{AreBytes, word_of, digits, pair_bytes, pair_of}
-use Rattle.entry.proofs.Leaves.{eight}
+use Rattle.entry.proofs.Leaves.{eight, eight-digits}
 
 -- ---- pairs put
-pub eight-digits : (v : ℕ) → length (digits 8 v) ≡ 8
-unfolding digits
-eight-digits v = refl
-
 pub pair-long : (p : Pair) → length (pair_bytes p) ≡ 24
 unfolding pair_bytes digits
 pair-long p = refl
@@ -47,9 +43,9 @@ bytes_take (suc n) [] h i = omega arith
 bytes_take (suc n) (b ∷ bs) h zero = h zero
 bytes_take (suc n) (b ∷ bs) h (suc i) = bytes_take n bs (bytes-tail b bs h) i
 
-pub pair_is : (bs : List ℕ) (at a b c : ℕ) → a ≡ word_of (take 8 (drop at bs)) → b ≡ word_of (take 8 (drop (at + 8) bs)) → c ≡ word_of (take 8 (drop (at + 16) bs)) → record { taken = a; held = b; denied = c } ≡ pair_of (drop at bs)
+pub pair_is : (bs : List ℕ) (a b c : ℕ) → a ≡ word_of (take 8 bs) → b ≡ word_of (take 8 (drop 8 bs)) → c ≡ word_of (take 8 (drop 16 bs)) → record { taken = a; held = b; denied = c } ≡ pair_of bs
 unfolding pair_of
-pair_is bs at a b c ea eb ec = rw (drop-drop 8 at bs, drop-drop 16 at bs, ea, eb, ec)
+pair_is bs a b c ea eb ec = rw (ea, eb, ec)
 
 -- ---- numbers read and written again
 low_byte : (b w : ℕ) → b < 256 → (b + w * 256) % 256 ≡ b
@@ -74,4 +70,4 @@ word-digits v h = omega arith
 
 pub word_fits : (bs : List ℕ) → 8 ≤ length bs → AreBytes bs → word_of (take 8 bs) < 2 ^ 64
 unfolding word_of
-word_fits bs l h = rw (eight bs 0 (omega arith)) (omega (arith, h 0, h 1, h 2, h 3, h 4, h 5, h 6, h 7))
+word_fits bs l h = rw (eight bs l) (omega (arith, h 0, h 1, h 2, h 3, h 4, h 5, h 6, h 7))

@@ -9,74 +9,74 @@ use lib.Dec.{ltb}
 use borrow.Author.Tests.{lt-ltb, le-ltb, ltb-true, ltb-false}
 use Rattle.logic.specs.Tests.{pick}
 use Rattle.logic.proofs.Decide.{clash}
-use Rattle.entry.specs.declared.Order.{Order}
-use Rattle.entry.specs.declared.Order.TheVariants.{Less, Same, More}
-use Rattle.entry.specs.Names.{compare_to, is_less, is_same, before, same_name}
+use Rattle.std.specs.declared.cmp.Ordering.{Ordering}
+use Rattle.std.specs.declared.cmp.Ordering.TheVariants.{Less, Equal, Greater}
+use Rattle.std.specs.Ordering.{is_lt, is_eq, nat_cmp, ordering_then, MatchOrdering}
+use Rattle.std.specs.Cmp.Lexicographic.{slice_cmp}
+use Rattle.std.proofs.lemmas.Cmp.{ranked}
+use Rattle.entry.specs.Names.{compare_to, before, same_name}
 
-pub less-same : Less ≡ Same → ⊥
-unfolding is_same
-less-same e = clash (ap is_same e)
+pub less-same : Less ≡ Equal → ⊥
+less-same e = clash (ap is_eq e)
 
-pub more_same : More ≡ Same → ⊥
-unfolding is_same
-more_same e = clash (ap is_same e)
+pub more_same : Greater ≡ Equal → ⊥
+more_same e = clash (ap is_eq e)
 
-pub same_more : Same ≡ More → ⊥
+pub same_more : Equal ≡ Greater → ⊥
 same_more e = more_same (sym e)
 
-pub less-more : Less ≡ More → ⊥
-unfolding is_less
-less-more e = clash (sym (ap is_less e))
+pub less-more : Less ≡ Greater → ⊥
+less-more e = clash (sym (ap is_lt e))
 
-pub more-less : More ≡ Less → ⊥
+pub more-less : Greater ≡ Less → ⊥
 more-less e = less-more (sym e)
 
-pub same-less : Same ≡ Less → ⊥
+pub same-less : Equal ≡ Less → ⊥
 same-less e = less-same (sym e)
 
-cons_same : (a b : ℕ) (o : Order) → pick (ltb a b) Less (pick (ltb b a) More o) ≡ Same → (a ≡ b) × (o ≡ Same)
+cons_same : (a b : ℕ) (o : Ordering) → pick (ltb a b) Less (pick (ltb b a) Greater o) ≡ Equal → (a ≡ b) × (o ≡ Equal)
 unfolding pick
 cons_same a b o e = go (ltb a b) (ltb b a) refl refl e
   where
-    go : (s t : Bool) → ltb a b ≡ s → ltb b a ≡ t → pick s Less (pick t More o) ≡ Same → (a ≡ b) × (o ≡ Same)
+    go : (s t : Bool) → ltb a b ≡ s → ltb b a ≡ t → pick s Less (pick t Greater o) ≡ Equal → (a ≡ b) × (o ≡ Equal)
     go true t es et f = absurd (less-same f)
     go false true es et f = absurd (more_same f)
     go false false es et f = (let x = ltb-false a b es in let y = ltb-false b a et in omega arith, f)
 
-pub cons-more : (a b : ℕ) (o : Order) → pick (ltb a b) Less (pick (ltb b a) More o) ≡ More → (b < a) ⊎ ((a ≡ b) × (o ≡ More))
+pub cons-more : (a b : ℕ) (o : Ordering) → pick (ltb a b) Less (pick (ltb b a) Greater o) ≡ Greater → (b < a) ⊎ ((a ≡ b) × (o ≡ Greater))
 unfolding pick
 cons-more a b o e = go (ltb a b) (ltb b a) refl refl e
   where
-    go : (s t : Bool) → ltb a b ≡ s → ltb b a ≡ t → pick s Less (pick t More o) ≡ More → (b < a) ⊎ ((a ≡ b) × (o ≡ More))
+    go : (s t : Bool) → ltb a b ≡ s → ltb b a ≡ t → pick s Less (pick t Greater o) ≡ Greater → (b < a) ⊎ ((a ≡ b) × (o ≡ Greater))
     go true t es et f = absurd (less-more f)
     go false true es et f = inl (ltb-true b a et)
     go false false es et f = inr (let x = ltb-false a b es in let y = ltb-false b a et in omega arith, f)
 
-pub cons-less : (a b : ℕ) (o : Order) → pick (ltb a b) Less (pick (ltb b a) More o) ≡ Less → (a < b) ⊎ ((a ≡ b) × (o ≡ Less))
+pub cons-less : (a b : ℕ) (o : Ordering) → pick (ltb a b) Less (pick (ltb b a) Greater o) ≡ Less → (a < b) ⊎ ((a ≡ b) × (o ≡ Less))
 unfolding pick
 cons-less a b o e = go (ltb a b) (ltb b a) refl refl e
   where
-    go : (s t : Bool) → ltb a b ≡ s → ltb b a ≡ t → pick s Less (pick t More o) ≡ Less → (a < b) ⊎ ((a ≡ b) × (o ≡ Less))
+    go : (s t : Bool) → ltb a b ≡ s → ltb b a ≡ t → pick s Less (pick t Greater o) ≡ Less → (a < b) ⊎ ((a ≡ b) × (o ≡ Less))
     go true t es et f = inl (ltb-true a b es)
     go false true es et f = absurd (more-less f)
     go false false es et f = inr (let x = ltb-false a b es in let y = ltb-false b a et in omega arith, f)
 
-pub more-cons : (a b : ℕ) (o : Order) → b < a → pick (ltb a b) Less (pick (ltb b a) More o) ≡ More
+pub more-cons : (a b : ℕ) (o : Ordering) → b < a → pick (ltb a b) Less (pick (ltb b a) Greater o) ≡ Greater
 unfolding pick
 more-cons a b o h = rw (le-ltb a b (omega arith), lt-ltb b a h)
 
-pub eq-cons : (a b : ℕ) (o : Order) → a ≡ b → pick (ltb a b) Less (pick (ltb b a) More o) ≡ o
+pub eq-cons : (a b : ℕ) (o : Ordering) → a ≡ b → pick (ltb a b) Less (pick (ltb b a) Greater o) ≡ o
 unfolding pick
 eq-cons a b o h = rw (le-ltb a b (omega arith), le-ltb b a (omega arith))
 
-pub same-eq : (a b : List ℕ) → compare_to a b ≡ Same → a ≡ b
+pub same-eq : (a b : List ℕ) → compare_to a b ≡ Equal → a ≡ b
 unfolding compare_to
 same-eq [] [] e = refl
 same-eq [] (b ∷ bs) e = absurd (less-same e)
 same-eq (a ∷ xs) [] e = absurd (more_same e)
 same-eq (a ∷ xs) (b ∷ bs) e = let d = cons_same a b (compare_to xs bs) e in rw (d.0, same-eq xs bs d.1)
 
-pub more-trans : (a b n : List ℕ) → compare_to a n ≡ More → compare_to a b ≡ Less → compare_to b n ≡ More
+pub more-trans : (a b n : List ℕ) → compare_to a n ≡ Greater → compare_to a b ≡ Less → compare_to b n ≡ Greater
 unfolding compare_to
 more-trans [] b [] e d = absurd (same_more e)
 more-trans [] b (z ∷ zs) e d = absurd (less-more e)
@@ -89,26 +89,26 @@ more-trans (x ∷ xs) (y ∷ ys) (z ∷ zs) e d =
     (cons-more x z (compare_to xs zs) e)
 
 pub before-less : (a b : List ℕ) → before a b ≡ true → compare_to a b ≡ Less
-unfolding before is_less
+unfolding before
 before-less a b e = go (compare_to a b) refl e
   where
-    go : (o : Order) → compare_to a b ≡ o → is_less o ≡ true → compare_to a b ≡ Less
+    go : (o : Ordering) → compare_to a b ≡ o → is_lt o ≡ true → compare_to a b ≡ Less
     go Less d f = d
-    go Same d f = absurd (clash f)
-    go More d f = absurd (clash f)
+    go Equal d f = absurd (clash f)
+    go Greater d f = absurd (clash f)
 
-pub less-cons : (a b : ℕ) (o : Order) → a < b → pick (ltb a b) Less (pick (ltb b a) More o) ≡ Less
+pub less-cons : (a b : ℕ) (o : Ordering) → a < b → pick (ltb a b) Less (pick (ltb b a) Greater o) ≡ Less
 unfolding pick
 less-cons a b o h = rw (lt-ltb a b h)
 
-pub more-flip : (a b : List ℕ) → compare_to a b ≡ More → compare_to b a ≡ Less
+pub more-flip : (a b : List ℕ) → compare_to a b ≡ Greater → compare_to b a ≡ Less
 unfolding compare_to
 more-flip [] [] e = absurd (same_more e)
 more-flip [] (b ∷ bs) e = absurd (less-more e)
 more-flip (a ∷ xs) [] e = refl
 more-flip (a ∷ xs) (b ∷ bs) e = ⊎_elim (λ g. less-cons b a (compare_to bs xs) g) (λ g. eq-cons b a (compare_to bs xs) (sym g.0) ∙ more-flip xs bs g.1) (cons-more a b (compare_to xs bs) e)
 
-pub less-flip : (a b : List ℕ) → compare_to a b ≡ Less → compare_to b a ≡ More
+pub less-flip : (a b : List ℕ) → compare_to a b ≡ Less → compare_to b a ≡ Greater
 unfolding compare_to
 less-flip [] [] e = absurd (same-less e)
 less-flip [] (b ∷ bs) e = refl
@@ -118,25 +118,38 @@ less-flip (a ∷ xs) (b ∷ bs) e = ⊎_elim (λ g. more-cons b a (compare_to bs
 pub less-trans : (a b c : List ℕ) → compare_to a b ≡ Less → compare_to b c ≡ Less → compare_to a c ≡ Less
 less-trans a b c e d = more-flip c a (more-trans b c a (less-flip a b e) d)
 
-pub same_self : (a : List ℕ) → compare_to a a ≡ Same
+pub same_self : (a : List ℕ) → compare_to a a ≡ Equal
 unfolding compare_to
 same_self [] = refl
 same_self (a ∷ xs) = eq-cons a a (compare_to xs xs) refl ∙ same_self xs
 
 pub less-before : (a b : List ℕ) → compare_to a b ≡ Less → before a b ≡ true
-unfolding before is_less
+unfolding before
 less-before a b e = rw e
 
 pub same_true : (a b : List ℕ) → same_name a b ≡ true → a ≡ b
-unfolding same_name is_same
+unfolding same_name
 same_true a b e = go (compare_to a b) refl e
   where
-    go : (o : Order) → compare_to a b ≡ o → is_same o ≡ true → a ≡ b
+    go : (o : Ordering) → compare_to a b ≡ o → is_eq o ≡ true → a ≡ b
     go Less d f = absurd (clash f)
-    go Same d f = same-eq a b d
-    go More d f = absurd (clash f)
+    go Equal d f = same-eq a b d
+    go Greater d f = absurd (clash f)
 
 -- The test of names finds equal names and no others.
 pub same-iff : (a b : List ℕ) → (same_name a b ≡ true) ↔ (a ≡ b)
-unfolding same_name is_same
+unfolding same_name
 same-iff a b = (same_true a b, λ e. rw (e, same_self b))
+
+-- The order of the bytes by the library's `cmp`.
+pub compare-cmp : (a b : List ℕ) → slice_cmp nat_cmp a b ≡ compare_to a b
+unfolding compare_to
+compare-cmp [] [] = refl
+compare-cmp [] (y ∷ ys) = refl
+compare-cmp (x ∷ xs) [] = refl
+compare-cmp (x ∷ xs) (y ∷ ys) = go (compare-cmp xs ys) (nat_cmp x y) (ranked x y (nat_cmp x y) refl)
+  where
+    go : slice_cmp nat_cmp xs ys ≡ compare_to xs ys → (o : Ordering) → MatchOrdering o (x < y) (x ≡ y) (y < x) → ordering_then o (slice_cmp nat_cmp xs ys) ≡ pick (ltb x y) Less (pick (ltb y x) Greater (compare_to xs ys))
+    go ih Less h = sym (less-cons x y (compare_to xs ys) h)
+    go ih Equal h = ih ∙ sym (eq-cons x y (compare_to xs ys) h)
+    go ih Greater h = sym (more-cons x y (compare_to xs ys) h)

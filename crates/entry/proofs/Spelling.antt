@@ -3,7 +3,7 @@ use mathlib.Core.Path.{◌≡◌, refl, ap, ◌∙◌}
 use mathlib.Core.Bool.{Bool, true, false}
 use mathlib.Core.List.{List, [], ◌∷◌, ◌++◌}
 use mathlib.Core.Logic.{◌⊎◌, inl, inr, ⊎_elim, ◌↔◌}
-use Prim.Native.Nat.{ℕ, zero, suc, ◌+◌, ◌<◌, ◌≤◌}
+use Prim.Native.Nat.{ℕ, zero, suc, ◌<◌, ◌≤◌}
 use native.Mathlib.Omega.{arith}
 use lib.Dec.{eqb, leb}
 use lib.ListN.{length, get_or, replicate}
@@ -12,7 +12,7 @@ use Rattle.logic.specs.Lists.{Every}
 use Rattle.logic.specs.Tests.{both, either}
 use Rattle.logic.proofs.Decide.{clash}
 use Rattle.logic.proofs.Tests.{both_left, both_right, either_true}
-use Rattle.entry.specs.declared.Order.TheVariants.{Less}
+use Rattle.std.specs.declared.cmp.Ordering.TheVariants.{Less}
 use Rattle.entry.specs.Names.{Letter, Spelt, Precedes, letter, follows, chain, name_spelt, is_name, compare_to, before}
 use Rattle.entry.proofs.Orders.{cons-less, before-less, less-before, less-cons, eq-cons, same-less}
 

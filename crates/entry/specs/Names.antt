@@ -2,8 +2,9 @@
 use Rattle.std.specs.Prelude.{ℕ, ◌<◌, ◌≤◌, Bool, true, false, List, [], ◌∷◌, ◌++◌, ◌⊎◌, ◌≡◌, eqb, ltb, leb, length, get_or, replicate}
 use Rattle.logic.specs.Lists.{Every}
 use Rattle.logic.specs.Tests.{pick, both, either}
-use Rattle.entry.specs.declared.Order.{Order}
-use Rattle.entry.specs.declared.Order.TheVariants.{Less, Same, More}
+use Rattle.std.specs.declared.cmp.Ordering.{Ordering}
+use Rattle.std.specs.declared.cmp.Ordering.TheVariants.{Less, Equal, Greater}
+use Rattle.std.specs.Ordering.{is_lt, is_eq}
 
 -- ---- in the request's words
 -- A to Z or 0 to 9.
@@ -48,25 +49,15 @@ unfoldable pub is_name : List ℕ → Bool
 is_name n = both (eqb (length n) 8) (name_spelt n)
 
 -- The order of names, byte by byte.
-unfoldable pub compare_to : List ℕ → List ℕ → Order
-compare_to [] [] = Same
+unfoldable pub compare_to : List ℕ → List ℕ → Ordering
+compare_to [] [] = Equal
 compare_to [] (b ∷ bs) = Less
-compare_to (a ∷ xs) [] = More
-compare_to (a ∷ xs) (b ∷ bs) = pick (ltb a b) Less (pick (ltb b a) More (compare_to xs bs))
-
-unfoldable pub is_less : Order → Bool
-is_less Less = true
-is_less Same = false
-is_less More = false
-
-unfoldable pub is_same : Order → Bool
-is_same Less = false
-is_same Same = true
-is_same More = false
+compare_to (a ∷ xs) [] = Greater
+compare_to (a ∷ xs) (b ∷ bs) = pick (ltb a b) Less (pick (ltb b a) Greater (compare_to xs bs))
 
 -- a comes before b; a is b.
 unfoldable pub before : List ℕ → List ℕ → Bool
-before a b = is_less (compare_to a b)
+before a b = is_lt (compare_to a b)
 
 unfoldable pub same_name : List ℕ → List ℕ → Bool
-same_name a b = is_same (compare_to a b)
+same_name a b = is_eq (compare_to a b)

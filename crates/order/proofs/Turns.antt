@@ -23,6 +23,10 @@ count-with (suc w) (suc n) c d p q ec ed =
     let f = rw ew at ed in
     rw (ew, en) (omega arith, omega arith)
 
+-- A loop from the largest number down names the number below w by w - 1.
+pub one-less : (w n d : ℕ) → d ≡ count (w - 1 + 1 - 1) n → d ≡ count (w - 1) n
+one-less w n d e = let f : w - 1 + 1 - 1 ≡ w - 1 = omega arith in rw f at e
+
 -- ---- the set of a size, from the largest number down
 -- Where there is a set of n of w numbers, n is at most w.
 some_fit : (w n k : ℕ) → k < count w n → n ≤ w
@@ -125,7 +129,7 @@ module _ {x place n c rest : ℕ} (b : Sizing x place n c rest) where
   sized l = sym (standing-there x n rest place b.fits (omega (arith, b.counted)) (sym b.whole)).1
 
   module _ (l : c ≤ rest) where
-    pub more-sizes : n + 1 ≤ x
+    more-sizes : n + 1 ≤ x
     more-sizes =
         let y = below_next x n in
         let last : n ≡ x → ⊥ = λ f. let z = below_all x in let g : count_below x (n + 1) ≡ count_below x (suc x) = ap (count_below x) (add-one n ∙ ap suc f) in omega (arith, b.counted, b.whole, b.inside) in
@@ -133,6 +137,10 @@ module _ {x place n c rest : ℕ} (b : Sizing x place n c rest) where
 
     pub size-passed : {d : ℕ} → d ≡ count x (n + 1) → Sizing x place (n + 1) d (rest - c)
     size-passed e = let y = below_next x n in record { small = b.small; inside = b.inside; fits = more-sizes; counted = e; whole = omega (arith, b.counted, b.whole) }
+
+  -- It is, where all others are passed over.
+  pub last-size : n ≡ x → rest < c
+  last-size e = let none : c ≤ rest → ⊥ = λ l. let m = more-sizes l in omega arith in omega arith
 
 -- ---- the place of a set among those of its size, from the largest number down
 -- The place so far, and that among the sets of `left` of the first w numbers.

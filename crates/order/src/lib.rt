@@ -39,13 +39,14 @@ pub fn set_of_size(x: usize, n: usize, count: usize, place: usize) -> u64
     ensures { result ≡ of_size x n place }
 {
     let mut t: u64 = 0;
-    let mut w = x;
     let mut left = n;
     let mut rest = place;
     let mut c = count;
-    while 0 < left {
-        let without = without_last(w, left, c);
-        w -= 1;
+    for w in (0..x).rev() {
+        if left == 0 {
+            break;
+        }
+        let without = without_last(w + 1, left, c);
         if rest < without {
             c = without;
         } else {
@@ -63,15 +64,16 @@ pub fn set_at(x: usize, place: usize) -> u64
     requires { (x ≤ widest) × (place < 2 ^ x) }
     ensures { result ≡ set_at x place }
 {
-    let mut n = 0;
     let mut count = EMPTY_SETS;
     let mut rest = place;
-    while count <= rest {
+    for n in 0..x {
+        if rest < count {
+            return set_of_size(x, n, count, rest);
+        }
         rest -= count;
         count = of_next_size(x, n, count);
-        n += 1;
     }
-    set_of_size(x, n, count, rest)
+    set_of_size(x, x, count, rest)
 }
 
 // The place of the set t among the `count` sets of its size n: from the largest number down, a member stands after the sets without it.
@@ -80,12 +82,13 @@ pub fn place_in_size(x: usize, n: usize, count: usize, t: u64) -> usize
     ensures { result ≡ place_in_size x t }
 {
     let mut place = 0;
-    let mut w = x;
     let mut left = n;
     let mut c = count;
-    while 0 < left {
-        let without = without_last(w, left, c);
-        w -= 1;
+    for w in (0..x).rev() {
+        if left == 0 {
+            break;
+        }
+        let without = without_last(w + 1, left, c);
         if (t >> w) % 2 == 0 {
             c = without;
         } else {
@@ -103,15 +106,13 @@ pub fn place_of(x: usize, t: u64) -> usize
     ensures { result ≡ place_of x t }
 {
     let size = sets::size(t) as usize;
-    let mut n = 0;
     let mut count = EMPTY_SETS;
     let mut before = 0;
-    while n < size {
+    for n in 0..size {
         before += count;
         count = of_next_size(x, n, count);
-        n += 1;
     }
-    before + place_in_size(x, n, count, t)
+    before + place_in_size(x, size, count, t)
 }
 
 // The lowest run of ones of a set: the place where it begins, the place after it, and the set with the run carried into a one there.

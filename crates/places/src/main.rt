@@ -7,62 +7,27 @@ ghost use Rattle.order.specs.Formula.{widest};
 
 use std::io;
 
-// A blank and a number.
-fn number(rt: &impl Print, n: u64) -> io::Result<()> {
-    print!(rt; " {n}")
-}
-
-// The line's end.
-fn end(rt: &impl Print) -> io::Result<()> {
-    println!(rt; "")
-}
-
-// How many ones a word has, one digit after the other.
-fn ones(t: u64) -> u64 {
-    let mut count = 0;
-    let mut place: u64 = 0;
-    while place < 64 {
-        count = std::num::wrapping_add_u64(count, (t >> place) % 2);
-        place += 1;
-    }
-    count
-}
-
 // The set a comes before the set b: fewer members, then the smaller number.
 fn before(a: u64, b: u64) -> bool {
-    let m = ones(a);
-    let n = ones(b);
-    if m == n {
-        return a < b;
-    }
-    m < n
+    (a.count_ones(), a) < (b.count_ones(), b)
 }
 
-// 1 where the set at this place is one of x exceptions, its place is this place, and the next set is that at the next place and comes later; else 0.
+// The set at this place is one of x exceptions, its place is this place, and the next set is that at the next place and comes later.
 // Where all places are sound their sets rise, so they are all sets in their order.
-fn sound(x: usize, place: usize) -> u64
+fn sound(x: usize, place: usize) -> bool
     requires { (x ≤ widest) × (place < 2 ^ x) }
 {
     let places = order::place_count(x);
     let t = order::set_at(x, place);
-    if places as u64 <= t {
-        return 0;
-    }
-    if order::place_of(x, t) != place {
-        return 0;
+    if places as u64 <= t || order::place_of(x, t) != place {
+        return false;
     }
     let next = place + 1;
     if places <= next {
-        return 1;
+        return true;
     }
     let u = order::next(x, t);
-    if u != order::set_at(x, next) {
-        return 0;
-    }
-    if before(t, u) {
-        return 1;
-    }
-    0
+    u == order::set_at(x, next) && before(t, u)
 }
 
 // How many exceptions, how many places, how many of them are sound.
@@ -70,65 +35,43 @@ fn all_sound(rt: &impl Print, x: usize) -> io::Result<()>
     requires { x ≤ widest }
 {
     let places = order::place_count(x);
-    let mut count = 0;
-    let mut place = 0;
-    while place < places {
-        count = std::num::wrapping_add_u64(count, sound(x, place));
-        place += 1;
+    let mut count: usize = 0;
+    for place in 0..places {
+        if sound(x, place) {
+            count += 1;
+        }
     }
-    number(rt, x as u64)?;
-    number(rt, places as u64)?;
-    number(rt, count)?;
-    end(rt)
+    println!(rt; " {x} {places} {count}")
 }
 
-// A place and its set, if there is one.
-fn entry(rt: &impl Print, x: usize, place: usize) -> io::Result<()>
+// These places and their sets, as far as there are such places.
+fn named(rt: &impl Print, x: usize, places: &[usize]) -> io::Result<()>
     requires { x ≤ widest }
 {
-    if order::place_count(x) <= place {
-        return Ok(());
+    for &place in places {
+        if place < order::place_count(x) {
+            print!(rt; " {place}: {}", order::set_at(x, place))?;
+        }
     }
-    number(rt, place as u64)?;
-    print!(rt; ":")?;
-    number(rt, order::set_at(x, place))
-}
-
-// The places 0 to 3, three others, and their sets.
-fn named(rt: &impl Print, x: usize, a: usize, b: usize, c: usize) -> io::Result<()>
-    requires { x ≤ widest }
-{
-    entry(rt, x, 0)?;
-    entry(rt, x, 1)?;
-    entry(rt, x, 2)?;
-    entry(rt, x, 3)?;
-    entry(rt, x, a)?;
-    entry(rt, x, b)?;
-    entry(rt, x, c)?;
-    end(rt)
+    println!(rt; "")
 }
 
 // Each set after the other, from the empty one on.
 fn whole(rt: &impl Print, x: usize) -> io::Result<()>
     requires { x ≤ widest }
 {
-    let places = order::place_count(x);
-    let mut place = 0;
-    while place < places {
-        number(rt, order::set_at(x, place))?;
-        place += 1;
+    for place in 0..order::place_count(x) {
+        print!(rt; " {}", order::set_at(x, place))?;
     }
-    end(rt)
+    println!(rt; "")
 }
 
 fn main(rt: HostRuntime) -> io::Result<()> {
     let rt = &rt;
-    let mut x = 0;
-    while x <= 16 {
+    for x in 0..=16 {
         all_sound(rt, x)?;
-        x += 1;
     }
-    named(rt, 12, 13, 14, 4095)?;
-    named(rt, 16, 17, 18, 65535)?;
+    named(rt, 12, &[0, 1, 2, 3, 13, 14, 4095])?;
+    named(rt, 16, &[0, 1, 2, 3, 17, 18, 65535])?;
     whole(rt, 4)
 }

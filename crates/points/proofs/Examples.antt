@@ -7,7 +7,7 @@ use lib.ListN.{replicate}
 use Rattle.logic.specs.Tests.{pick, both, either}
 use Rattle.sets.specs.declared.Pair.{Pair}
 use Rattle.answers.specs.Operations.Told.{told, turned}
-use Rattle.entry.specs.Names.{letter, follows, chain, name_spelt, is_name, compare_to, is_less, is_same, before, same_name}
+use Rattle.entry.specs.Names.{letter, follows, chain, name_spelt, is_name, compare_to, before, same_name}
 use Rattle.entry.specs.Bytes.{word_of, digits, entry_row, pair_bytes, pair_of, zeros}
 use Rattle.points.specs.Points.{entry_rows, packed, leaves}
 use Rattle.points.specs.Stores.{entry_of, entries_of, count_from, entry_count, held_of, store_of, lookup, by_order, set_in, drop_in, if_there, on_store, go_told, set_told, drop_told}
@@ -56,15 +56,15 @@ pub filled : left_by_all empty_store three ≡ (
     65 ∷ 32 ∷ 32 ∷ 32 ∷ 32 ∷ 32 ∷ 32 ∷ 32 ∷ 0 ∷ 0 ∷ 0 ∷ 0 ∷ 0 ∷ 0 ∷ 0 ∷ 0 ∷ 0 ∷ 0 ∷ 0 ∷ 0 ∷ 0 ∷ 0 ∷ 0 ∷ 0 ∷ 0 ∷ 0 ∷ 0 ∷ 0 ∷ 0 ∷ 0 ∷ 1 ∷ 0
     ∷ 65 ∷ 49 ∷ 32 ∷ 32 ∷ 32 ∷ 32 ∷ 32 ∷ 32 ∷ 255 ∷ 255 ∷ 0 ∷ 0 ∷ 0 ∷ 0 ∷ 0 ∷ 0 ∷ 3 ∷ 0 ∷ 0 ∷ 0 ∷ 0 ∷ 0 ∷ 0 ∷ 0 ∷ 3 ∷ 0 ∷ 0 ∷ 0 ∷ 0 ∷ 0 ∷ 0 ∷ 0
     ∷ 66 ∷ 32 ∷ 32 ∷ 32 ∷ 32 ∷ 32 ∷ 32 ∷ 32 ∷ 1 ∷ 0 ∷ 0 ∷ 0 ∷ 0 ∷ 0 ∷ 0 ∷ 0 ∷ 5 ∷ 0 ∷ 0 ∷ 0 ∷ 0 ∷ 0 ∷ 0 ∷ 0 ∷ 2 ∷ 0 ∷ 0 ∷ 0 ∷ 0 ∷ 0 ∷ 0 ∷ 0 ∷ []) ++ replicate 928 0
-unfolding letter follows chain name_spelt is_name compare_to is_less is_same before same_name word_of digits pair_bytes pair_of entry_row zeros entry_rows packed entry_of entries_of count_from entry_count held_of store_of lookup by_order set_in drop_in if_there on_store go_told set_told drop_told leaves given point_answer left_by point_answers left_by_all empty_store pick both either
+unfolding letter follows chain name_spelt is_name compare_to before same_name word_of digits pair_bytes pair_of entry_row zeros entry_rows packed entry_of entries_of count_from entry_count held_of store_of lookup by_order set_in drop_in if_there on_store go_told set_told drop_told leaves given point_answer left_by point_answers left_by_all empty_store pick both either
 filled = refl
 
 -- Every answer, and an empty store at the end.
 pub answered : point_answers empty_store (three ++ further) ≡
     told none ∷ told none ∷ told none ∷ told (some (pair 65535 3 3)) ∷ turned 25 0 ∷ told none ∷ told none ∷ turned 25 0 ∷ turned 25 0 ∷ turned 25 0 ∷ told none ∷ told none ∷ []
-unfolding letter follows chain name_spelt is_name compare_to is_less is_same before same_name word_of digits pair_bytes pair_of entry_row zeros entry_rows packed entry_of entries_of count_from entry_count held_of store_of lookup by_order set_in drop_in if_there on_store go_told set_told drop_told leaves given point_answer left_by point_answers left_by_all empty_store pick both either
+unfolding letter follows chain name_spelt is_name compare_to before same_name word_of digits pair_bytes pair_of entry_row zeros entry_rows packed entry_of entries_of count_from entry_count held_of store_of lookup by_order set_in drop_in if_there on_store go_told set_told drop_told leaves given point_answer left_by point_answers left_by_all empty_store pick both either
 answered = refl
 
 pub emptied : left_by_all empty_store (three ++ further) ≡ empty_store
-unfolding letter follows chain name_spelt is_name compare_to is_less is_same before same_name word_of digits pair_bytes pair_of entry_row zeros entry_rows packed entry_of entries_of count_from entry_count held_of store_of lookup by_order set_in drop_in if_there on_store go_told set_told drop_told leaves given point_answer left_by point_answers left_by_all empty_store pick both either
+unfolding letter follows chain name_spelt is_name compare_to before same_name word_of digits pair_bytes pair_of entry_row zeros entry_rows packed entry_of entries_of count_from entry_count held_of store_of lookup by_order set_in drop_in if_there on_store go_told set_told drop_told leaves given point_answer left_by point_answers left_by_all empty_store pick both either
 emptied = refl

@@ -6,7 +6,7 @@ use Prim.Native.Nat.{ℕ, ◌≤◌}
 use native.Mathlib.Omega.{arith}
 use lib.ListN.{length}
 use Rattle.sets.specs.declared.Pair.{Pair}
-use Rattle.entry.specs.Names.{is_name, before, compare_to, is_less}
+use Rattle.entry.specs.Names.{is_name, before, compare_to}
 use Rattle.points.specs.Points.{Entry, packed, Fits}
 use Rattle.points.specs.Stores.{set_in, drop_in}
 use Rattle.points.proofs.Places.{name-long}
@@ -14,7 +14,7 @@ use Rattle.points.proofs.Maps.{every_set, every_drop, rising-set, rising-drop, d
 use Rattle.points.proofs.Tested.{Tested}
 
 pub nil-before : (n : List ℕ) → length n ≡ 8 → before [] n ≡ true
-unfolding before compare_to is_less
+unfolding before compare_to
 nil-before [] h = absurd (omega arith)
 nil-before (b ∷ bs) h = refl
 

@@ -10,9 +10,10 @@ use Rattle.logic.specs.Lists.{Every}
 use Rattle.logic.specs.Tests.{pick}
 use Rattle.logic.proofs.Decide.{clash}
 use Rattle.sets.specs.declared.Pair.{Pair}
-use Rattle.entry.specs.declared.Order.{Order}
-use Rattle.entry.specs.declared.Order.TheVariants.{Less, Same, More}
-use Rattle.entry.specs.Names.{compare_to, is_same, before, same_name}
+use Rattle.std.specs.declared.cmp.Ordering.{Ordering}
+use Rattle.std.specs.declared.cmp.Ordering.TheVariants.{Less, Equal, Greater}
+use Rattle.std.specs.Ordering.{is_eq}
+use Rattle.entry.specs.Names.{compare_to, before, same_name}
 use Rattle.points.specs.Points.{Entry}
 use Rattle.points.specs.Stores.{lookup, by_order, set_in, drop_in}
 use Rattle.entry.proofs.Orders.{less-before, less-flip, less-trans, more-flip, before-less, same-eq, same_true}
@@ -25,10 +26,10 @@ unfolding set_in by_order
 every_set P [] n p h g = (h, tt)
 every_set P (x ∷ es) n p h g = go (every_set P es n p h g.1) (compare_to x.name n)
   where
-    go : Every P (set_in es n p) → (o : Order) → Every P (by_order o (x ∷ set_in es n p) (record { name = n; pair = p } ∷ es) (record { name = n; pair = p } ∷ x ∷ es))
+    go : Every P (set_in es n p) → (o : Ordering) → Every P (by_order o (x ∷ set_in es n p) (record { name = n; pair = p } ∷ es) (record { name = n; pair = p } ∷ x ∷ es))
     go ih Less = (g.0, ih)
-    go ih Same = (h, g.1)
-    go ih More = (h, g)
+    go ih Equal = (h, g.1)
+    go ih Greater = (h, g)
 
 pub every_drop : (P : Entry → Type 0) (es : List Entry) (n : List ℕ) → Every P es → Every P (drop_in es n)
 unfolding drop_in pick
@@ -44,10 +45,10 @@ unfolding set_in by_order Rising
 rising-set a [] n p h g = (h, tt)
 rising-set a (x ∷ es) n p h g = go (λ d. rising-set x.name es n p (less-before x.name n d) g.1) (compare_to x.name n) refl
   where
-    go : (compare_to x.name n ≡ Less → Rising x.name (set_in es n p)) → (o : Order) → compare_to x.name n ≡ o → Rising a (by_order o (x ∷ set_in es n p) (record { name = n; pair = p } ∷ es) (record { name = n; pair = p } ∷ x ∷ es))
+    go : (compare_to x.name n ≡ Less → Rising x.name (set_in es n p)) → (o : Ordering) → compare_to x.name n ≡ o → Rising a (by_order o (x ∷ set_in es n p) (record { name = n; pair = p } ∷ es) (record { name = n; pair = p } ∷ x ∷ es))
     go ih Less d = (g.0, ih d)
-    go ih Same d = (h, rw (← same-eq x.name n d) g.1)
-    go ih More d = (h, (less-before n x.name (more-flip x.name n d), g.1))
+    go ih Equal d = (h, rw (← same-eq x.name n d) g.1)
+    go ih Greater d = (h, (less-before n x.name (more-flip x.name n d), g.1))
 
 pub rising-less : (a b : List ℕ) (es : List Entry) → compare_to a b ≡ Less → Rising b es → Rising a es
 unfolding Rising
@@ -65,7 +66,7 @@ rising-drop a (x ∷ es) n g = go (rising-drop x.name es n g.1) (same_name x.nam
 
 -- ---- each name
 pub none-at : (a : List ℕ) (es : List Entry) → Rising a es → lookup es a ≡ none
-unfolding lookup Rising same_name is_same pick
+unfolding lookup Rising same_name pick
 none-at a [] g = refl
 none-at a (x ∷ es) g = let m = less-flip a x.name (before-less a x.name g.0) in rw m (past x.name a es m g.1)
 
@@ -75,11 +76,11 @@ off true a b f = absurd (clash (sym f))
 off false a b f = refl
 
 set-less : (x : Entry) (es : List Entry) (n : List ℕ) (p : Pair) (k : List ℕ) (t : Bool) → same_name n k ≡ t → compare_to x.name n ≡ Less → pick (same_name x.name k) (some x.pair) (pick t (some p) (lookup es k)) ≡ pick t (some p) (pick (same_name x.name k) (some x.pair) (lookup es k))
-unfolding pick same_name is_same
-set-less x es n p k true e d = off (same_name x.name k) (some x.pair) (some p) (rw (← same_true n k e) (ap is_same d))
+unfolding pick same_name
+set-less x es n p k true e d = off (same_name x.name k) (some x.pair) (some p) (rw (← same_true n k e) (ap is_eq d))
 set-less x es n p k false e d = refl
 
-set-equal : (x : Entry) (es : List Entry) (n : List ℕ) (p : Pair) (k : List ℕ) (t : Bool) → same_name n k ≡ t → compare_to x.name n ≡ Same → pick t (some p) (lookup es k) ≡ pick t (some p) (pick (same_name x.name k) (some x.pair) (lookup es k))
+set-equal : (x : Entry) (es : List Entry) (n : List ℕ) (p : Pair) (k : List ℕ) (t : Bool) → same_name n k ≡ t → compare_to x.name n ≡ Equal → pick t (some p) (lookup es k) ≡ pick t (some p) (pick (same_name x.name k) (some x.pair) (lookup es k))
 unfolding pick
 set-equal x es n p k true e d = refl
 set-equal x es n p k false e d = sym (off (same_name x.name k) (some x.pair) (lookup es k) (rw (same-eq x.name n d) e))
@@ -89,11 +90,11 @@ unfolding set_in by_order lookup
 lookup-set [] n p k = refl
 lookup-set (x ∷ es) n p k = go (lookup-set es n p k) (compare_to x.name n) refl
   where
-    go : lookup (set_in es n p) k ≡ pick (same_name n k) (some p) (lookup es k) → (o : Order) → compare_to x.name n ≡ o
+    go : lookup (set_in es n p) k ≡ pick (same_name n k) (some p) (lookup es k) → (o : Ordering) → compare_to x.name n ≡ o
         → lookup (by_order o (x ∷ set_in es n p) (record { name = n; pair = p } ∷ es) (record { name = n; pair = p } ∷ x ∷ es)) k ≡ pick (same_name n k) (some p) (pick (same_name x.name k) (some x.pair) (lookup es k))
     go ih Less d = rw ih (set-less x es n p k (same_name n k) refl d)
-    go ih Same d = set-equal x es n p k (same_name n k) refl d
-    go ih More d = refl
+    go ih Equal d = set-equal x es n p k (same_name n k) refl d
+    go ih Greater d = refl
 
 drop_here : (x : Entry) (es : List Entry) (n k : List ℕ) (t : Bool) → same_name n k ≡ t → same_name x.name n ≡ true → Rising x.name es → lookup es k ≡ pick t none (pick (same_name x.name k) (some x.pair) (lookup es k))
 unfolding pick
@@ -124,10 +125,10 @@ unfolding set_in by_order
 set-most [] n p = omega arith
 set-most (x ∷ es) n p = go (set-most es n p) (compare_to x.name n)
   where
-    go : length (set_in es n p) ≤ suc (length es) → (o : Order) → length (by_order o (x ∷ set_in es n p) (record { name = n; pair = p } ∷ es) (record { name = n; pair = p } ∷ x ∷ es)) ≤ suc (suc (length es))
+    go : length (set_in es n p) ≤ suc (length es) → (o : Ordering) → length (by_order o (x ∷ set_in es n p) (record { name = n; pair = p } ∷ es) (record { name = n; pair = p } ∷ x ∷ es)) ≤ suc (suc (length es))
     go ih Less = omega arith
-    go ih Same = omega arith
-    go ih More = omega arith
+    go ih Equal = omega arith
+    go ih Greater = omega arith
 
 pub drop-most : (es : List Entry) (n : List ℕ) → length (drop_in es n) ≤ length es
 unfolding drop_in pick
@@ -147,26 +148,26 @@ unfolding is_some
 none-some q e = clash (ap is_some e)
 
 pub set_there : (a : List ℕ) (es : List Entry) (n : List ℕ) (p q : Pair) → Rising a es → lookup es n ≡ some q → length (set_in es n p) ≡ length es
-unfolding set_in by_order lookup same_name is_same pick Rising
+unfolding set_in by_order lookup same_name pick Rising
 set_there a [] n p q g e = absurd (none-some q e)
 set_there a (x ∷ es) n p q g e = go (λ f. set_there x.name es n p q g.1 f) (compare_to x.name n) refl e
   where
-    go : (lookup es n ≡ some q → length (set_in es n p) ≡ length es) → (o : Order) → compare_to x.name n ≡ o → pick (is_same o) (some x.pair) (lookup es n) ≡ some q
+    go : (lookup es n ≡ some q → length (set_in es n p) ≡ length es) → (o : Ordering) → compare_to x.name n ≡ o → pick (is_eq o) (some x.pair) (lookup es n) ≡ some q
         → length (by_order o (x ∷ set_in es n p) (record { name = n; pair = p } ∷ es) (record { name = n; pair = p } ∷ x ∷ es)) ≡ suc (length es)
     go ih Less d f = ap suc (ih f)
-    go ih Same d f = refl
-    go ih More d f = absurd (none-some q (sym (past x.name n es d g.1) ∙ f))
+    go ih Equal d f = refl
+    go ih Greater d f = absurd (none-some q (sym (past x.name n es d g.1) ∙ f))
 
 pub set-absent : (es : List Entry) (n : List ℕ) (p : Pair) → lookup es n ≡ none → length (set_in es n p) ≡ suc (length es)
-unfolding set_in by_order lookup same_name is_same pick
+unfolding set_in by_order lookup same_name pick
 set-absent [] n p e = refl
 set-absent (x ∷ es) n p e = go (λ f. set-absent es n p f) (compare_to x.name n) refl e
   where
-    go : (lookup es n ≡ none → length (set_in es n p) ≡ suc (length es)) → (o : Order) → compare_to x.name n ≡ o → pick (is_same o) (some x.pair) (lookup es n) ≡ none
+    go : (lookup es n ≡ none → length (set_in es n p) ≡ suc (length es)) → (o : Ordering) → compare_to x.name n ≡ o → pick (is_eq o) (some x.pair) (lookup es n) ≡ none
         → length (by_order o (x ∷ set_in es n p) (record { name = n; pair = p } ∷ es) (record { name = n; pair = p } ∷ x ∷ es)) ≡ suc (suc (length es))
     go ih Less d f = ap suc (ih f)
-    go ih Same d f = absurd (none-some x.pair (sym f))
-    go ih More d f = refl
+    go ih Equal d f = absurd (none-some x.pair (sym f))
+    go ih Greater d f = refl
 
 pub drop-there : (es : List Entry) (n : List ℕ) (q : Pair) → lookup es n ≡ some q → suc (length (drop_in es n)) ≡ length es
 unfolding drop_in lookup pick

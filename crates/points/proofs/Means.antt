@@ -16,14 +16,14 @@ use Rattle.logic.proofs.Members.{every_map}
 use Rattle.sets.specs.declared.Pair.{Pair}
 use Rattle.answers.specs.Operations.{Told}
 use Rattle.answers.specs.Operations.Told.{told, turned}
-use Rattle.entry.specs.declared.Order.{Order}
-use Rattle.entry.specs.declared.Order.TheVariants.{Less, Same, More}
-use Rattle.entry.specs.Names.{Spelt, Precedes, is_name, compare_to, is_same, same_name}
+use Rattle.std.specs.declared.cmp.Ordering.{Ordering}
+use Rattle.std.specs.declared.cmp.Ordering.TheVariants.{Less, Equal, Greater}
+use Rattle.entry.specs.Names.{Spelt, Precedes, is_name, compare_to, same_name}
 use Rattle.entry.specs.Bytes.{AreBytes}
 use Rattle.entry.proofs.Orders.{before-less, less-flip, less-same, less-trans, more-flip, more_same, same-eq, same_self, same_true}
 use Rattle.entry.proofs.Spelling.{name-iff, before-iff}
-use Rattle.points.specs.declared.Went.{Went}
-use Rattle.points.specs.declared.Kept.{Kept}
+use Rattle.std.specs.Prelude.{Result}
+use Rattle.text.specs.declared.Refusal.{Refusal}
 use Rattle.points.specs.Points.{Entry, packed, Ascending, Fits, Store, Under, Absent, OfStore, Goes, Sets, Drops}
 use Rattle.points.specs.Points.OfStore.{no_store, misspelt, named}
 use Rattle.points.specs.Stores.{Contents, holds, nothing, store_of, lookup, set_in, drop_in, if_there, on_store, go_told, set_told, drop_told, went_is, went_told, kept_is, Met, Meant}
@@ -58,14 +58,14 @@ under-less a (x ∷ es) n p g (inl e) = let d : x.name ≡ n = ap (λ (y : Entry
 under-less a (x ∷ es) n p g (inr u) = less-trans a x.name n (before-less a x.name g.0) (under-less x.name es n p g.1 u)
 
 here : (n : List ℕ) (p : Pair) (es : List Entry) → lookup (record { name = n; pair = p } ∷ es) n ≡ some p
-unfolding lookup same_name is_same pick
+unfolding lookup same_name pick
 here n p es = rw (same_self n)
 
-there : (x : Entry) (es : List Entry) (n : List ℕ) (o : Order) → compare_to x.name n ≡ o → (o ≡ Same → ⊥) → lookup (x ∷ es) n ≡ lookup es n
-unfolding lookup same_name is_same pick
+there : (x : Entry) (es : List Entry) (n : List ℕ) (o : Ordering) → compare_to x.name n ≡ o → (o ≡ Equal → ⊥) → lookup (x ∷ es) n ≡ lookup es n
+unfolding lookup same_name pick
 there x es n Less e f = rw e
-there x es n Same e f = absurd (f refl)
-there x es n More e f = rw e
+there x es n Equal e f = absurd (f refl)
+there x es n Greater e f = rw e
 
 pub under-lookup : (a : List ℕ) (es : List Entry) (n : List ℕ) (p : Pair) → Rising a es → Under es n p → lookup es n ≡ some p
 unfolding Rising
@@ -91,7 +91,7 @@ nothing-in n = refl
 first-none : (x : Entry) (y : Entry) (ds : List Entry) → compare_to x.name y.name ≡ Less → Rising y.name ds → lookup (y ∷ ds) x.name ≡ none
 first-none x y ds e g =
     let m = less-flip x.name y.name e in
-    there y ds x.name More m more_same ∙ past y.name x.name ds m g
+    there y ds x.name Greater m more_same ∙ past y.name x.name ds m g
 
 rest-same : (x y : Entry) (es ds : List Entry) → x.name ≡ y.name → Rising x.name es → Rising y.name ds → ((n : List ℕ) → lookup (x ∷ es) n ≡ lookup (y ∷ ds) n) → (n : List ℕ) → lookup es n ≡ lookup ds n
 unfolding lookup pick
@@ -115,10 +115,10 @@ same_entries a b (x ∷ es) (y ∷ ds) g k h = go (λ e. same_entries x.name y.n
     pair_same : x.name ≡ y.name → x.pair ≡ y.pair
     pair_same e = some-eq x.pair y.pair (sym (here x.name x.pair es) ∙ (h x.name ∙ rw e (here y.name y.pair ds)))
 
-    go : (x.name ≡ y.name → es ≡ ds) → (o : Order) → compare_to x.name y.name ≡ o → x ∷ es ≡ y ∷ ds
+    go : (x.name ≡ y.name → es ≡ ds) → (o : Ordering) → compare_to x.name y.name ≡ o → x ∷ es ≡ y ∷ ds
     go ih Less e = absurd (none-some x.pair (sym (first-none x y ds e k.1) ∙ (sym (h x.name) ∙ here x.name x.pair es)))
-    go ih More e = absurd (none-some y.pair (sym (first-none y x es (more-flip x.name y.name e) g.1) ∙ (h y.name ∙ here y.name y.pair ds)))
-    go ih Same e =
+    go ih Greater e = absurd (none-some y.pair (sym (first-none y x es (more-flip x.name y.name e) g.1) ∙ (h y.name ∙ here y.name y.pair ds)))
+    go ih Equal e =
         let d = same-eq x.name y.name e in
         let p = pair_same d in
         let r = ih d in
@@ -228,7 +228,7 @@ not_same n m f = go (same_name n m) refl
     go false d = d
 
 self-same : (n : List ℕ) → same_name n n ≡ true
-unfolding same_name is_same
+unfolding same_name
 self-same n = rw (same_self n)
 
 differ : (n m : List ℕ) → same_name n m ≡ false → m ≡ n → ⊥
@@ -358,15 +358,15 @@ unfolding went_told went_is
 told_back (told p) = refl
 told_back (turned q line) = refl
 
-pub go-meant : (bs n : List ℕ) → AreBytes bs → (r : Went) → r ≡ went_is (go_told (store_of bs) n) → (r ≡ went_is (go_told (store_of bs) n)) × OfStore (Goes n) bs n (went_told r)
+pub go-meant : (bs n : List ℕ) → AreBytes bs → (r : Result Pair Refusal) → r ≡ went_is (go_told (store_of bs) n) → (r ≡ went_is (go_told (store_of bs) n)) × OfStore (Goes n) bs n (went_told r)
 go-meant bs n ab r e = (e, rw e ((go-means bs n ab (went_told (went_is (go_told (store_of bs) n)))).0 (told_back (go_told (store_of bs) n))))
 
-pub set-meant : (bs n : List ℕ) (p : Pair) → AreBytes bs → Fits p → (r : Kept) (bs' : List ℕ) → Met bs (set_told (store_of bs) n p) r bs' → Met bs (set_told (store_of bs) n p) r bs' × Meant kept_is (Sets n p) bs n r bs'
+pub set-meant : (bs n : List ℕ) (p : Pair) → AreBytes bs → Fits p → (r : Result (Unit {0}) Refusal) (bs' : List ℕ) → Met bs (set_told (store_of bs) n p) r bs' → Met bs (set_told (store_of bs) n p) r bs' × Meant kept_is (Sets n p) bs n r bs'
 set-meant bs n p ab f r bs' m =
     let t = set_told (store_of bs) n p in
     (m, record { gives = t; means = (set-means bs n p ab f t).0 refl; answer = m.answer; store = m.store })
 
-pub drop-meant : (bs n : List ℕ) → AreBytes bs → (r : Kept) (bs' : List ℕ) → Met bs (drop_told (store_of bs) n) r bs' → Met bs (drop_told (store_of bs) n) r bs' × Meant kept_is (Drops n) bs n r bs'
+pub drop-meant : (bs n : List ℕ) → AreBytes bs → (r : Result (Unit {0}) Refusal) (bs' : List ℕ) → Met bs (drop_told (store_of bs) n) r bs' → Met bs (drop_told (store_of bs) n) r bs' × Meant kept_is (Drops n) bs n r bs'
 drop-meant bs n ab r bs' m =
     let t = drop_told (store_of bs) n in
     (m, record { gives = t; means = (drop-means bs n ab t).0 refl; answer = m.answer; store = m.store })

@@ -12,13 +12,13 @@ use borrow.Author.Tests.{eq-eqb}
 use Rattle.logic.specs.Lists.{Every}
 use Rattle.logic.specs.Tests.{both, either, pick}
 use Rattle.logic.proofs.Decide.{clash}
-use Rattle.points.specs.declared.Occupied.{Occupied}
-use Rattle.points.specs.declared.Occupied.TheVariants.{Entries, NoStore}
+use Rattle.std.specs.Prelude.{Option as Maybe, Some, None}
 use Rattle.entry.specs.Names.{letter, name_spelt, is_name, before}
 use Rattle.entry.specs.Bytes.{AreBytes, word_of, digits, entry_row, pair_bytes, pair_of, zeros}
 use Rattle.points.specs.Points.{Entry, entry_rows, packed, Fits}
 use Rattle.points.specs.Stores.{entry_of, entries_of, count_from, entry_count, held_of, store_of, Contents, holds, nothing}
-use Rattle.entry.proofs.Numbers.{bytes_drop, eight-digits, word-digits, word_fits}
+use Rattle.entry.proofs.Leaves.{eight-digits}
+use Rattle.entry.proofs.Numbers.{bytes_drop, word-digits, word_fits}
 use Rattle.points.proofs.Stored.{stored, stored-packed, entries-long}
 use Rattle.points.proofs.Places.{Named, name-long, row-long, take-zeros, rows_long}
 use Rattle.points.proofs.Tested.{Rising, Tested}
@@ -79,7 +79,7 @@ no_name : (m : ℕ) → 8 ≤ m → name_spelt (take 8 (replicate m 0)) ≡ fals
 unfolding name_spelt letter both either
 no_name m h = ap name_spelt (take-zeros 8 m h)
 
-count_zeros : (m k : ℕ) (a : List ℕ) → count_from m k a (replicate (m * 32) 0) ≡ Entries k
+count_zeros : (m k : ℕ) (a : List ℕ) → count_from m k a (replicate (m * 32) 0) ≡ Some k
 unfolding count_from pick
 count_zeros zero k a = refl
 count_zeros (suc m) k a = rw (no_name (suc m * 32) (omega arith), zeros-yes (suc m * 32))
@@ -88,7 +88,7 @@ one_more : (e : Entry) (es : List Entry) (m k : ℕ) (a z : List ℕ) → is_nam
 unfolding count_from pick
 one_more e es m k a z h g = rw (front-name e es z h, behind e es z h, name-spelt e.name h, g)
 
-count-packed : (es : List Entry) (m k : ℕ) (a : List ℕ) → Named es → Rising a es → length es ≤ m → count_from m k a (entry_rows es ++ replicate ((m - length es) * 32) 0) ≡ Entries (k + length es)
+count-packed : (es : List Entry) (m k : ℕ) (a : List ℕ) → Named es → Rising a es → length es ≤ m → count_from m k a (entry_rows es ++ replicate ((m - length es) * 32) 0) ≡ Some (k + length es)
 unfolding entry_rows Rising
 count-packed [] m k a h g l = let e : m - 0 ≡ m = omega arith in rw (e, add-zero k) (count_zeros m k a)
 count-packed (e ∷ es) zero k a h g l = absurd (omega arith)
@@ -105,7 +105,7 @@ store-reads bs es s =
     let e : (32 - length es) * 32 ≡ z = let f = s.few in omega arith in
     let l : length w ≡ 1024 = let f = s.few in omega (arith, length-append (entry_rows es) (replicate z 0), rows_long es s.named, length-replicate {A = ℕ} z 0) in
     let o : 0 + length es ≡ length es = omega arith in
-    let c : count_from 32 0 [] w ≡ Entries (length es) = (rw e at (count-packed es 32 0 [] s.named s.rising s.few)) ∙ ap Entries o in
+    let c : count_from 32 0 [] w ≡ Some (length es) = (rw e at (count-packed es 32 0 [] s.named s.rising s.few)) ∙ ap Some o in
     rw (s.bytes, eq-eqb (length w) 1024 l, c) (ap holds (entries-packed es (replicate z 0) s.named s.fits))
 
 -- ---- and the other way: bytes that are read as entries are their store
@@ -124,7 +124,7 @@ pairs-fit (suc k) bs l h =
     let d = length-drop 32 bs in
     (pair_fits (drop 8 bs) (omega arith) (bytes_drop 8 bs h), pairs-fit k (drop 32 bs) (omega arith) (bytes_drop 32 bs h))
 
-counted-store : (bs : List ℕ) (k : ℕ) → AreBytes bs → entry_count bs ≡ Entries k → Tested bs (entries_of k bs)
+counted-store : (bs : List ℕ) (k : ℕ) → AreBytes bs → entry_count bs ≡ Some k → Tested bs (entries_of k bs)
 counted-store bs k h e =
     let s = stored bs k e in
     let f = s.few in
@@ -143,6 +143,6 @@ pub reads-store : (bs : List ℕ) (es : List Entry) → AreBytes bs → store_of
 unfolding store_of held_of entries_in is_held
 reads-store bs es h e = go (entry_count bs) refl e
   where
-    go : (c : Occupied) → entry_count bs ≡ c → held_of c bs ≡ holds es → Tested bs es
-    go (Entries k) d f = rw (← ap entries_in f) (counted-store bs k h d)
-    go NoStore d f = absurd (clash (ap is_held f))
+    go : (c : Maybe ℕ) → entry_count bs ≡ c → held_of c bs ≡ holds es → Tested bs es
+    go (Some k) d f = rw (← ap entries_in f) (counted-store bs k h d)
+    go None d f = absurd (clash (ap is_held f))

@@ -7,51 +7,31 @@ use Prim.Native.Nat.{ℕ, suc, ◌+◌, ◌-◌, ◌*◌, ◌<◌, ◌≤◌}
 use native.Mathlib.Omega.{arith}
 use lib.Dec.{eqb}
 use lib.ListN.{length, take, drop, replicate, length-append, length-replicate, replicate-append-replicate}
-use lib.Seq.{sets, sets-eq, take_at, drop_at, take-append-add}
+use lib.Seq.{sets, take_at, drop_at, take-append-add}
 use borrow.Author.Tests.{eqb-true}
 use Rattle.logic.specs.Lists.{Every}
 use Rattle.logic.specs.Tests.{both, pick}
 use Rattle.logic.proofs.Decide.{clash}
 use Rattle.sets.specs.declared.Pair.{Pair}
-use Rattle.entry.specs.declared.Order.{Order}
-use Rattle.entry.specs.declared.Order.TheVariants.{Less, Same, More}
-use Rattle.points.specs.declared.Place.{Place}
-use Rattle.points.specs.declared.Place.TheVariants.{Here, Gap}
-use Rattle.entry.specs.Names.{compare_to, is_same, same_name, is_name, name_spelt}
+use Rattle.std.specs.declared.cmp.Ordering.{Ordering}
+use Rattle.std.specs.declared.cmp.Ordering.TheVariants.{Less, Equal, Greater}
+use Rattle.std.specs.Prelude.{Ok, Err}
+use Rattle.entry.specs.Names.{compare_to, same_name, is_name, name_spelt}
 use Rattle.entry.specs.Bytes.{entry_row, pair_bytes}
 use Rattle.points.specs.Points.{Entry, entry_rows, packed}
 use Rattle.points.specs.Stores.{lookup, by_order, set_in, drop_in, find_in}
 use Rattle.entry.proofs.Numbers.{pair-long}
 use Rattle.entry.proofs.Orders.{more-trans, before-less, same-eq}
 use Rattle.points.proofs.Tested.{Rising}
+use Rattle.points.proofs.Moves.{sets-mid}
 
 -- No name behind a greater one is the name.
-pub past : (a n : List ℕ) (es : List Entry) → compare_to a n ≡ More → Rising a es → lookup es n ≡ none
-unfolding lookup same_name is_same Rising pick
+pub past : (a n : List ℕ) (es : List Entry) → compare_to a n ≡ Greater → Rising a es → lookup es n ≡ none
+unfolding lookup same_name Rising pick
 past a n [] e r = refl
 past a n (x ∷ es) e r = let m = more-trans a x.name n e (before-less a x.name r.0) in rw m (past x.name n es m r.1)
 
 -- ---- where a name is
-unfoldable is_here : Place → Bool
-is_here (Here i) = true
-is_here (Gap i) = false
-
-unfoldable in_place : Place → ℕ
-in_place (Here i) = i
-in_place (Gap i) = i
-
-gap_here : (j i : ℕ) → Gap j ≡ Here i → ⊥
-unfolding is_here
-gap_here j i e = clash (ap is_here e)
-
-here-eq : (j i : ℕ) → Here j ≡ Here i → j ≡ i
-unfolding in_place
-here-eq j i e = ap in_place e
-
-gap-eq : (j i : ℕ) → Gap j ≡ Gap i → j ≡ i
-unfolding in_place
-gap-eq j i e = ap in_place e
-
 abbrev entry : List ℕ → Pair → Entry
 entry n p = record { name = n; pair = p }
 
@@ -66,9 +46,9 @@ pub record SplitHere (es : List Entry) (j i : ℕ) (n : List ℕ) : Type 0 where
   pub put : (p : Pair) → set_in es n p ≡ front ++ (record { name = n; pair = p } ∷ back)
   pub gone : drop_in es n ≡ front ++ back
 
-pub split-here : (es : List Entry) (j i : ℕ) (n : List ℕ) → find_in es j n ≡ Here i → SplitHere es j i n
-unfolding find_in lookup same_name is_same set_in drop_in by_order pick
-split-here [] j i n e = absurd (gap_here j i e)
+pub split-here : (es : List Entry) (j i : ℕ) (n : List ℕ) → find_in es j n ≡ Ok i → SplitHere es j i n
+unfolding find_in lookup same_name set_in drop_in by_order pick
+split-here [] j i n e = absurd (cc)
 split-here (x ∷ es) j i n e = go (split-here es (suc j) i n) (compare_to x.name n) refl e
   where
     on : compare_to x.name n ≡ Less → SplitHere es (suc j) i n → SplitHere (x ∷ es) j i n
@@ -84,7 +64,7 @@ split-here (x ∷ es) j i n e = go (split-here es (suc j) i n) (compare_to x.nam
       gone = rw d (ap (λ (l : List Entry). x ∷ l) s.gone);
     }
 
-    at : compare_to x.name n ≡ Same → j ≡ i → SplitHere (x ∷ es) j i n
+    at : compare_to x.name n ≡ Equal → j ≡ i → SplitHere (x ∷ es) j i n
     at d f = record {
       front = [];
       here = x;
@@ -97,10 +77,10 @@ split-here (x ∷ es) j i n e = go (split-here es (suc j) i n) (compare_to x.nam
       gone = rw d;
     }
 
-    go : (find_in es (suc j) n ≡ Here i → SplitHere es (suc j) i n) → (o : Order) → compare_to x.name n ≡ o → by_order o (find_in es (suc j) n) (Here j) (Gap j) ≡ Here i → SplitHere (x ∷ es) j i n
+    go : (find_in es (suc j) n ≡ Ok i → SplitHere es (suc j) i n) → (o : Ordering) → compare_to x.name n ≡ o → by_order o (find_in es (suc j) n) (Ok j) (Err j) ≡ Ok i → SplitHere (x ∷ es) j i n
     go ih Less d f = on d (ih f)
-    go ih Same d f = at d (here-eq j i f)
-    go ih More d f = absurd (gap_here j i f)
+    go ih Equal d f = at d (cc)
+    go ih Greater d f = absurd (cc)
 
 pub record SplitGap (es : List Entry) (j i : ℕ) (n : List ℕ) : Type 0 where
   pub front : List Entry
@@ -110,12 +90,9 @@ pub record SplitGap (es : List Entry) (j i : ℕ) (n : List ℕ) : Type 0 where
   pub found : lookup es n ≡ none
   pub put : (p : Pair) → set_in es n p ≡ front ++ (record { name = n; pair = p } ∷ back)
 
-here-gap : (j i : ℕ) → Here j ≡ Gap i → ⊥
-here-gap j i e = gap_here i j (sym e)
-
-pub split-gap : (es : List Entry) (j i : ℕ) (n a : List ℕ) → Rising a es → find_in es j n ≡ Gap i → SplitGap es j i n
-unfolding find_in lookup same_name is_same set_in by_order pick Rising
-split-gap [] j i n a r e = record { front = []; back = []; whole = refl; place = let d = gap-eq j i e in omega arith; found = refl; put = λ p. refl }
+pub split-gap : (es : List Entry) (j i : ℕ) (n a : List ℕ) → Rising a es → find_in es j n ≡ Err i → SplitGap es j i n
+unfolding find_in lookup same_name set_in by_order pick Rising
+split-gap [] j i n a r e = record { front = []; back = []; whole = refl; place = let d : j ≡ i = cc in omega arith; found = refl; put = λ p. refl }
 split-gap (x ∷ es) j i n a r e = go (λ s f. split-gap es (suc j) i n x.name s f) (compare_to x.name n) refl (rest r) e
   where
     rest : Rising a (x ∷ es) → Rising x.name es
@@ -131,7 +108,7 @@ split-gap (x ∷ es) j i n a r e = go (λ s f. split-gap es (suc j) i n x.name s
       put = λ p. rw d (ap (λ (l : List Entry). x ∷ l) (s.put p));
     }
 
-    at : compare_to x.name n ≡ More → Rising x.name es → j ≡ i → SplitGap (x ∷ es) j i n
+    at : compare_to x.name n ≡ Greater → Rising x.name es → j ≡ i → SplitGap (x ∷ es) j i n
     at d s f = record {
       front = [];
       back = x ∷ es;
@@ -141,10 +118,10 @@ split-gap (x ∷ es) j i n a r e = go (λ s f. split-gap es (suc j) i n x.name s
       put = λ p. rw d;
     }
 
-    go : (Rising x.name es → find_in es (suc j) n ≡ Gap i → SplitGap es (suc j) i n) → (o : Order) → compare_to x.name n ≡ o → Rising x.name es → by_order o (find_in es (suc j) n) (Here j) (Gap j) ≡ Gap i → SplitGap (x ∷ es) j i n
+    go : (Rising x.name es → find_in es (suc j) n ≡ Err i → SplitGap es (suc j) i n) → (o : Ordering) → compare_to x.name n ≡ o → Rising x.name es → by_order o (find_in es (suc j) n) (Ok j) (Err j) ≡ Err i → SplitGap (x ∷ es) j i n
     go ih Less d s f = on d (ih s f)
-    go ih Same d s f = absurd (here-gap j i f)
-    go ih More d s f = at d s (gap-eq j i f)
+    go ih Equal d s f = absurd (cc)
+    go ih Greater d s f = at d s (cc)
 
 -- ---- bytes
 pub rows_append : (xs ys : List Entry) → entry_rows (xs ++ ys) ≡ entry_rows xs ++ entry_rows ys
@@ -187,14 +164,6 @@ packed-mid xs e ys m h = rw (← h, rows_append xs (e ∷ ys), append_assoc (ent
 packed-two : (xs ys : List Entry) (m : ℕ) → m ≡ 1024 - length (xs ++ ys) * 32 → packed (xs ++ ys) ≡ entry_rows xs ++ (entry_rows ys ++ replicate m 0)
 unfolding packed entry_rows
 packed-two xs ys m h = rw (← h, rows_append xs ys, append_assoc (entry_rows xs) (entry_rows ys) (replicate m 0))
-
-sets-mid : (p q r v : List ℕ) (at : ℕ) → length p ≡ at → length v ≡ length q → sets (p ++ (q ++ r)) at v ≡ p ++ (v ++ r)
-sets-mid p q r v at h g =
-    let a = length-append p (q ++ r) in
-    let b = length-append q r in
-    let l : length (p ++ q) ≡ at + length v = omega (arith, length-append p q) in
-    let d : drop (at + length v) (p ++ (q ++ r)) ≡ r = ap (drop (at + length v)) (sym (append_assoc p q r)) ∙ drop_at (p ++ q) r (at + length v) l in
-    sets-eq v (p ++ (q ++ r)) at (omega arith) ∙ (ap (λ (x : List ℕ). (x ++ v) ++ drop (at + length v) (p ++ (q ++ r))) (take_at p (q ++ r) at h) ∙ (ap (λ (x : List ℕ). (p ++ v) ++ x) d ∙ append_assoc p v r))
 
 pub set_here : (bs : List ℕ) (xs : List Entry) (e : Entry) (ys : List Entry) (n : List ℕ) (p : Pair) (at : ℕ) → Named (xs ++ (e ∷ ys)) → e.name ≡ n → bs ≡ packed (xs ++ (e ∷ ys)) → at ≡ length xs * 32 + 8
     → sets bs at (pair_bytes p) ≡ packed (xs ++ (record { name = n; pair = p } ∷ ys))

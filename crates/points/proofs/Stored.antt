@@ -11,8 +11,7 @@ use borrow.Author.Tests.{eq-eqb, eqb-true}
 use Rattle.logic.specs.Lists.{Every}
 use Rattle.logic.specs.Tests.{both, pick}
 use Rattle.logic.proofs.Decide.{clash}
-use Rattle.points.specs.declared.Occupied.{Occupied}
-use Rattle.points.specs.declared.Occupied.TheVariants.{Entries, NoStore}
+use Rattle.std.specs.Prelude.{Some, None}
 use Rattle.entry.specs.Names.{name_spelt, is_name, before}
 use Rattle.entry.specs.Bytes.{AreBytes, entry_row, pair_bytes, pair_of, zeros}
 use Rattle.entry.proofs.Numbers.{bytes_drop, word_back}
@@ -53,22 +52,6 @@ zeros-are (b ∷ bs) e = go (zeros-are bs) (eqb b 0) refl e
     go ih true d f = rw (eqb-true b 0 d) (ap (λ (l : List ℕ). 0 ∷ l) (ih f))
     go ih false d f = absurd (clash f)
 
-unfoldable pub inner_of : Occupied → ℕ
-inner_of (Entries k) = k
-inner_of NoStore = 0
-
-unfoldable is_store : Occupied → Bool
-is_store (Entries k) = true
-is_store NoStore = false
-
-entries_eq : (j k : ℕ) → Entries j ≡ Entries k → j ≡ k
-unfolding inner_of
-entries_eq j k e = ap inner_of e
-
-no-entries : (j : ℕ) → NoStore ≡ Entries j → ⊥
-unfolding is_store
-no-entries j e = clash (ap is_store e)
-
 pub record Read (m k : ℕ) (a bs : List ℕ) (j : ℕ) : Type 0 where
   pub more : ℕ
   pub count : j ≡ k + more
@@ -97,20 +80,20 @@ read_more m k a bs j l s r d =
       rest = rw (e, f, ← drop-drop (d.more * 32) 32 bs) d.rest;
     }
 
-pub counted : (m k : ℕ) (a bs : List ℕ) (j : ℕ) → length bs ≡ m * 32 → count_from m k a bs ≡ Entries j → Read m k a bs j
+pub counted : (m k : ℕ) (a bs : List ℕ) (j : ℕ) → length bs ≡ m * 32 → count_from m k a bs ≡ Some j → Read m k a bs j
 unfolding count_from pick
-counted zero k a bs j l e = rw (← entries_eq k j e) (read_none 0 k a bs l (nil bs l))
+counted zero k a bs j l e = let q : k ≡ j = cc in rw (← q) (read_none 0 k a bs l (nil bs l))
   where
     nil : (xs : List ℕ) → length xs ≡ zero * 32 → xs ≡ replicate (length xs) 0
     nil [] h = refl
     nil (x ∷ xs) h = absurd (omega arith)
 counted (suc m) k a bs j l e = go (λ f. counted m (suc k) (take 8 bs) (drop 32 bs) j (let d = length-drop 32 bs in omega arith) f) (name_spelt (take 8 bs)) (before a (take 8 bs)) (zeros bs) refl refl refl e
   where
-    go : (count_from m (suc k) (take 8 bs) (drop 32 bs) ≡ Entries j → Read m (suc k) (take 8 bs) (drop 32 bs) j) → (s b z : Bool) → name_spelt (take 8 bs) ≡ s → before a (take 8 bs) ≡ b → zeros bs ≡ z → pick s (pick b (count_from m (suc k) (take 8 bs) (drop 32 bs)) NoStore) (pick z (Entries k) NoStore) ≡ Entries j → Read (suc m) k a bs j
+    go : (count_from m (suc k) (take 8 bs) (drop 32 bs) ≡ Some j → Read m (suc k) (take 8 bs) (drop 32 bs) j) → (s b z : Bool) → name_spelt (take 8 bs) ≡ s → before a (take 8 bs) ≡ b → zeros bs ≡ z → pick s (pick b (count_from m (suc k) (take 8 bs) (drop 32 bs)) None) (pick z (Some k) None) ≡ Some j → Read (suc m) k a bs j
     go ih true true z es eb ez f = read_more m k a bs j l es eb (ih f)
-    go ih true false z es eb ez f = absurd (no-entries j f)
-    go ih false b true es eb ez f = rw (← entries_eq k j f) (read_none (suc m) k a bs l (zeros-are bs ez))
-    go ih false b false es eb ez f = absurd (no-entries j f)
+    go ih true false z es eb ez f = absurd (cc)
+    go ih false b true es eb ez f = let q : k ≡ j = cc in rw (← q) (read_none (suc m) k a bs l (zeros-are bs ez))
+    go ih false b false es eb ez f = absurd (cc)
 
 pub record Stored (bs : List ℕ) (k : ℕ) : Type 0 where
   pub long : length bs ≡ 1024
@@ -119,17 +102,17 @@ pub record Stored (bs : List ℕ) (k : ℕ) : Type 0 where
   pub rising : Rising [] (entries_of k bs)
   pub rest : drop (k * 32) bs ≡ replicate (1024 - k * 32) 0
 
-pub stored : (bs : List ℕ) (k : ℕ) → entry_count bs ≡ Entries k → Stored bs k
+pub stored : (bs : List ℕ) (k : ℕ) → entry_count bs ≡ Some k → Stored bs k
 unfolding entry_count pick
 stored bs k e = go (eqb (length bs) 1024) refl e
   where
-    go : (t : Bool) → eqb (length bs) 1024 ≡ t → pick t (count_from 32 0 [] bs) NoStore ≡ Entries k → Stored bs k
+    go : (t : Bool) → eqb (length bs) 1024 ≡ t → pick t (count_from 32 0 [] bs) None ≡ Some k → Stored bs k
     go true d f =
         let r = counted 32 0 [] bs k (eqb-true (length bs) 1024 d) f in
         let i : r.more ≡ k = omega (arith, r.count) in
         let q : (32 - k) * 32 ≡ 1024 - k * 32 = omega (arith, r.few, r.count) in
         record { long = eqb-true (length bs) 1024 d; few = omega (arith, r.few, r.count); named = rw i at r.named; rising = rw i at r.rising; rest = rw q at (rw i at r.rest) }
-    go false d f = absurd (no-entries k f)
+    go false d f = absurd (cc)
 
 pub stored-packed : (bs : List ℕ) (k : ℕ) → Stored bs k → AreBytes bs → bs ≡ packed (entries_of k bs)
 unfolding packed

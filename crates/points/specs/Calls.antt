@@ -7,10 +7,8 @@ use Rattle.sets.specs.declared.Pair.{Pair}
 use Rattle.answers.specs.Operations.{Told}
 use Rattle.answers.specs.Operations.Told.{told, turned}
 use Rattle.entry.specs.Names.{is_name, same_name}
-use Rattle.points.specs.declared.Kept.{Kept}
-use Rattle.points.specs.declared.Kept.TheVariants.{Done, Refused}
-use Rattle.points.specs.declared.Went.{Went}
-use Rattle.points.specs.declared.Went.TheVariants.{Point, Refused as NotGone}
+use Rattle.std.specs.Prelude.{Result, Ok, Err}
+use Rattle.text.specs.declared.Refusal.{Refusal}
 use Rattle.points.specs.Points.{Entry, Fits, leaves}
 use Rattle.points.specs.Stores.{store_of, if_there, go_told, set_told, drop_told}
 
@@ -40,13 +38,13 @@ left_by bs (go_to n) = bs
 left_by bs (drop_point n) = leaves bs (drop_told (store_of bs) n)
 
 -- The answers as Set, Drop and Go give them.
-unfoldable pub kept_answer : Kept → PointAnswer
-kept_answer Done = told none
-kept_answer (Refused q) = turned q.number q.line
+unfoldable pub kept_answer : Result (Unit {0}) Refusal → PointAnswer
+kept_answer (Ok x) = told none
+kept_answer (Err q) = turned q.number q.line
 
-unfoldable pub went_answer : Went → PointAnswer
-went_answer (Point p) = told (some p)
-went_answer (NotGone q) = turned q.number q.line
+unfoldable pub went_answer : Result Pair Refusal → PointAnswer
+went_answer (Ok p) = told (some p)
+went_answer (Err q) = turned q.number q.line
 
 -- What calls answer and leave that are made one after the other.
 unfoldable pub point_answers : List ℕ → List PointCall → List PointAnswer

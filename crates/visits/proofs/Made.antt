@@ -18,16 +18,15 @@ use Rattle.sets.specs.declared.Pair.{Pair}
 use Rattle.text.specs.declared.Refusal.{Refusal}
 use Rattle.text.proofs.Lent.{over-sets}
 use Rattle.meaning.specs.Listings.{Answer}
-use Rattle.answers.specs.Operations.{Told}
+use Rattle.answers.specs.Operations.{Told, answer_of}
 use Rattle.answers.specs.Operations.Told.{told, turned}
 use Rattle.calls.specs.Calls.{row, rows}
 use Rattle.calls.proofs.Calls.{rows-length, rows_append}
+use Rattle.std.specs.List.{between}
+use Rattle.entry.proofs.Leaves.{rest_is}
 use Rattle.entry.specs.Bytes.{AreBytes, pair_of}
 use Rattle.entry.proofs.Numbers.{bytes_drop}
-use Rattle.points.specs.declared.Kept.{Kept}
-use Rattle.points.specs.declared.Kept.TheVariants.{Done, Refused}
-use Rattle.points.specs.declared.Went.{Went}
-use Rattle.points.specs.declared.Went.TheVariants.{Point, Refused as NotGone}
+use Rattle.std.specs.Prelude.{Result, Ok, Err, ⊤, Option as Maybe, Some, None}
 use Rattle.points.specs.Points.{Entry, Fits}
 use Rattle.points.specs.Stores.{store_of, go_told, set_told, drop_told, went_is, kept_is, Met}
 use Rattle.points.proofs.Packed.{pair_fits}
@@ -36,22 +35,16 @@ use Rattle.visits.specs.Visits.{point_call_of, point_call_at, point_calls_from, 
 use Rattle.points.proofs.Memory.{all-remembered}
 
 -- ---- answers put down
-module _ (l l' : List ℕ) (i : ℕ) where
-  pub done-put : (a : Kept) → a ≡ Done → l' ≡ sets l i (0 ∷ 0 ∷ 0 ∷ 0 ∷ []) → l' ≡ sets l i (row (as_answer (kept_answer a)))
-  unfolding row as_answer kept_answer
-  done-put a d e = rw d e
+-- What Set and Drop answer, and Go, as First and After answer.
+pub kept-as : (a : Result ⊤ Refusal) (r : Result (Maybe Pair) Refusal) → ((x : ⊤) → a ≡ Ok x → r ≡ Ok None) → ((q : Refusal) → a ≡ Err q → r ≡ Err q) → answer_of r ≡ as_answer (kept_answer a)
+unfolding answer_of as_answer kept_answer
+kept-as (Ok x) r f g = rw (f x refl)
+kept-as (Err q) r f g = rw (g q refl)
 
-  pub undone-put : (a : Kept) (q : Refusal) → a ≡ Refused q → l' ≡ sets l i (2 ∷ q.number ∷ q.line ∷ 0 ∷ []) → l' ≡ sets l i (row (as_answer (kept_answer a)))
-  unfolding row as_answer kept_answer
-  undone-put a q d e = rw d e
-
-  pub pair_put : (a : Went) (p : Pair) → a ≡ Point p → l' ≡ sets l i (1 ∷ p.taken ∷ p.held ∷ p.denied ∷ []) → l' ≡ sets l i (row (as_answer (went_answer a)))
-  unfolding row as_answer went_answer
-  pair_put a p d e = rw d e
-
-  pub not-put : (a : Went) (q : Refusal) → a ≡ NotGone q → l' ≡ sets l i (2 ∷ q.number ∷ q.line ∷ 0 ∷ []) → l' ≡ sets l i (row (as_answer (went_answer a)))
-  unfolding row as_answer went_answer
-  not-put a q d e = rw d e
+pub went-as : (a : Result Pair Refusal) (r : Result (Maybe Pair) Refusal) → ((p : Pair) → a ≡ Ok p → r ≡ Ok (Some p)) → ((q : Refusal) → a ≡ Err q → r ≡ Err q) → answer_of r ≡ as_answer (went_answer a)
+unfolding answer_of as_answer went_answer
+went-as (Ok p) r f g = rw (f p refl)
+went-as (Err q) r f g = rw (g q refl)
 
 kept-given : (t : Told (List Entry)) → kept_answer (kept_is t) ≡ given (λ (es : List Entry). none) t
 unfolding kept_answer kept_is given
@@ -75,15 +68,19 @@ module _ (ns : List ℕ) (k : ℕ) (bs bs' ans ans' : List ℕ) where
   unfolding point_calls_from left_by_all point_answers as_answers rows
   one l a e f = record { store = sym l; answers = rw (← e, append-nil (row (as_answer a))) f }
 
-  module _ (b : ℕ) (eb : b ≡ get_or ns (k * 33) 0) (n : List ℕ) (en : n ≡ take 8 (drop (k * 33 + 1) ns)) where
-    pub set-called : b ≡ 0 → (p : Pair) → p ≡ pair_of (drop (k * 33 + 9) ns) → (r : Kept) → Met bs (set_told (store_of bs) n p) r bs' → ans' ≡ sets ans (k * 4) (row (as_answer (kept_answer r))) → Visited ns k 1 bs bs' ans ans'
+  module _ (b : ℕ) (eb : b ≡ get_or ns (k * 33) 0) (n : List ℕ) (fn : n ≡ take 8 (between (k * 33 + 1) (length ns) ns)) where
+    en : n ≡ take 8 (drop (k * 33 + 1) ns)
+    en = rw (rest_is ns (k * 33 + 1)) at fn
+
+    pub set-called : b ≡ 0 → (p : Pair) → p ≡ pair_of (between (k * 33 + 9) (length ns) ns) → (r : Result ⊤ Refusal) → Met bs (set_told (store_of bs) n p) r bs' → ans' ≡ sets ans (k * 4) (row (as_answer (kept_answer r))) → Visited ns k 1 bs bs' ans ans'
     unfolding point_call_at point_call_of left_by point_answer
-    set-called z p ep r m f =
+    set-called z p fp r m f =
+        let ep : p ≡ pair_of (drop (k * 33 + 9) ns) = rw (rest_is ns (k * 33 + 9)) at fp in
         let w : get_or ns (k * 33) 0 ≡ 0 = sym eb ∙ z in
         let t = set_told (store_of bs) n p in
         one (rw (w, ← en, ← ep) (sym m.store)) (kept_answer r) (rw (w, ← en, ← ep) (ap kept_answer m.answer ∙ kept-given t)) f
 
-    pub go-called : b ≡ 1 → (r : Went) → r ≡ went_is (go_told (store_of bs) n) → bs' ≡ bs → ans' ≡ sets ans (k * 4) (row (as_answer (went_answer r))) → Visited ns k 1 bs bs' ans ans'
+    pub go-called : b ≡ 1 → (r : Result Pair Refusal) → r ≡ went_is (go_told (store_of bs) n) → bs' ≡ bs → ans' ≡ sets ans (k * 4) (row (as_answer (went_answer r))) → Visited ns k 1 bs bs' ans ans'
     unfolding point_call_at point_call_of left_by point_answer
     go-called z r m g f =
         let w : get_or ns (k * 33) 0 ≡ 1 = sym eb ∙ z in
@@ -93,7 +90,7 @@ module _ (ns : List ℕ) (k : ℕ) (bs bs' ans ans' : List ℕ) where
     unfolding point_call_at
     is-drop y z = rw (← eb, ← en) (drop-kind b n (pair_of (drop (k * 33 + 9) ns)) y z)
 
-    pub drop-called : (b ≡ 0 → ⊥) → (b ≡ 1 → ⊥) → (r : Kept) → Met bs (drop_told (store_of bs) n) r bs' → ans' ≡ sets ans (k * 4) (row (as_answer (kept_answer r))) → Visited ns k 1 bs bs' ans ans'
+    pub drop-called : (b ≡ 0 → ⊥) → (b ≡ 1 → ⊥) → (r : Result ⊤ Refusal) → Met bs (drop_told (store_of bs) n) r bs' → ans' ≡ sets ans (k * 4) (row (as_answer (kept_answer r))) → Visited ns k 1 bs bs' ans ans'
     unfolding left_by point_answer
     drop-called y z r m f =
         let e = is-drop y z in
@@ -146,8 +143,8 @@ module _ (ns bs ans : List ℕ) where
       }
 
   -- As many calls as were to be made.
-  pub made-many : (bs' ans' : List ℕ) (k m n : ℕ) → k ≤ m → m ≤ k → m ≡ n → Visited ns 0 k bs bs' ans ans' → Visited ns 0 n bs bs' ans ans'
-  made-many bs' ans' k m n h g e f = let d : k ≡ n = omega arith in rw d at f
+  pub made-many : (bs' ans' : List ℕ) (k n : ℕ) → k ≡ n → Visited ns 0 k bs bs' ans ans' → Visited ns 0 n bs bs' ans ans'
+  made-many bs' ans' k n e f = rw e at f
 
 -- ---- the calls of a slice of bytes have pairs of 64-bit numbers
 call-sized : (b : ℕ) (n : List ℕ) (p : Pair) → Fits p → Sized (point_call_of b n p)
@@ -189,7 +186,7 @@ module _ (n a : ℕ) where
   unfolding keep_refusal pick
   answers-short e h = rw (eq-eqb (n % 33) 0 e, lt-ltb a (n / 33 * 4) h) refl
 
-  pub not_short : n % 33 ≡ 0 → n / 33 * 4 ≤ a → 0 ≡ keep_refusal n a
+  pub not_short : n % 33 ≡ 0 → n / 33 * 4 ≤ a → keep_refusal n a ≡ 0
   unfolding keep_refusal pick
   not_short e h = rw (eq-eqb (n % 33) 0 e, le-ltb a (n / 33 * 4) h) refl
 

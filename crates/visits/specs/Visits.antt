@@ -1,6 +1,6 @@
 -- A list of calls of Set, Go and Drop as bytes, and what `keep` leaves that makes them one after the other: the promise of request (h), whose words are
 -- in points/specs/Calls.
-use Rattle.std.specs.Prelude.{ℕ, zero, suc, ◌+◌, ◌*◌, ◌/◌, ◌%◌, ◌≡◌, List, [], ◌∷◌, eqb, ltb, length, get_or, take, drop}
+use Rattle.std.specs.Prelude.{ℕ, zero, suc, ◌+◌, ◌*◌, ◌/◌, ◌%◌, ◌≡◌, List, [], ◌∷◌, eqb, ltb, length, get_or, take, drop, Result, Ok, Err, ⊤}
 use Rattle.std.proofs.Math.Option.{some, none}
 use Rattle.std.proofs.lemmas.List.Edits.{sets}
 use Rattle.logic.specs.Tests.{pick}
@@ -10,8 +10,7 @@ use Rattle.meaning.specs.Listings.{Answer, found, end, refused}
 use Rattle.answers.specs.Operations.Told.{told, turned}
 use Rattle.calls.specs.Calls.{rows}
 use Rattle.entry.specs.Bytes.{pair_of}
-use Rattle.points.specs.declared.Kept.{Kept}
-use Rattle.points.specs.declared.Kept.TheVariants.{Done, Refused}
+use Rattle.text.specs.declared.Refusal.{Refusal}
 use Rattle.points.specs.Calls.{PointCall, set_point, go_to, drop_point, PointAnswer, point_answers, left_by_all, Note, remembered_all, notes_after, LeftBy}
 
 -- ---- a list of calls as bytes, 33 each: the kind (0 Set, 1 Go, any other Drop), then the name and the pair as in an entry
@@ -60,6 +59,6 @@ unfoldable pub keep_refusal : ℕ → ℕ → ℕ
 keep_refusal n a = pick (eqb (n % 33) 0) (pick (ltb a (n / 33 * 4)) 15 0) 16
 
 -- A refused list has made no call and leaves both slices as they were; any other has made them all.
-abbrev pub Keeping : (ns bs bs' ans ans' : List ℕ) → Kept → Type 0
-Keeping ns bs bs' ans ans' (Refused q) = (q.number ≡ keep_refusal (length ns) (length ans)) × (q.number ≡ 0 → ⊥) × (q.line ≡ 0) × (bs' ≡ bs) × (ans' ≡ ans)
-Keeping ns bs bs' ans ans' Done = (keep_refusal (length ns) (length ans) ≡ 0) × KeptAll (point_calls ns) bs bs' ans ans'
+abbrev pub Keeping : (ns bs bs' ans ans' : List ℕ) → Result ⊤ Refusal → Type 0
+Keeping ns bs bs' ans ans' (Err q) = (q.number ≡ keep_refusal (length ns) (length ans)) × (q.number ≡ 0 → ⊥) × (q.line ≡ 0) × (bs' ≡ bs) × (ans' ≡ ans)
+Keeping ns bs bs' ans ans' (Ok x) = (keep_refusal (length ns) (length ans) ≡ 0) × KeptAll (point_calls ns) bs bs' ans ans'

@@ -1,20 +1,11 @@
-use Rattle.entry.proofs.Leaves.{zeros-start, zeros-none, zeros-next, zeros-end}
-use borrow.Author.Rules.{rules}
-use native.Mathlib.Omega.{arith}
-use Prim.Native.Nat.{◌-◌}
+use mathlib.Core.Path.{◌∙◌}
+use Rattle.std.proofs.Common.{rules, tests}
+use Rattle.std.proofs.lemmas.Iterator.{YieldsList-from_slice}
+use Rattle.std.proofs.lemmas.Iterator.Search.{all_from_yields_List}
+use Prim.Native.Nat.{ℕ}
+use lib.Dec.{eqb}
+use Rattle.entry.proofs.Leaves.{zeros_all}
 use Rattle.entry.proofs.is_zero.Goals as goal
 
-pub loop-i-init : goal.loop-i-init
-loop-i-init c = zeros-start _ _
-
-pub returns-then-s-i-ne0 : goal.returns-then-s-i-ne0
-returns-then-s-i-ne0 c = zeros-none c.args.s.now c.args.at c.loop-i.i (search rules) (search rules) (search rules)
-
-pub loop-i-smaller : goal.loop-i-smaller
-loop-i-smaller c = omega arith
-
-pub loop-i-preserved : goal.loop-i-preserved
-loop-i-preserved c = zeros-next _ _ _ (search rules) (search rules) (search rules)
-
 pub returns : goal.returns
-returns c = zeros-end c.args.s.now c.args.at c.loop-i.i (search rules) (search rules)
+returns c = all_from_yields_List (λ (b : ℕ). eqb b 0) _ _ _ c.all.ensures.ran (YieldsList-from_slice c.args.s.now cc) (λ x b q k. search (rules, tests)) ∙ zeros_all _

@@ -1,8 +1,7 @@
-use mathlib.Core.Path.{◌≡◌, sym, ◌∙◌}
-use Prim.Native.Nat.{◌-◌}
+use mathlib.Core.Path.{sym, ◌∙◌}
 use native.Mathlib.Omega.{arith}
 use Rattle.sets.proofs.Sizes.{size-narrow}
-use Rattle.order.proofs.Turns.{none_below, size-inside, more-fits, size-added, size-reached, place-reached, placed-fits}
+use Rattle.order.proofs.Turns.{none_below, size-inside, more-fits, size-added, place-reached, placed-fits}
 use Rattle.order.proofs.place_of.Goals as goal
 
 pub loop-n-init : goal.loop-n-init
@@ -14,17 +13,8 @@ overflow_add-before c = record { fits = more-fits c.loop-n.invariant.0 (omega (a
 pub of_next_size-count-requires : goal.of_next_size-count-requires
 of_next_size-count-requires c = let b = c.loop-n.invariant.0 in (b.small, size-inside b, b.counted)
 
-pub overflow_add-n : goal.overflow_add-n
-overflow_add-n c = let b = c.loop-n.invariant.0 in record { fits = omega (arith, size-inside b, b.small) }
-
-pub loop-n-smaller : goal.loop-n-smaller
-loop-n-smaller c = omega arith
-
 pub loop-n-preserved : goal.loop-n-preserved
 loop-n-preserved c = (size-added c.loop-n.invariant.0 (omega (arith, c.loop-n.invariant.1)) c.of_next_size-count.ensures, c.loop-n.invariant.1)
-
-pub place_in_size-requires : goal.place_in_size-requires
-place_in_size-requires c = let b = c.loop-n.invariant.0 in (b.small, size-reached b (omega (arith, c.loop-n.invariant.1)), b.counted)
 
 pub overflow_add-result : goal.overflow_add-result
 overflow_add-result c = record { fits = placed-fits c.loop-n.invariant.0 (omega (arith, c.loop-n.invariant.1)) c.place_in_size.ensures }

@@ -1,11 +1,7 @@
-use mathlib.Core.Path.{◌≡◌, ◌∙◌}
-use Prim.Native.Nat.{◌-◌}
+use mathlib.Core.Path.{◌≡◌}
 use Rattle.sets.specs.Sets.{size_to}
 use Rattle.order.proofs.Turns.{Summing}
 use Rattle.order.proofs.place_of.Given as goal
 
 abbrev pub invariant-loop-n : goal.invariant-loop-n
 invariant-loop-n l = Summing l.x l.t l.n l.count l.before × (l.size ≡ size_to l.x l.t)
-
-abbrev pub decreases-loop-n : goal.decreases-loop-n
-decreases-loop-n l = l.size - l.n

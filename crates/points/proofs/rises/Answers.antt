@@ -1,20 +1,11 @@
-use Rattle.entry.specs.declared.Order.TheVariants.{Less, Same, More}
-use Rattle.entry.specs.Names.{is_less}
-use Rattle.points.proofs.Scans.{rises-first, rises-at}
+use mathlib.Core.Path.{◌∙◌}
 use borrow.Author.Rules.{rules}
+use borrow.Author.Tests.{eq-eqb}
+use Rattle.points.proofs.Scans.{rises-first, rises-at}
 use Rattle.points.proofs.rises.Goals as goal
 
 pub returns-then-k-eq0 : goal.returns-then-k-eq0
-returns-then-k-eq0 c = rises-first _ _ (search rules) (search rules)
+returns-then-k-eq0 c = eq-eqb _ _ (search rules) ∙ rises-first _ _ (search rules) c.requires
 
-pub returns-in-Less : goal.returns-in-Less
-unfolding is_less
-returns-in-Less c = rises-at _ _ c.compare-o.result Less (search rules) (search rules) (search rules)
-
-pub returns-in-Same : goal.returns-in-Same
-unfolding is_less
-returns-in-Same c = rises-at _ _ c.compare-o.result Same (search rules) (search rules) (search rules)
-
-pub returns-in-More : goal.returns-in-More
-unfolding is_less
-returns-in-More c = rises-at _ _ c.compare-o.result More (search rules) (search rules) (search rules)
+pub returns-else-k-eq0 : goal.returns-else-k-eq0
+returns-else-k-eq0 c = c.is_lt.ensures ∙ rises-at _ _ c.compare.result (search rules) c.compare.ensures

@@ -1,26 +1,21 @@
 use mathlib.Core.Path.{refl}
-use Rattle.visits.proofs.Made.{set-called, go-called, drop-called}
-use borrow.Author.Rules.{rules}
+use Rattle.std.proofs.Common.{rules}
+use Rattle.visits.proofs.Made.{kept-as, went-as, set-called, go-called, drop-called}
+use Rattle.visits.proofs.visit.Goals.{in-0, in-1, in_default}
 use Rattle.visits.proofs.visit.Goals as goal
 
-pub returns-then-kind-eq0 : goal.returns-then-kind-eq0
-returns-then-kind-eq0 c =
-    let s = c.args in
-    let n = c.name_at-name in
-    let p = c.pair_at-p in
-    let d = c.set_point-done in
-    set-called s.calls.now s.k _ _ _ _ _ refl n.result.bytes n.ensures (search rules) p.result p.ensures d.result d.ensures.met c.put_kept.ensures
-
-pub returns-then-kind-eq1 : goal.returns-then-kind-eq1
-returns-then-kind-eq1 c =
-    let s = c.args in
-    let n = c.name_at-name in
-    let g = c.go_to-went in
-    go-called s.calls.now s.k _ _ _ _ _ refl n.result.bytes n.ensures (search rules) g.result g.ensures.value refl c.put_went.ensures
-
 pub returns : goal.returns
-returns c =
-    let s = c.args in
-    let n = c.name_at-name in
-    let d = c.drop_point-done in
-    drop-called s.calls.now s.k _ _ _ _ _ refl n.result.bytes n.ensures (search rules) (search rules) d.result d.ensures.met c.put_kept-2.ensures
+returns c = elim c.match-kind.branch [
+  | in-0 w ↦
+      let s = c.args in
+      let e = kept-as w.set_point.result c.match-kind.answer (λ x h. rw w.answer-is (search rules)) (λ q h. rw w.answer-is (search rules)) in
+      rw w.store-is (set-called s.calls.now s.k _ _ _ _ _ refl _ c.name_at-name.ensures (search rules) _ w.pair_at.ensures _ w.set_point.ensures.met (rw e at c.put_answer.ensures))
+  | in-1 w ↦
+      let s = c.args in
+      let e = went-as w.go_to.result c.match-kind.answer (λ x h. rw w.answer-is (search rules)) (λ q h. rw w.answer-is (search rules)) in
+      rw w.store-is (go-called s.calls.now s.k _ _ _ _ _ refl _ c.name_at-name.ensures (search rules) _ w.go_to.ensures.value refl (rw e at c.put_answer.ensures))
+  | in_default w ↦
+      let s = c.args in
+      let e = kept-as w.drop_point.result c.match-kind.answer (λ x h. rw w.answer-is (search rules)) (λ q h. rw w.answer-is (search rules)) in
+      rw w.store-is (drop-called s.calls.now s.k _ _ _ _ _ refl _ c.name_at-name.ensures (search rules) (search rules) _ w.drop_point.ensures.met (rw e at c.put_answer.ensures))
+]
