@@ -1,11 +1,10 @@
 -- A pair with one member: any pair has it whole or not at all, and the highest member of a word makes one.
 -- By cases on the word in which the member stands, from the laws of one place of a word (sets, single).
-use mathlib.Core.Path.{◌≡◌, refl, ap, ◌∙◌}
+use mathlib.Core.Path.{◌≡◌, ap, ◌∙◌}
 use mathlib.Core.Logic.{⊎_elim}
 use Prim.Native.Nat.{ℕ, zero, suc, ◌+◌, ◌-◌, ◌*◌, ◌/◌, ◌^◌, ◌%◌, ◌<◌, ◌≤◌}
-use native.Mathlib.Nat.{le_refl, pow-suc}
+use native.Mathlib.Nat.{le_refl}
 use native.Mathlib.Omega.{arith}
-use lib.Count.{count_leading_zeros, leading_top, leading_le}
 use lib.Pow.{high}
 use Rattle.sets.specs.declared.Pair.{Pair}
 use Rattle.sets.specs.Sets.{bit_of, Within, Apart}
@@ -17,20 +16,18 @@ use Rattle.sets.proofs.Pairs.{atom-held, atom-denied, atom-taken}
 use Rattle.bounds.specs.Singles.{word_of, one_of, Place, Picked}
 
 -- ---- the pair made
-module _ (s k : ℕ) (h : k < 64) where
-  pub one-held : s ≡ 0 → ◌≡◌ {A = Pair} (record { taken = 0; held = 1 * 2 ^ k % 2 ^ 64; denied = 0 }) (one_of s k)
+module _ (k : ℕ) (h : k < 64) where
+  pub one-held : ◌≡◌ {A = Pair} (record { taken = 0; held = 1 * 2 ^ k % 2 ^ 64; denied = 0 }) (one_of 0 k)
   unfolding one_of
-  one-held e = rw (e, shifted k h)
+  one-held = rw (shifted k h)
 
-  pub one-denied : s ≡ 1 → ◌≡◌ {A = Pair} (record { taken = 0; held = 0; denied = 1 * 2 ^ k % 2 ^ 64 }) (one_of s k)
+  pub one-denied : ◌≡◌ {A = Pair} (record { taken = 0; held = 0; denied = 1 * 2 ^ k % 2 ^ 64 }) (one_of 1 k)
   unfolding one_of
-  one-denied e = rw (e, shifted k h)
+  one-denied = rw (shifted k h)
 
-pub one-taken : (s k : ℕ) → k < 64 → (s ≡ 0 → ⊥) → (s ≡ 1 → ⊥) → ◌≡◌ {A = Pair} (record { taken = 1 * 2 ^ k % 2 ^ 64; held = 0; denied = 0 }) (one_of s k)
-unfolding one_of
-one-taken zero k h f g = absurd (f refl)
-one-taken (suc zero) k h f g = absurd (g refl)
-one-taken (suc (suc s)) k h f g = rw (shifted k h)
+  pub one-taken : ◌≡◌ {A = Pair} (record { taken = 1 * 2 ^ k % 2 ^ 64; held = 0; denied = 0 }) (one_of 2 k)
+  unfolding one_of
+  one-taken = rw (shifted k h)
 
 -- ---- its laws
 own-place : (k : ℕ) → bit_of (2 ^ k) k ≡ 1
@@ -75,21 +72,8 @@ none-picked x m e a b c =
     })
 
 -- ---- the highest member
-pub top-fits : (x : ℕ) → count_leading_zeros 64 x < 2 ^ 64
-top-fits x = omega (arith, leading_le 64 x)
-
-module _ (x : ℕ) (p : 0 < x) (h : x < 2 ^ 64) where
-  pub top_small : count_leading_zeros 64 x ≤ 63
-  top_small = let t = leading_top 64 x p h in omega (arith, t.1)
-
-  pub top-place : Place x (63 - count_leading_zeros 64 x)
-  top-place =
-      let t = leading_top 64 x p h in
-      let e : 63 - count_leading_zeros 64 x ≡ t.0 = omega (arith, t.1) in
-      rw e (record { small = omega (arith, t.1); member = at t.0 t.2 t.3 })
-    where
-      at : (j : ℕ) → 2 ^ j ≤ x → x < 2 ^ suc j → bit_of x j ≡ 1
-      at j l g =
-          let q : x ≡ 1 * 2 ^ j + (x - 2 ^ j) = omega arith in
-          let r : x - 2 ^ j < 2 ^ j = omega (arith, pow-suc 2 j) in
-          ap (λ (y : ℕ). y / 2 ^ j % 2) q ∙ ap (λ (y : ℕ). y % 2) (high 1 j r)
+pub top-place : (x j : ℕ) → j < 64 → 2 ^ j ≤ x → x < 2 * 2 ^ j → Place x j
+top-place x j s l g =
+    let q : x ≡ 1 * 2 ^ j + (x - 2 ^ j) = omega arith in
+    let r : x - 2 ^ j < 2 ^ j = omega arith in
+    record { small = s; member = ap (λ (y : ℕ). y / 2 ^ j % 2) q ∙ ap (λ (y : ℕ). y % 2) (high 1 j r) }

@@ -2,7 +2,15 @@
 use Rattle.std.specs.Prelude.{ℕ, zero, suc, ◌^◌, ◌<◌, ◌≡◌}
 use Rattle.sets.specs.declared.Pair.{Pair}
 use Rattle.sets.specs.Sets.{bit_of}
+use Rattle.bounds.specs.declared.Part.{Part}
+use Rattle.bounds.specs.declared.Part.TheVariants.{Held, Denied, Taken}
 use Rattle.sets.specs.Pairs.{Sub, Off, Atom}
+
+-- The place of a word among the three.
+abbrev pub number_of : Part → ℕ
+number_of Held = 0
+number_of Denied = 1
+number_of Taken = 2
 
 -- The three words of a pair by number: 0 held, 1 denied, 2 (and above) taken.
 unfoldable pub word_of : ℕ → Pair → ℕ

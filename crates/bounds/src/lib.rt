@@ -4,43 +4,46 @@
 
 ghost use Rattle.std.specs.Prelude.{◌≡◌, ◌*◌, ◌<◌, ◌≤◌, length};
 ghost use Rattle.masks.specs.Views.{Meets};
-ghost use Rattle.bounds.specs.Singles.{one_of, Place, Picked};
+ghost use Rattle.bounds.specs.Singles.{one_of, number_of, Place, Picked};
 ghost use Rattle.bounds.specs.Sound.{Keeps, Firing, Idle, Coherent, Levelled, LevelledAt, Unlinked, Ruled, into_of, out_of, narrow_of, with_sets};
 
 use masks::{Bounds, Masks, lines};
 use sets::Pair;
 
-// The words of a pair by number.
-pub const HELD: u64 = 0;
+// The words of a pair.
+#[derive(Clone, Copy, PartialEq, Eq, Debug)]
+pub enum Part {
+    Held,
+    Denied,
+    Taken,
+}
 
-pub const DENIED: u64 = 1;
+impl Part {
+    // All of them, in this order.
+    pub const ALL: [Part; 3] = [Part::Held, Part::Denied, Part::Taken];
 
-pub const TAKEN: u64 = 2;
+    // Its place among them.
+    pub fn number(self) -> u64
+        ensures { result ≡ number_of self }
+    {
+        match self {
+            Part::Held => 0,
+            Part::Denied => 1,
+            Part::Taken => 2,
+        }
+    }
+}
 
 // The pair whose one member stands at place k of a word.
-pub fn one(word: u64, k: u64) -> Pair
+pub fn one(part: Part, k: u64) -> Pair
     requires { k < 64 }
-    ensures { result ≡ one_of word k }
+    ensures { result ≡ one_of (number_of part) k }
 {
     let x = 1 << k;
-    if word == HELD {
-        return Pair {
-            taken: 0,
-            held: x,
-            denied: 0,
-        };
-    }
-    if word == DENIED {
-        return Pair {
-            taken: 0,
-            held: 0,
-            denied: x,
-        };
-    }
-    Pair {
-        taken: x,
-        held: 0,
-        denied: 0,
+    match part {
+        Part::Held => Pair::of_statements(x, 0),
+        Part::Denied => Pair::of_statements(0, x),
+        Part::Taken => Pair::of_exceptions(x),
     }
 }
 
@@ -49,7 +52,7 @@ pub fn top(x: u64) -> u64
     requires { 0 < x }
     ensures { Place x result }
 {
-    63 - u64::leading_zeros(x) as u64
+    u64::from(x.ilog2())
 }
 
 // One member, of x if x has any: which one, nothing depends on.
@@ -58,17 +61,17 @@ pub fn single(x: Pair) -> Pair
 {
     let held = x.held;
     if 0 < held {
-        return one(HELD, top(held));
+        return one(Part::Held, top(held));
     }
     let denied = x.denied;
     if 0 < denied {
-        return one(DENIED, top(denied));
+        return one(Part::Denied, top(denied));
     }
     let taken = x.taken;
     if 0 < taken {
-        return one(TAKEN, top(taken));
+        return one(Part::Taken, top(taken));
     }
-    one(HELD, 0)
+    one(Part::Held, 0)
 }
 
 // The bounds with m in every pair.
@@ -96,29 +99,19 @@ pub fn out(b: Bounds, m: Pair) -> Bounds
 // Bounds with nothing in them.
 pub fn void() -> Bounds {
     Bounds {
-        lo: Pair {
-            taken: 0,
-            held: 1,
-            denied: 0,
-        },
-        hi: Pair {
-            taken: 0,
-            held: 0,
-            denied: 0,
-        },
+        lo: Pair::of_statements(1, 0),
+        hi: Pair::EMPTY,
     }
 }
 
 // Bounds with nothing in them that differ little from b: few rules mention what differs.
 pub fn crossed(b: Bounds) -> Bounds {
-    let hi = b.hi;
     Bounds {
         lo: Pair {
-            taken: b.lo.taken,
             held: b.lo.held | (1 << 63),
-            denied: b.lo.denied,
+            ..b.lo
         },
-        hi,
+        hi: b.hi,
     }
 }
 
@@ -139,20 +132,13 @@ pub fn with_sets(root: Bounds, lo: u64, hi: u64) -> Bounds
     Bounds {
         lo: Pair {
             taken: root.lo.taken | lo,
-            held: root.lo.held,
-            denied: root.lo.denied,
+            ..root.lo
         },
         hi: Pair {
             taken: root.hi.taken & hi,
-            held: root.hi.held,
-            denied: root.hi.denied,
+            ..root.hi
         },
     }
-}
-
-// The bounds are the same.
-pub fn unchanged(a: Bounds, b: Bounds) -> bool {
-    sets::same(a.lo, b.lo) && sets::same(a.hi, b.hi)
 }
 
 // The body is satisfied: needed entries in, barred ones out, and the head in if one alone is possible. If none is, as for a constraint, nothing is
@@ -174,14 +160,7 @@ pub fn forced(r: Masks, b: Bounds) -> Bounds
 pub fn untaken(r: Masks, b: Bounds) -> Bounds
     ensures { Keeps (Idle r) b result }
 {
-    out(
-        b,
-        Pair {
-            taken: r.need.taken,
-            held: 0,
-            denied: 0,
-        },
-    )
+    out(b, Pair::of_exceptions(r.need.taken))
 }
 
 // The body is not satisfied: if one open condition is left, it is made false. (B1)
@@ -226,14 +205,7 @@ pub fn step(r: Masks, b: Bounds) -> Bounds
 pub fn coheres(b: Bounds) -> Bounds
     ensures { Keeps Coherent b result }
 {
-    out(
-        b,
-        Pair {
-            taken: 0,
-            held: b.lo.denied,
-            denied: b.lo.held,
-        },
-    )
+    out(b, Pair::of_statements(b.lo.denied, b.lo.held))
 }
 
 // What the exception at place a outranks is not taken beside it. (f)
@@ -242,17 +214,10 @@ pub fn level_step(rank: u64, a: u64, b: Bounds) -> Bounds
     ensures { Keeps (LevelledAt rank a) b result }
 {
     if (b.lo.taken >> a) % 2 == 1 {
-        return out(
-            b,
-            Pair {
-                taken: rank,
-                held: 0,
-                denied: 0,
-            },
-        );
+        return out(b, Pair::of_exceptions(rank));
     }
     if rank & b.lo.taken != 0 {
-        return out(b, one(TAKEN, a));
+        return out(b, one(Part::Taken, a));
     }
     b
 }
@@ -263,10 +228,8 @@ pub fn levels(ranks: &[u64], b: Bounds) -> Bounds
     ensures { Keeps (Levelled ranks.now) b result }
 {
     let mut o = b;
-    let mut a = 0;
-    while a < ranks.len() {
-        o = level_step(ranks[a], a as u64, o);
-        a += 1;
+    for (a, &rank) in ranks.iter().enumerate() {
+        o = level_step(rank, a as u64, o);
     }
     o
 }
@@ -281,14 +244,7 @@ pub fn unlinked(words: &[u64], n: usize, ranks: &[u64], b: Bounds) -> Bounds
     }
     let m = lines::lines_in(words, n, b.hi, b.lo);
     let taken = lines::reach(words, n, ranks, m, b.lo.taken);
-    out(
-        b,
-        Pair {
-            taken,
-            held: 0,
-            denied: 0,
-        },
-    )
+    out(b, Pair::of_exceptions(taken))
 }
 
 // What no chain of rules can give from nothing within the bounds is out: the upper end shrinks to a closure.

@@ -1,9 +1,10 @@
 -- A set within split bounds that answers the rows is within one of the halves, and each half is smaller: so the search is right, and ends.
 use mathlib.Core.Path.{◌≡◌}
+use Rattle.std.specs.Prelude.{Option, Some, None}
 use mathlib.Core.Bool.{Bool, true, false, not}
 use mathlib.Core.List.{List}
 use mathlib.Core.Logic.{⊎_elim}
-use Prim.Native.Nat.{ℕ, ◌-◌, ◌<◌, ◌≤◌}
+use Prim.Native.Nat.{ℕ, ◌<◌}
 use native.Mathlib.Omega.{arith}
 use lib.Bits.{bit_and}
 use Rattle.logic.specs.Tests.{Decides}
@@ -49,24 +50,24 @@ module _ {rs : List ℕ} {m : ℕ} (t : Pair) (x : Bounds) where
       pub look-full : u ≡ true → Looked rs m t x Whole
       look-full e = whole-look (record { all = λ c k i. sub_trans (du.yes e) (p.keeps.kept c k i).lo })
 
-      module _ (eu : u ≡ false) (k : ℕ) (a : Asking rs m y.lo k) where
+      module _ (eu : u ≡ false) (o : Option ℕ) (a : Asking rs m y.lo o) where
         -- The lower end answers every row, and has less than the whole.
-        pub look-less : m ≤ k → Looked rs m t x Less
+        pub look-less : o ≡ None → Looked rs m t x Less
         look-less e = record {
           full = λ q. absurd (let z : ◌≡◌ {A = ℕ} 0 1 = cc in omega arith);
           less = λ q f. du.no eu (f.all y.lo (a.none e) (record { lo = p.lo; hi = sub_trans (granted dw ew) p.hi }));
           halves = λ y h q. absurd (let z : ◌≡◌ {A = ℕ} 0 1 = cc in omega arith);
         }
 
-        module _ (ek : k < m) (r : Row) (er : r ≡ row_at rs k) (s : Bool) (ds : Decides s (Off r.head y.hi)) where
+        module _ (k : ℕ) (ek : o ≡ Some k) (r : Row) (er : r ≡ row_at rs k) (s : Bool) (ds : Decides s (Off r.head y.hi)) where
           unanswered : Unanswered r y.lo
-          unanswered = rw er (a.one ek)
+          unanswered = rw er (a.one k ek).1
 
           -- No head of the row is possible.
           pub look-end : s ≡ true → Looked rs m t x Whole
           look-end e = whole-look (record {
             all = λ c q i. absurd (let j = p.keeps.kept c q i in
-                let n : AnswersRow r c = rw er (q.each k ek) in
+                let n : AnswersRow r c = rw er (q.each k (a.one k ek).0) in
                 n.answers (record { needed = sub_trans unanswered.needed j.lo; lacks = off-sub (sub_refl _) j.hi (ds.yes e) }));
           })
 

@@ -1,5 +1,6 @@
 -- Each step on bounds loses no set that answers the rows.
 use mathlib.Core.Path.{◌≡◌}
+use Rattle.std.specs.Prelude.{Some, None}
 use mathlib.Core.Bool.{Bool, true, false}
 use mathlib.Core.List.{List}
 use mathlib.Core.Logic.{⊎_elim}
@@ -66,8 +67,8 @@ module _ (rs : List ℕ) (m : ℕ) (c : Pair) where
           (λ (x : k ≤ j). f.each j x l) (lt-or-le j k);
     }
 
-    pub asking-here : k ≤ m → w ≡ true → Asking rs m c (k - 1)
-    asking-here l q = record { none = λ i. absurd (omega arith); one = λ i. rw e at (d.yes q) }
+    pub asking-here : k ≤ m → w ≡ true → Asking rs m c (Some (k - 1))
+    asking-here l q = record { none = λ i. cc; one = λ j i. let f : k - 1 ≡ j = cc in (omega arith, rw f at (rw e at (d.yes q))) }
 
-  pub asking-none : (k : ℕ) → k ≤ 0 → AnswersFrom rs k m c → Asking rs m c m
-  asking-none k h f = record { none = λ i. record { each = λ j l. f.each j (omega arith) l }; one = λ i. absurd (omega arith) }
+  pub asking-none : (k : ℕ) → k ≤ 0 → AnswersFrom rs k m c → Asking rs m c None
+  asking-none k h f = record { none = λ i. record { each = λ j l. f.each j (omega arith) l }; one = λ j i. cc }

@@ -1,5 +1,5 @@
 -- The search for a set within bounds that answers the rows and does not have the whole.
-use Rattle.std.specs.Prelude.{ℕ, ◌<◌, ◌≤◌, ◌≡◌, List}
+use Rattle.std.specs.Prelude.{ℕ, ◌<◌, ◌≡◌, List, Option, Some, None}
 use Rattle.sets.specs.declared.Pair.{Pair}
 use Rattle.sets.specs.Pairs.{Sub, Off, minus_of, Atom}
 use Rattle.masks.specs.declared.Bounds.{Bounds}
@@ -25,10 +25,10 @@ pub record Lowered (rs : List ℕ) (m : ℕ) (x y : Bounds) : Type 0 where
   pub lo : Sub x.lo y.lo
   pub hi : Sub y.hi x.hi
 
--- Row k is one that c leaves unanswered, unless k is m: then c answers the first m rows.
-pub record Asking (rs : List ℕ) (m : ℕ) (c : Pair) (k : ℕ) : Type 0 where
-  pub none : m ≤ k → AnswersRows rs m c
-  pub one : k < m → Unanswered (row_at rs k) c
+-- Of the first m rows one that c leaves unanswered, or none: then c answers them all.
+pub record Asking (rs : List ℕ) (m : ℕ) (c : Pair) (o : Option ℕ) : Type 0 where
+  pub none : o ≡ None → AnswersRows rs m c
+  pub one : (k : ℕ) → o ≡ Some k → (k < m) × Unanswered (row_at rs k) c
 
 -- y has every set within x that answers the rows, and h is one member that its upper end has and the lower has not.
 pub record Halved (rs : List ℕ) (m : ℕ) (x y : Bounds) (h : Pair) : Type 0 where

@@ -65,10 +65,8 @@ pub fn pass(rows: &[u64], m: usize, x: Bounds) -> Bounds
     ensures { Keeps (AnswersRows rows.now m) x result }
 {
     let mut y = x;
-    let mut k = 0;
-    while k < m {
+    for k in 0..m {
         y = step(rows::row_at(rows, k), y);
-        k += 1;
     }
     y
 }
@@ -79,35 +77,31 @@ pub fn lowered(rows: &[u64], m: usize, x: Bounds) -> Bounds
     ensures { Lowered rows.now m x result }
 {
     let mut y = x;
-    let mut k: u64 = 0;
-    while k < 256 {
+    for _ in 0..256 {
         let z = pass(rows, m, y);
-        if bounds::unchanged(y, z) {
+        if y == z {
             return bounds::narrowed(x, z);
         }
         y = z;
         if !sets::within(y.lo, y.hi) {
             return bounds::narrowed(x, y);
         }
-        k += 1;
     }
     bounds::narrowed(x, y)
 }
 
-// A row that c leaves unanswered, m if there is none among the first m. The last are looked at first: rules with alternatives stand behind the plain
+// A row that c leaves unanswered, if there is one among the first m. The last are looked at first: rules with alternatives stand behind the plain
 // ones, and at rest no row with one head is left unanswered.
-pub fn asking(rows: &[u64], m: usize, c: Pair) -> usize
+pub fn asking(rows: &[u64], m: usize, c: Pair) -> Option<usize>
     requires { m * 4 ≤ length rows.now }
     ensures { Asking rows.now m c result }
 {
-    let mut k = m;
-    while 0 < k {
-        k -= 1;
+    for k in (0..m).rev() {
         if rows::unanswered(rows::row_at(rows, k), c) {
-            return k;
+            return Some(k);
         }
     }
-    m
+    None
 }
 
 // What a look at bounds says of the sets in them that answer the rows: all have the whole; one has less; narrower bounds, and a member to split them by.
@@ -132,10 +126,9 @@ pub fn seek(rows: &[u64], m: usize, whole: Pair, x: Bounds) -> Look
     if sets::within(whole, lo) {
         return Look::Whole;
     }
-    let k = asking(rows, m, lo);
-    if m <= k {
+    let Some(k) = asking(rows, m, lo) else {
         return Look::Less;
-    }
+    };
     let r = rows::row_at(rows, k);
     if sets::apart(r.head, hi) {
         return Look::Whole;
@@ -148,8 +141,7 @@ pub fn alone(rows: &[u64], m: usize, whole: Pair, x: Bounds) -> bool
     requires { m * 4 ≤ length rows.now }
     ensures { Decides result (Alone rows.now m whole x) }
 {
-    let r = seek(rows, m, whole, x);
-    match r {
+    match seek(rows, m, whole, x) {
         Look::Whole => true,
         Look::Less => false,
         Look::Open(y, h) => {
@@ -172,11 +164,7 @@ pub fn founded(words: &[u64], n: usize, b: Bounds) -> bool
     let m = rows::gather(words, n, b, &mut rows);
     let hi = b.lo;
     let x = Bounds {
-        lo: Pair {
-            taken: b.lo.taken,
-            held: 0,
-            denied: 0,
-        },
+        lo: Pair::of_exceptions(hi.taken),
         hi,
     };
     alone(&rows, m, hi, x)
@@ -200,15 +188,14 @@ pub fn is_view(words: &[u64], n: usize, ranks: &[u64], v: Pair) -> bool
     if !lines::uncrossed(words, n, ranks, v) {
         return false;
     }
-    let s = masks::sweep(words, n, v);
-    if !s.ok {
+    let Some(reached) = masks::sweep(words, n, v) else {
         return false;
-    }
-    if sets::same(s.reached, v) {
+    };
+    if reached == v {
         return true;
     }
-    let d = masks::grown(words, n, v, s.reached);
-    if sets::same(d, v) {
+    let d = masks::grown(words, n, v, reached);
+    if d == v {
         return true;
     }
     if masks::closed_within(words, n, v, d) {

@@ -23,16 +23,8 @@ pub fn row_at(rows: &[u64], k: usize) -> Row
 {
     let at = k * 4;
     Row {
-        need: Pair {
-            taken: 0,
-            held: rows[at],
-            denied: rows[at + 1],
-        },
-        head: Pair {
-            taken: 0,
-            held: rows[at + 2],
-            denied: rows[at + 3],
-        },
+        need: Pair::of_statements(rows[at], rows[at + 1]),
+        head: Pair::of_statements(rows[at + 2], rows[at + 3]),
     }
 }
 
@@ -41,16 +33,8 @@ pub fn row_of(r: Masks, b: Bounds) -> Row
     ensures { result ≡ row_of r b }
 {
     Row {
-        need: Pair {
-            taken: 0,
-            held: r.need.held & b.lo.held,
-            denied: r.need.denied & b.lo.denied,
-        },
-        head: Pair {
-            taken: 0,
-            held: r.head.held & b.lo.held,
-            denied: r.head.denied & b.lo.denied,
-        },
+        need: Pair::of_statements(r.need.held & b.lo.held, r.need.denied & b.lo.denied),
+        head: Pair::of_statements(r.head.held & b.lo.held, r.head.denied & b.lo.denied),
     }
 }
 
@@ -85,10 +69,8 @@ pub fn gather(words: &[u64], n: usize, b: Bounds, rows: &mut [u64]) -> usize
     ensures { Gathered words.now n b rows.new result }
 {
     let mut m: usize = 0;
-    let mut k: usize = 0;
-    while k < n {
+    for k in 0..n {
         let r = masks::masks_at(words, k);
-        k += 1;
         if can_ask(r, b) {
             put(rows, m, row_of(r, b));
             m += 1;

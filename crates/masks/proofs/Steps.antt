@@ -20,8 +20,8 @@ use Rattle.sets.proofs.Lowest.{lowest-is, lowest-some}
 use Rattle.sets.proofs.Words.{and_none, or_l, or_r, sub-le}
 use Rattle.masks.specs.declared.Masks.{Masks}
 use Rattle.sets.specs.declared.Pair.{Pair}
-use Rattle.masks.specs.Views.{Alike, masks_at, Fires, from_at, to_at, Counts, Lined, Step, rank, line, Leads, step, chain, Uncrossed}
-use Rattle.masks.specs.Steps.{Of, LedTo, Reached, Here, Grown, ByRanks, ByLine, ByLines, Passed, Chosen, Choice, Mates, MatesOf}
+use Rattle.masks.specs.Views.{Alike, masks_at, from_at, to_at, Counts, Lined, Step, rank, line, Leads, step, chain, Uncrossed}
+use Rattle.masks.specs.Steps.{Of, LedTo, Reached, Here, Grown, ByRanks, ByLine, ByLines, Passed, Chosen, Passing, Mates, MatesOf}
 
 -- ---- words
 -- Two words that are not apart have a member in common.
@@ -206,20 +206,12 @@ module _ (ws : List ℕ) (n : ℕ) (ranks : List ℕ) (m t : ℕ) where
   larger o r p e = let q = sub-le o r p.grow in ⊎_elim (λ z. z) (λ (z : r ≤ o). absurd (e (omega arith))) (lt-or-le o r)
 
 -- ---- sets made number by number
-module _ (P : ℕ → Type 0) where
-  pub chosen_none : Chosen P 0 0
-  chosen_none = record { only = λ j e. let z = bit-zero j in absurd (omega arith); all = λ j h f. absurd (omega arith) }
-
-  pub chosen-all : (e k r : ℕ) → k ≤ e → e ≤ k → Chosen P k r → Chosen P e r
-  chosen-all e k r h l b = let q : e ≡ k = omega arith in rw q b
-
-  module _ (k m : ℕ) (l : k < 64) (o : Bool) (d : Decides o (P k)) where
-    pub chosen-with : o ≡ true → Choice P k m (bit_or m (1 * 2 ^ k % 2 ^ 64))
-    chosen-with q = record {
-      next = λ b. record {
-        only = λ j x. ⊎_elim (λ y. let z = b.only j y in (omega (arith, z.0), z.1)) (λ (y : k ≡ j). (omega arith, rw (sym y) (d.yes q))) (split j x);
-        all = λ j h f. ⊎_elim (λ (y : j ≡ k). rw y own) (λ (y : j < k). has m _ j (or_l m _) (b.all j y f)) (eq-or-lt_of_le (omega arith));
-      };
+module _ (P : ℕ → Bool → Type 0) where
+  module _ (k m : ℕ) (l : k < 64) (b : Passing P k m) where
+    pub passing-with : P k true → Passing P (k + 1) (bit_or m (1 * 2 ^ k % 2 ^ 64))
+    passing-with q = record {
+      only = λ j x. ⊎_elim (λ y. let z = b.only j y in (omega (arith, z.0), z.1)) (λ (y : k ≡ j). (omega arith, rw (sym y) q)) (split j x);
+      all = λ j h. ⊎_elim (λ (y : j ≡ k). inl (rw y own)) (λ (y : j < k). ⊎_elim (λ z. inl (has m _ j (or_l m _) z)) (λ z. inr z) (b.all j y)) (eq-or-lt_of_le (omega arith));
     }
       where
         is_one : 1 * 2 ^ k % 2 ^ 64 ≡ 2 ^ k
@@ -231,20 +223,18 @@ module _ (P : ℕ → Type 0) where
         split : (j : ℕ) → bit_of (bit_or m (1 * 2 ^ k % 2 ^ 64)) j ≡ 1 → (bit_of m j ≡ 1) ⊎ (k ≡ j)
         split j x = ⊎_elim (λ y. inl y) (λ y. inr (eqb-true k j (sym (bit-single k j) ∙ eq-eqb _ 1 (rw is_one at y)))) (here_of m (1 * 2 ^ k % 2 ^ 64) j x)
 
-    pub chosen-without : o ≡ false → Choice P k m m
-    chosen-without q = record {
-      next = λ b. record {
-        only = λ j x. let z = b.only j x in (omega (arith, z.0), z.1);
-        all = λ j h f. ⊎_elim (λ (y : j ≡ k). absurd (d.no q (rw y at f))) (λ (y : j < k). b.all j y f) (eq-or-lt_of_le (omega arith));
-      };
+    pub passing-without : P k false → Passing P (k + 1) m
+    passing-without q = record {
+      only = λ j x. let z = b.only j x in (omega (arith, z.0), z.1);
+      all = λ j h. ⊎_elim (λ (y : j ≡ k). inr (rw y q)) (λ (y : j < k). b.all j y) (eq-or-lt_of_le (omega arith));
     }
 
--- Line k as it is read.
-pub fires-at : (ws : List ℕ) (n k : ℕ) (v c : Pair) (r : Masks) → r ≡ masks_at ws (n + k) → (o : Bool) → Decides o (Fires r v c) → Decides o (Fires (masks_at ws (n + k)) v c)
-fires-at ws n k v c r e o d = rw e at d
-
-pub alike_at : (ws : List ℕ) (n i j : ℕ) (a b : Masks) → a ≡ masks_at ws (n + i) → b ≡ masks_at ws (n + j) → (o : Bool) → Decides o (a.head ≡ b.head) → Decides o (Alike ws n i j)
-alike_at ws n i j a b e f o d = rw (e, f) at d
+-- Of a test that decides a property: the numbers that have it.
+pub passing-chosen : {P : ℕ → Bool → Type 0} {Q : ℕ → Type 0} (k r : ℕ) → ((j : ℕ) (o : Bool) → j < k → P j o → Decides o (Q j)) → Passing P k r → Chosen Q k r
+passing-chosen k r d p = record {
+  only = λ j x. let z = p.only j x in (z.0, (d j true z.0 z.1).yes refl);
+  all = λ j h q. ⊎_elim (λ y. y) (λ y. absurd ((d j false h y).no refl q)) (p.all j h);
+}
 
 -- ---- the lines that are the same step as one of a set
 module _ (ws : List ℕ) (n m : ℕ) where

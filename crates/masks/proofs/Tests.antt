@@ -1,18 +1,16 @@
 -- The test of a view is exact: it is true of the views and of nothing else.
 -- Each `return` decides its proposition from what the tests before it decided; the loops keep what holds of the rules below k.
-use mathlib.Core.Path.{◌≡◌, ◌∙◌}
+use Rattle.std.specs.Prelude.{Some, None}
+use mathlib.Core.Path.{◌≡◌}
 use mathlib.Core.Bool.{Bool, true, false, not}
 use mathlib.Core.List.{List}
 use mathlib.Core.Logic.{inl, inr, ⊎_elim}
-use Prim.Native.Nat.{ℕ, ◌+◌, ◌*◌, ◌%◌, ◌^◌, ◌<◌, ◌≤◌}
+use Prim.Native.Nat.{ℕ, ◌+◌, ◌<◌, ◌≤◌}
 use native.Mathlib.Omega.{arith}
 use lib.Bits.{bit_and, bit_or}
-use lib.Dec.{eqb, lit<}
-use lib.Pow.{shl_exact}
-use native.Mathlib.Nat.{one-mul}
+use lib.Dec.{eqb}
 use lib.ListN.{length, get_or}
 use borrow.Author.Count.{below_more}
-use borrow.Author.Tests.{eqb-true}
 use Rattle.logic.specs.Tests.{Decides}
 use Rattle.logic.proofs.Decide.{decides_not, holds-or-not, reworded}
 use Rattle.sets.specs.declared.Pair.{Pair}
@@ -59,19 +57,13 @@ module _ (ws : List ℕ) (k : ℕ) (v : Pair) where
     pub rules-turn : MeetsAll ws k v → not w ≡ false → MeetsAll ws (k + 1) v
     rules-turn f q = below_more _ k f (rw e at (granted m q))
 
-    pub rules-lost : (n : ℕ) (d : Pair) → k < n → Beneath ws k v d → not w ≡ true → Swept ws n v (record { ok = false; reached = d })
-    rules-lost n d h b q = record { exact = decides-false (λ f. refused m q (rw e (f k h))); below = beneath-more ws k n v d (omega arith) b }
+    pub rules-lost : (n : ℕ) → k < n → not w ≡ true → Swept ws n v None
+    rules-lost n h q = record { exact = decides-false (λ f. refused m q (rw e (f k h))); below = λ d o. cc }
 
-  pub rules-won : (n : ℕ) (d : Pair) → k ≤ n → n ≤ k → MeetsAll ws k v → Beneath ws k v d → Swept ws n v (record { ok = true; reached = d })
-  rules-won n d l h f b = record { exact = decides-true (λ j i. f j (omega arith)); below = beneath-more ws k n v d l b }
+  pub rules-won : (n : ℕ) (d : Pair) → k ≤ n → n ≤ k → MeetsAll ws k v → Beneath ws k v d → Swept ws n v (Some d)
+  rules-won n d l h f b = record { exact = decides-true (λ j i. f j (omega arith)); below = λ x o. let e : d ≡ x = cc in rw e at (beneath-more ws k n v d l b) }
 
 -- ---- one member
-pub lone-none : (x : ℕ) → eqb x 0 ≡ true → Lone x
-lone-none x q = inl (eqb-true x 0 q)
-
-pub lone-one : (x k : ℕ) → k < 64 → eqb x (1 * 2 ^ k % 2 ^ 64) ≡ true → Lone x
-lone-one x k h q = inr (k, eqb-true x _ q ∙ (shl_exact 1 k 64 (lit< tt) (omega arith) ∙ one-mul _))
-
 pub lone-held : (x : Pair) → x.taken ≡ 0 → x.denied ≡ 0 → Lone x.held → Atom x
 lone-held x t d (inl e) v = inl (record { held = rw e (none-sub v.held); denied = rw d (none-sub v.denied); taken = rw t (none-sub v.taken) })
 lone-held x t d (inr (k, e)) v = ⊎_elim (λ f. inl (record { held = rw e f.held; denied = rw d f.denied; taken = rw t f.taken })) (λ f. inr (record { held = rw e f.held; denied = rw d f.denied; taken = rw t f.taken })) (atom-held k v)

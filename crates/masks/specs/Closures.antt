@@ -1,12 +1,11 @@
 -- What the functions that compute a closure within bounds promise.
-use Rattle.std.specs.Prelude.{ℕ, ◌^◌, ◌<◌, ◌≡◌, List, ◌⊎◌}
+use Rattle.std.specs.Prelude.{ℕ, ◌^◌, ◌<◌, ◌≡◌, List, ◌⊎◌, Option, Some, is_some}
 use Rattle.logic.specs.Tests.{Decides}
 use Rattle.sets.specs.declared.Pair.{Pair}
 use Rattle.sets.specs.Sets.{Within}
 use Rattle.sets.specs.Pairs.{Sub, Off, meet_of}
 use Rattle.masks.specs.declared.Masks.{Masks}
 use Rattle.masks.specs.declared.Bounds.{Bounds}
-use Rattle.masks.specs.declared.Outcome.{Outcome}
 use Rattle.masks.specs.Views.{masks_at, Fires, MaskClosed, MeetsAll}
 
 -- If the rule can fire from t within the bounds, what it adds within them is in t already.
@@ -54,7 +53,7 @@ pub record Grown (r : Masks) (v d e : Pair) : Type 0 where
 abbrev pub Beneath : List ℕ → ℕ → Pair → Pair → Type 0
 Beneath ws n v d = (c : Pair) → c.taken ≡ v.taken → Sub c v → MaskClosed ws n v c → Sub d c
 
--- What a sweep over the first n rules tells of v: whether it meets them all, and a part of every closed pair within it.
-pub record Swept (ws : List ℕ) (n : ℕ) (v : Pair) (s : Outcome) : Type 0 where
-  pub exact : Decides s.ok (MeetsAll ws n v)
-  pub below : Beneath ws n v s.reached
+-- What a sweep over the first n rules tells of v: whether it meets them all, and if it does, a part of every closed pair within it.
+pub record Swept (ws : List ℕ) (n : ℕ) (v : Pair) (s : Option Pair) : Type 0 where
+  pub exact : Decides (is_some s) (MeetsAll ws n v)
+  pub below : (d : Pair) → s ≡ Some d → Beneath ws n v d

@@ -1,5 +1,5 @@
 -- What the functions promise that go along steps between exceptions.
-use Rattle.std.specs.Prelude.{ℕ, ◌+◌, ◌<◌, ◌≡◌, List, ◌⊎◌, get_or}
+use Rattle.std.specs.Prelude.{ℕ, Bool, true, false, ◌+◌, ◌<◌, ◌≡◌, List, ◌⊎◌, get_or}
 use Rattle.sets.specs.Sets.{bit_of, Within}
 use Rattle.sets.specs.declared.Pair.{Pair}
 use Rattle.masks.specs.Views.{masks_at, Fires, from_at, to_at, Step, Leads, Alike}
@@ -55,9 +55,10 @@ pub record Chosen (P : ℕ → Type 0) (k r : ℕ) : Type 0 where
   pub only : (j : ℕ) → bit_of r j ≡ 1 → (j < k) × P j
   pub all : (j : ℕ) → j < k → P j → bit_of r j ≡ 1
 
--- Number k, after those before it.
-pub record Choice (P : ℕ → Type 0) (k m r : ℕ) : Type 0 where
-  pub next : Chosen P k m → Chosen P (k + 1) r
+-- The set r has those numbers below k for which a test may say yes; it may say no for the others.
+pub record Passing (P : ℕ → Bool → Type 0) (k r : ℕ) : Type 0 where
+  pub only : (j : ℕ) → bit_of r j ≡ 1 → (j < k) × P j true
+  pub all : (j : ℕ) → j < k → (bit_of r j ≡ 1) ⊎ P j false
 
 -- The set r has the lines whose needed entries are in c and whose barred ones are not in v.
 abbrev pub Counting : List ℕ → ℕ → Pair → Pair → ℕ → Type 0

@@ -13,7 +13,7 @@ use sets::Pair;
 pub mod lines;
 
 // A rule: its head, its needed entries (the rule's own exception among them), its barred entries.
-#[derive(Clone, Copy)]
+#[derive(Clone, Copy, PartialEq, Eq)]
 pub struct Masks {
     pub head: Pair,
     pub need: Pair,
@@ -21,7 +21,7 @@ pub struct Masks {
 }
 
 // The pairs between lo and hi.
-#[derive(Clone, Copy)]
+#[derive(Clone, Copy, PartialEq, Eq)]
 pub struct Bounds {
     pub lo: Pair,
     pub hi: Pair,
@@ -78,10 +78,8 @@ pub fn pass(words: &[u64], n: usize, b: Bounds, c: Pair) -> Pair
     ensures { Passed words.now n b c result }
 {
     let mut d = c;
-    let mut k = 0;
-    while k < n {
+    for k in 0..n {
         d = fire(masks_at(words, k), b, d);
-        k += 1;
     }
     d
 }
@@ -91,17 +89,13 @@ pub fn closure(words: &[u64], n: usize, b: Bounds) -> Pair
     requires { n * 8 ≤ length words.now }
     ensures { Closure words.now n b result }
 {
-    let mut c = Pair {
-        taken: b.hi.taken,
-        held: 0,
-        denied: 0,
-    };
+    let mut c = Pair::of_exceptions(b.hi.taken);
     loop {
-        if sets::same(c, b.hi) {
+        if c == b.hi {
             return c;
         }
         let d = pass(words, n, b, c);
-        if sets::same(d, c) {
+        if d == c {
             break;
         }
         c = d;
@@ -131,11 +125,7 @@ pub fn meets(r: Masks, v: Pair, f: bool) -> bool
 pub fn lone_word(x: u64) -> bool
     ensures { result ≡ true → Lone x }
 {
-    let k = u64::trailing_zeros(x) as u64;
-    if 64 <= k {
-        return x == 0;
-    }
-    x == 1 << k
+    sets::size(x) <= 1
 }
 
 // The pair has one conclusion at most, and no exception: every pair has all of it or nothing.
@@ -174,44 +164,25 @@ pub fn add_within(r: Masks, v: Pair, f: bool, d: Pair) -> Pair
     d
 }
 
-// What one sweep over the rules tells of a pair: whether it meets them all, and what they add to its exceptions alone.
-#[derive(Clone, Copy)]
-pub struct Outcome {
-    pub ok: bool,
-    pub reached: Pair,
-}
-
 // The most passes over the rules for one pair: each but the last adds a conclusion.
 const PASSES: u64 = 128;
 
-// One sweep over the first n rules. It ends at the first rule that v does not meet.
-pub fn sweep(words: &[u64], n: usize, v: Pair) -> Outcome
+// One sweep over the first n rules: what they add to v's exceptions alone, if v meets them all. It ends at the first that v does not meet.
+pub fn sweep(words: &[u64], n: usize, v: Pair) -> Option<Pair>
     requires { n * 8 ≤ length words.now }
     ensures { Swept words.now n v result }
 {
-    let mut d = Pair {
-        taken: v.taken,
-        held: 0,
-        denied: 0,
-    };
-    let mut k = 0;
-    while k < n {
+    let mut d = Pair::of_exceptions(v.taken);
+    for k in 0..n {
         let r = masks_at(words, k);
         let f = fires(r, v, v);
         let e = add_within(r, v, f, d);
         if !meets(r, v, f) {
-            return Outcome {
-                ok: false,
-                reached: d,
-            };
+            return None;
         }
         d = e;
-        k += 1;
     }
-    Outcome {
-        ok: true,
-        reached: d,
-    }
+    Some(d)
 }
 
 // The pair d with what the first n rules add to it in one pass, which every closed pair within v has as it has d.
@@ -220,12 +191,10 @@ pub fn grow(words: &[u64], n: usize, v: Pair, d: Pair) -> Pair
     ensures { Beneath words.now n v result }
 {
     let mut e = d;
-    let mut k = 0;
-    while k < n {
+    for k in 0..n {
         let r = masks_at(words, k);
         let f = fires(r, v, v);
         e = add_within(r, v, f, e);
-        k += 1;
     }
     e
 }
@@ -236,17 +205,12 @@ pub fn grown(words: &[u64], n: usize, v: Pair, d: Pair) -> Pair
     ensures { Beneath words.now n v result }
 {
     let mut c = d;
-    let mut k: u64 = 0;
-    while k < PASSES {
+    for _ in 0..PASSES {
         let e = grow(words, n, v, c);
-        if sets::same(e, v) {
-            return e;
-        }
-        if sets::same(e, c) {
+        if e == v || e == c {
             return e;
         }
         c = e;
-        k += 1;
     }
     c
 }
@@ -272,12 +236,10 @@ pub fn closed_within(words: &[u64], n: usize, v: Pair, d: Pair) -> bool
     if !sets::within(d, v) {
         return false;
     }
-    let mut k = 0;
-    while k < n {
+    for k in 0..n {
         if !closed_at(masks_at(words, k), v, d) {
             return false;
         }
-        k += 1;
     }
     true
 }
@@ -298,12 +260,10 @@ pub fn level(ranks: &[u64], taken: u64) -> bool
     requires { length ranks.now ≤ 64 }
     ensures { Decides result (Level ranks.now taken) }
 {
-    let mut a = 0;
-    while a < ranks.len() {
-        if !level_at(ranks[a], a as u64, taken) {
+    for (a, &rank) in ranks.iter().enumerate() {
+        if !level_at(rank, a as u64, taken) {
             return false;
         }
-        a += 1;
     }
     true
 }

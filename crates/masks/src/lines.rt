@@ -1,8 +1,8 @@
 // Which exceptions preference lines lead to: steps of P lines, as words, and of Q lines, which stand after the rules.
-ghost use Rattle.std.specs.Prelude.{◌+◌, ◌*◌, ◌<◌, ◌≤◌, length};
+ghost use Rattle.std.specs.Prelude.{ℕ, ◌+◌, ◌*◌, ◌<◌, ◌≤◌, length};
 ghost use Rattle.logic.specs.Tests.{Decides};
 ghost use Rattle.masks.specs.Views.{Alike, masks_at, Fires, Lined, Uncrossed};
-ghost use Rattle.masks.specs.Steps.{Grown, ByRanks, ByLine, ByLines, Passed, Reached, Chosen, Choice, Counting, Mates, MatesOf};
+ghost use Rattle.masks.specs.Steps.{Grown, ByRanks, ByLine, ByLines, Passed, Reached, Chosen, Passing, Counting, Mates, MatesOf};
 
 use sets::Pair;
 
@@ -25,10 +25,8 @@ pub fn by_ranks(ranks: &[u64], t: u64, o: u64) -> u64
     ensures { ByRanks ranks.now (length ranks.now) t o result }
 {
     let mut p = o;
-    let mut a = 0;
-    while a < ranks.len() {
-        p = through(1 << (a as u64), ranks[a], t, p);
-        a += 1;
+    for (a, &rank) in ranks.iter().enumerate() {
+        p = through(1 << (a as u64), rank, t, p);
     }
     p
 }
@@ -51,10 +49,8 @@ pub fn by_lines(words: &[u64], n: usize, m: u64, t: u64, o: u64) -> u64
     ensures { ByLines words.now n m 32 t o result }
 {
     let mut p = o;
-    let mut j = 0;
-    while j < LINES {
+    for j in 0..LINES {
         p = by_line(words, n, m, j, t, p);
-        j += 1;
     }
     p
 }
@@ -83,14 +79,16 @@ pub fn reach(words: &[u64], n: usize, ranks: &[u64], m: u64, t: u64) -> u64
     o
 }
 
-// The set m with line j, if its needed entries are in c and its barred ones are not in v.
-pub fn line_in(words: &[u64], n: usize, j: usize, v: Pair, c: Pair, m: u64) -> u64
-    requires { ((n + 32) * 8 ≤ length words.now) × (j < 32) }
-    ensures { Choice (λ i. Fires (masks_at words.now (n + i)) v c) j m result }
+// The lines that pass a test.
+pub fn passing<F: Fn(usize) -> bool>(test: F) -> u64
+    requires { (j : ℕ) → j < 32 → F.pre test j }
+    ensures { Passing (F.post test) 32 result }
 {
-    let l = crate::masks_at(words, n + j);
-    if crate::fires(l, v, c) {
-        return m | (1 << (j as u64));
+    let mut m: u64 = 0;
+    for j in 0..LINES {
+        if test(j) {
+            m |= 1 << (j as u64);
+        }
     }
     m
 }
@@ -101,26 +99,7 @@ pub fn lines_in(words: &[u64], n: usize, v: Pair, c: Pair) -> u64
     requires { (n + 32) * 8 ≤ length words.now }
     ensures { Counting words.now n v c result }
 {
-    let mut m: u64 = 0;
-    let mut j = 0;
-    while j < LINES {
-        m = line_in(words, n, j, v, c, m);
-        j += 1;
-    }
-    m
-}
-
-// The set m with line j, if it is the same step as line i.
-pub fn twin_in(words: &[u64], n: usize, i: usize, j: usize, m: u64) -> u64
-    requires { ((n + 32) * 8 ≤ length words.now) × (i < 32) × (j < 32) }
-    ensures { Choice (Alike words.now n i) j m result }
-{
-    let a = crate::masks_at(words, n + i);
-    let b = crate::masks_at(words, n + j);
-    if sets::same(a.head, b.head) {
-        return m | (1 << (j as u64));
-    }
-    m
+    passing(|j| crate::fires(crate::masks_at(words, n + j), v, c))
 }
 
 // The lines that are the same step as line i.
@@ -128,13 +107,8 @@ pub fn twins(words: &[u64], n: usize, i: usize) -> u64
     requires { ((n + 32) * 8 ≤ length words.now) × (i < 32) }
     ensures { Chosen (Alike words.now n i) 32 result }
 {
-    let mut m: u64 = 0;
-    let mut j = 0;
-    while j < LINES {
-        m = twin_in(words, n, i, j, m);
-        j += 1;
-    }
-    m
+    let head = crate::masks_at(words, n + i).head;
+    passing(|j| crate::masks_at(words, n + j).head == head)
 }
 
 // The set o with the lines that are the same step as line i, if that is one of m.
@@ -154,10 +128,8 @@ pub fn mates(words: &[u64], n: usize, m: u64) -> u64
     ensures { Mates words.now n m 32 result }
 {
     let mut o: u64 = 0;
-    let mut i = 0;
-    while i < LINES {
+    for i in 0..LINES {
         o = mates_of(words, n, m, i, o);
-        i += 1;
     }
     o
 }

@@ -1,4 +1,5 @@
 -- A search that may stop is right where it has an answer; and shaving is sound: where one value of a member is refuted, every view has the other.
+use Rattle.std.specs.Prelude.{Option, Some, None}
 use Rattle.std.proofs.Common.{◌≡◌, ℕ, Bool, true, not, List, ⊎_elim, arith}
 use Rattle.logic.specs.Tests.{Decides}
 use Rattle.sets.specs.declared.Pair.{Pair}
@@ -10,8 +11,6 @@ use Rattle.masks.proofs.Booleans.{refused}
 use Rattle.bounds.specs.Sound.{In, into_of, out_of, Propagated}
 use Rattle.bounds.proofs.Steps.{in-into, in-out, keeps_same, keeps_then}
 use Rattle.queue.specs.declared.waiting.Waiting.{Waiting}
-use Rattle.probe.specs.declared.Answer.{Answer}
-use Rattle.probe.specs.declared.Answer.TheVariants.{Found, Nothing}
 use Rattle.probe.specs.declared.Outcome.{Outcome}
 use Rattle.probe.specs.declared.Outcome.TheVariants.{Has, Lacks, Stopped}
 use Rattle.probe.specs.declared.Node.{Node}
@@ -54,13 +53,13 @@ module _ {ws : List ℕ} {n : ℕ} {ranks : List ℕ} {b : Bounds} {x : Node} (o
 
 -- ---- what the whole search makes of it
 module _ {ws : List ℕ} {n : ℕ} {ranks : List ℕ} {b : Bounds} {a : Outcome} (q : Attempted ws n ranks b a) where
-  pub asked-has : (v : Pair) → a ≡ Has v → Probed ws n ranks b (Found v)
+  pub asked-has : (v : Pair) → a ≡ Has v → Probed ws n ranks b (Some v)
   asked-has v e = record {
     found = λ u k. let d : v ≡ u = cc in rw (← d) (q.found v e);
     none = λ k. absurd (let z : ◌≡◌ {A = ℕ} 0 1 = cc in omega arith);
   }
 
-  pub asked-lacks : (left : ℕ) → a ≡ Lacks left → Probed ws n ranks b Nothing
+  pub asked-lacks : (left : ℕ) → a ≡ Lacks left → Probed ws n ranks b None
   asked-lacks left e = record { found = λ v k. absurd (let z : ◌≡◌ {A = ℕ} 0 1 = cc in omega arith); none = λ k. q.none left e }
 
 -- ---- shaving
@@ -71,7 +70,7 @@ pub shave-more : {ws : List ℕ} {n : ℕ} {ranks : List ℕ} {b c d : Bounds} �
 shave-more f g = record { keeps = keeps_then f.keeps g.keeps; lo = sub_trans f.lo g.lo; hi = sub_trans g.hi f.hi }
 
 -- A search within what propagation leaves is one within the bounds themselves.
-pub probed-within : {ws : List ℕ} {n : ℕ} {ranks : List ℕ} {b c d : Bounds} {a : Answer} → Propagated ws n ranks b c → Propagated ws n ranks c d → Probed ws n ranks d a → Probed ws n ranks b a
+pub probed-within : {ws : List ℕ} {n : ℕ} {ranks : List ℕ} {b c d : Bounds} {a : Option Pair} → Propagated ws n ranks b c → Propagated ws n ranks c d → Probed ws n ranks d a → Probed ws n ranks b a
 probed-within f g q = record {
   found = λ v e. let z = q.found v e in (z.0, record { lo = sub_trans f.lo (sub_trans g.lo z.1.lo); hi = sub_trans z.1.hi (sub_trans g.hi f.hi) });
   none = λ e v w y. q.none e v w (g.keeps.kept v w (f.keeps.kept v w y));

@@ -1,22 +1,20 @@
 -- What the search for a view within bounds promises.
-use Rattle.std.specs.Prelude.{◌≡◌, ℕ, List}
+use Rattle.std.specs.Prelude.{◌≡◌, ℕ, List, Option, Some, None}
 use Rattle.sets.specs.declared.Pair.{Pair}
 use Rattle.sets.specs.Pairs.{Sub, Off, Atom, minus_of}
 use Rattle.masks.specs.declared.Bounds.{Bounds}
 use Rattle.masks.specs.Views.{MaskView}
 use Rattle.bounds.specs.Sound.{In, Propagated}
 use Rattle.queue.specs.declared.waiting.Waiting.{Waiting}
-use Rattle.probe.specs.declared.Answer.{Answer}
-use Rattle.probe.specs.declared.Answer.TheVariants.{Found, Nothing}
 use Rattle.probe.specs.declared.Outcome.{Outcome}
 use Rattle.probe.specs.declared.Outcome.TheVariants.{Has, Lacks}
 use Rattle.probe.specs.declared.Node.{Node}
 use Rattle.probe.specs.declared.Node.TheVariants.{View, Empty, Open}
 
 -- What is found is a view within the bounds; if nothing is found there is none.
-pub record Probed (ws : List ℕ) (n : ℕ) (ranks : List ℕ) (b : Bounds) (a : Answer) : Type 0 where
-  pub found : (v : Pair) → a ≡ Found v → (MaskView ws n ranks v) × (In b v)
-  pub none : a ≡ Nothing → (v : Pair) → MaskView ws n ranks v → In b v → ⊥
+pub record Probed (ws : List ℕ) (n : ℕ) (ranks : List ℕ) (b : Bounds) (a : Option Pair) : Type 0 where
+  pub found : (v : Pair) → a ≡ Some v → (MaskView ws n ranks v) × (In b v)
+  pub none : a ≡ None → (v : Pair) → MaskView ws n ranks v → In b v → ⊥
 
 -- The same of a search that may stop: where it stopped, it says nothing.
 pub record Attempted (ws : List ℕ) (n : ℕ) (ranks : List ℕ) (b : Bounds) (a : Outcome) : Type 0 where

@@ -16,13 +16,6 @@ use sets::Pair;
 pub mod shaving;
 pub mod weights;
 
-// A view within the bounds, or that there is none.
-#[derive(Clone, Copy)]
-pub enum Answer {
-    Found(Pair),
-    Nothing,
-}
-
 // What propagation leaves of bounds: one view; nothing; narrower bounds, with a member to split them by and the rules that are live.
 #[derive(Clone, Copy)]
 pub enum Node {
@@ -37,10 +30,11 @@ pub fn pick(words: &[u64], n: usize, live: Waiting, c: Bounds) -> Pair
     ensures { Picked (minus_of c.hi c.lo) result }
 {
     let free = sets::minus(c.hi, c.lo);
-    let at = weights::heaviest(words, n, live, free);
-    let m = bounds::one(at / 64, at % 64);
-    if sets::within(m, free) {
-        return m;
+    if let Some(best) = weights::heaviest(words, n, live, free) {
+        let m = bounds::one(best.part, best.place);
+        if sets::within(m, free) {
+            return m;
+        }
     }
     bounds::single(free)
 }
@@ -58,7 +52,7 @@ pub fn visit(words: &[u64], n: usize, ranks: &[u64], index: &Index, w: Work, b: 
     if !sets::within(lo, hi) {
         return Node::Empty;
     }
-    if sets::same(lo, hi) {
+    if lo == hi {
         if least::is_view(words, n, ranks, lo) {
             return Node::View(lo);
         }
@@ -73,26 +67,29 @@ pub fn visit(words: &[u64], n: usize, ranks: &[u64], index: &Index, w: Work, b: 
 }
 
 // A view within the bounds b, or none; w is what is to be done before the bounds are at rest.
-pub fn probe(words: &[u64], n: usize, ranks: &[u64], index: &Index, w: Work, b: Bounds) -> Answer
+pub fn probe(
+    words: &[u64],
+    n: usize,
+    ranks: &[u64],
+    index: &Index,
+    w: Work,
+    b: Bounds,
+) -> Option<Pair>
     requires { (n * 8 ≤ length words.now) × (length ranks.now ≤ 64) × Chains words.now n index.now }
     ensures { Probed words.now n ranks.now b result }
 {
-    let x = visit(words, n, ranks, index, w, b);
-    match x {
-        Node::View(v) => Answer::Found(v),
-        Node::Empty => Answer::Nothing,
+    match visit(words, n, ranks, index, w, b) {
+        Node::View(v) => Some(v),
+        Node::Empty => None,
         Node::Open(c, m, live) => {
             let o = bounds::out(c, m);
             let t = index::among(index, live, c, o);
-            let a = probe(words, n, ranks, index, t, o);
-            match a {
-                Answer::Found(v) => Answer::Found(v),
-                Answer::Nothing => {
-                    let p = bounds::into(c, m);
-                    let t = index::among(index, live, c, p);
-                    probe(words, n, ranks, index, t, p)
-                }
+            if let Some(v) = probe(words, n, ranks, index, t, o) {
+                return Some(v);
             }
+            let p = bounds::into(c, m);
+            let t = index::among(index, live, c, p);
+            probe(words, n, ranks, index, t, p)
         }
     }
 }
@@ -124,15 +121,13 @@ pub fn attempt(
     if fuel == 0 {
         return Outcome::Stopped;
     }
-    let x = visit(words, n, ranks, index, w, b);
-    match x {
+    match visit(words, n, ranks, index, w, b) {
         Node::View(v) => Outcome::Has(v),
         Node::Empty => Outcome::Lacks(fuel - 1),
         Node::Open(c, m, live) => {
             let o = bounds::out(c, m);
             let t = index::among(index, live, c, o);
-            let a = attempt(words, n, ranks, index, t, o, fuel - 1);
-            match a {
+            match attempt(words, n, ranks, index, t, o, fuel - 1) {
                 Outcome::Has(v) => Outcome::Has(v),
                 Outcome::Stopped => Outcome::Stopped,
                 Outcome::Lacks(left) => {
@@ -153,7 +148,7 @@ pub fn probe_shaved(
     index: &Index,
     w: Work,
     b: Bounds,
-) -> Answer
+) -> Option<Pair>
     requires { (n * 8 ≤ length words.now) × (length ranks.now ≤ 64) × Chains words.now n index.now }
     ensures { Probed words.now n ranks.now b result }
 {
@@ -163,14 +158,20 @@ pub fn probe_shaved(
 }
 
 // The same as probe: from shaved bounds where the plain search has used up its fuel.
-pub fn ask(words: &[u64], n: usize, ranks: &[u64], index: &Index, w: Work, b: Bounds) -> Answer
+pub fn ask(
+    words: &[u64],
+    n: usize,
+    ranks: &[u64],
+    index: &Index,
+    w: Work,
+    b: Bounds,
+) -> Option<Pair>
     requires { (n * 8 ≤ length words.now) × (length ranks.now ≤ 64) × Chains words.now n index.now }
     ensures { Probed words.now n ranks.now b result }
 {
-    let a = attempt(words, n, ranks, index, w, b, FUEL);
-    match a {
-        Outcome::Has(v) => Answer::Found(v),
-        Outcome::Lacks(_) => Answer::Nothing,
+    match attempt(words, n, ranks, index, w, b, FUEL) {
+        Outcome::Has(v) => Some(v),
+        Outcome::Lacks(_) => None,
         Outcome::Stopped => probe_shaved(words, n, ranks, index, w, b),
     }
 }

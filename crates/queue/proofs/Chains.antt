@@ -59,9 +59,9 @@ module _ (index : List ℕ) (r : Masks) (k : ℕ) where
   pub chained-not : (index' : List ℕ) → false ≡ true → Chained index r k index'
   chained-not index' e = absurd (clash e)
 
-  pub chained-one : (s i : ℕ) (m : Pair) (w : Bool) (index' : List ℕ) → s < 2 → i < 64 → m ≡ one_of s i → Decides w (r.head ≡ m) → not w ≡ false
+  pub chained-one : (s i : ℕ) (m : Pair) (w : Bool) (index' : List ℕ) → s < 2 → i < 64 → m ≡ one_of s i → Decides w (r.head ≡ m) → w ≡ true
       → index' ≡ set (set index (next_at k) (get_or index (first_at s i) 0)) (first_at s i) k → ◌≡◌ {A = Bool} true true → Chained index r k index'
-  chained-one s i m w index' hs hi em d e ei t = headed s i hs hi (d.yes (not-false w e) ∙ em) ei
+  chained-one s i m w index' hs hi em d e ei t = headed s i hs hi (d.yes e ∙ em) ei
 
 -- ---- chains grow from the last rule to the first
 module _ (ws : List ℕ) (n : ℕ) where
@@ -132,13 +132,13 @@ module _ (ws : List ℕ) (n : ℕ) where
 -- ---- all rules
 module _ (ws : List ℕ) (n : ℕ) where
   -- Rule k is the next, going down; w says whether every rule so far has one conclusion for its head, or none.
-  pub chains-turn : (index index' : List ℕ) → length index ≡ index_length → (k l w : ℕ) → l ≡ k - 1 → 0 < k → k ≤ n → n ≤ 256 → (w ≡ 1 → ChainsFrom ws n index k) → (r : Masks) → r ≡ masks_at ws l
-      → (z : Bool) → (z ≡ true → Chained index r l index') → not z ≡ false → w ≡ 1 → ChainsFrom ws n index' l
+  pub chains-turn : (index index' : List ℕ) → length index ≡ index_length → (k l : ℕ) (w : Bool) → l ≡ k - 1 → 0 < k → k ≤ n → n ≤ 256 → (w ≡ true → ChainsFrom ws n index k) → (r : Masks) → r ≡ masks_at ws l
+      → (z : Bool) → (z ≡ true → Chained index r l index') → not z ≡ false → w ≡ true → ChainsFrom ws n index' l
   chains-turn index index' long k l w el p h few c r er z f e ew =
       let ek : k ≡ l + 1 = omega arith in
       chain_more ws n index long l (omega arith) (rw ek at (c ew)) r er index' (f (not-false z e))
 
-  pub chains-done : (index : List ℕ) (k w : ℕ) → k ≤ 0 → (w ≡ 1 → ChainsFrom ws n index k) → w ≡ 1 → ChainsFrom ws n index 0
+  pub chains-done : (index : List ℕ) (k : ℕ) (w : Bool) → k ≤ 0 → (w ≡ true → ChainsFrom ws n index k) → w ≡ true → ChainsFrom ws n index 0
   chains-done index k w h c e = let q : k ≡ 0 = omega arith in rw q at (c e)
 
 -- The two words between the chains and the rows.

@@ -5,17 +5,16 @@ use mathlib.Core.List.{List}
 use mathlib.Core.Logic.{◌⊎◌, inl, inr, ⊎_elim}
 use Prim.Native.Nat.{ℕ, zero, suc, ◌+◌, ◌-◌, ◌^◌, ◌<◌, ◌≤◌}
 use native.Mathlib.Omega.{arith}
-use borrow.Author.Tests.{eqb-true, eqb-false, eq-eqb, ne_eqb}
 use lib.Bits.{bit_or}
 use lib.ListN.{length, get_or, set}
 use lib.Seq.{get_or-set_same, get_or-set_other}
 use Rattle.logic.proofs.Decide.{holds-or-not, decides_eq}
 use Rattle.sets.specs.declared.Pair.{Pair}
-use Rattle.sets.specs.Sets.{bit_of, Within, without, Lowest}
+use Rattle.sets.specs.Sets.{bit_of, Within, without}
 use Rattle.sets.specs.Pairs.{Sub, Off, minus_of}
-use Rattle.sets.proofs.Digits.{bit-zero, bit-single, bit-lt, bit-or, bit-without, lt-or-le}
-use Rattle.sets.proofs.Words.{single-has, or_l, minus-sub, sub-le}
-use Rattle.sets.proofs.Lowest.{lowest-some}
+use Rattle.sets.proofs.Digits.{bit-zero, bit-lt, bit-or, lt-or-le}
+use Rattle.sets.proofs.Words.{single-has, or_l}
+use Rattle.sets.proofs.Lowest.{own-digit, fewer-has}
 use Rattle.masks.specs.declared.Masks.{Masks}
 use Rattle.masks.specs.declared.Bounds.{Bounds}
 use Rattle.masks.specs.Views.{masks_at, Fires}
@@ -26,31 +25,7 @@ use Rattle.queue.specs.Places.{row_at, rows_place}
 use Rattle.queue.specs.Chains.{Rows, Named, Grown, Put, HeadsPut, RowsPut, Seen, idle, sole, more, Weighed, passed, counted}
 use Rattle.queue.proofs.Chains.{nobody-one, nobody-several, one-several, same-one}
 
--- ---- a word and its lowest member
-own-digit : (i : ℕ) → bit_of (2 ^ i) i ≡ 1
-own-digit i = eqb-true (bit_of (2 ^ i) i) 1 (bit-single i i ∙ eq-eqb i i refl)
-
-other-digit : (i j : ℕ) → (j ≡ i → ⊥) → bit_of (2 ^ i) j ≡ 0
-other-digit i j f = let n = eqb-false (bit_of (2 ^ i) j) 1 (bit-single i j ∙ ne_eqb i j (λ e. f (sym e))) in let l = bit-lt (2 ^ i) j in omega arith
-
--- A word that is not 0 has a lowest member.
-pub low-some : (w i : ℕ) → (w ≡ 0 → ⊥) → w < 2 ^ 64 → i ≤ 64 → Lowest w i → i < 64
-low-some w i f h m l = lowest-some w i l (omega arith) h m
-
-module _ (w w' i : ℕ) (e : w' ≡ without w (2 ^ i)) where
-  -- Without a member a word is less.
-  pub fewer-less : bit_of w i ≡ 1 → w' < w
-  fewer-less h =
-      let le = sub-le (without w (2 ^ i)) w (minus-sub w (2 ^ i)) in
-      let d = bit-without w (2 ^ i) i in
-      let o = own-digit i in
-      let ne : without w (2 ^ i) ≡ w → ⊥ = λ q. let z = ap (λ (x : ℕ). bit_of x i) q in omega arith in
-      rw e (omega arith)
-
-  -- The others stay.
-  fewer-has : (j : ℕ) → (j ≡ i → ⊥) → bit_of w j ≡ 1 → bit_of w' j ≡ 1
-  fewer-has j f h = let d = bit-without w (2 ^ i) j in let o = other-digit i j f in rw e (omega arith)
-
+-- ---- a word
 no_member : {P : Type 0} (w j : ℕ) → w ≡ 0 → bit_of w j ≡ 1 → P
 no_member w j e h = let z = bit-zero j in let y = rw e at h in absurd (omega arith)
 

@@ -1,13 +1,14 @@
 // The rules by their heads: for each conclusion a chain of the rules that give it, in rising order, up to the first rule with
 // alternatives, and a row of those from there on. What follows for a conclusion's support is proved from the chains and rows.
-ghost use Rattle.std.specs.Prelude.{◌≡◌, true, ◌+◌, ◌*◌, ◌<◌, ◌≤◌, length, get_or};
-ghost use Rattle.bounds.specs.Singles.{one_of};
+ghost use Rattle.std.specs.Prelude.{◌≡◌, true, ◌+◌, ◌*◌, ◌<◌, ◌≤◌, length, get_or, IfSome};
+ghost use Rattle.bounds.specs.Singles.{number_of, one_of};
 ghost use Rattle.bounds.specs.Sound.{Keeps, Ruled};
 ghost use Rattle.queue.specs.Places.{whole_place, rows_place, index_length};
 ghost use Rattle.queue.specs.Chains.{ChainsFrom, Chains, Chained, Named, Put, HeadsPut, RowsPut, Seen, Counted, Weighed, FiringFor};
 
 use crate::index::Index;
 use crate::{index, waiting};
+use bounds::Part;
 use masks::{Bounds, Masks};
 use sets::Pair;
 
@@ -26,23 +27,23 @@ pub const CUT: usize = WHOLE + 1;
 pub const ROWS: usize = CUT + 1;
 
 // The word in which a conclusion of x stands.
-pub fn side(x: Pair) -> u64
-    ensures { result < 2 }
+pub fn side(x: Pair) -> Part
+    ensures { number_of result < 2 }
 {
     if x.held != 0 {
-        return bounds::HELD;
+        return Part::Held;
     }
-    bounds::DENIED
+    Part::Denied
 }
 
-// The place of a conclusion of x in that word, 64 if x has none.
-pub fn place(x: Pair) -> u64
-    ensures { result ≤ 64 }
+// The place of a conclusion of x in that word, if x has one.
+pub fn place(x: Pair) -> Option<u64>
+    ensures { IfSome result (λ i. i < 64) }
 {
     if x.held != 0 {
-        return sets::low(x.held);
+        return sets::first(x.held);
     }
-    sets::low(x.denied)
+    sets::first(x.denied)
 }
 
 // Puts rule k before the rules with its head; whether that is one conclusion or none.
@@ -54,14 +55,13 @@ pub fn chain(index: &mut [u64], r: Masks, k: usize) -> bool
         return true;
     }
     let s = side(r.head);
-    let i = place(r.head);
-    if 64 <= i {
+    let Some(i) = place(r.head) else {
+        return false;
+    };
+    if r.head != bounds::one(s, i) {
         return false;
     }
-    if !sets::same(r.head, bounds::one(s, i)) {
-        return false;
-    }
-    let at = FIRST + (s * 64 + i) as usize;
+    let at = FIRST + (s.number() * 64 + i) as usize;
     index[NEXT + k] = index[at];
     index[at] = k as u64;
     true
@@ -71,11 +71,7 @@ pub fn chain(index: &mut [u64], r: Masks, k: usize) -> bool
 pub fn clear(index: &mut [u64], n: usize)
     requires { length index.old ≡ index_length }
 {
-    let mut k = FIRST;
-    while k < NEXT {
-        index[k] = n as u64;
-        k += 1;
-    }
+    index[FIRST..NEXT].fill(n as u64);
 }
 
 // How many rules there are before the first with alternatives.
@@ -83,29 +79,25 @@ pub fn simple(words: &[u64], n: usize) -> usize
     requires { n * 8 ≤ length words.now }
     ensures { result ≤ n }
 {
-    let mut k = 0;
-    while k < n {
+    for k in 0..n {
         let r = masks::masks_at(words, k);
         if !masks::lone(r.head) {
             return k;
         }
-        k += 1;
     }
     n
 }
 
-// Chains the first n rules, from the last to the first.
-pub fn chained(words: &[u64], n: usize, index: &mut [u64]) -> u64
+// Chains the first n rules, from the last to the first; whether each has one conclusion for its head, or none.
+pub fn chained(words: &[u64], n: usize, index: &mut [u64]) -> bool
     requires { (n * 8 ≤ length words.now) × (n ≤ 256) × (length index.old ≡ index_length) }
-    ensures { result ≡ 1 → ChainsFrom words.now n index.new 0 }
+    ensures { result ≡ true → ChainsFrom words.now n index.new 0 }
 {
     clear(index, n);
-    let mut whole = 1;
-    let mut k = n;
-    while 0 < k {
-        k -= 1;
+    let mut whole = true;
+    for k in (0..n).rev() {
         if !chain(index, masks::masks_at(words, k), k) {
-            whole = 0;
+            whole = false;
         }
     }
     whole
@@ -117,12 +109,8 @@ pub fn put(index: &mut [u64], from: usize, m: u64, j: u64)
     ensures { Put index.old from m j index.new }
 {
     let bit = 1 << j;
-    let mut w = m;
-    while w != 0 {
-        let i = sets::low(w);
-        let at = from + i as usize;
-        index[at] = index[at] | bit;
-        w = waiting::cleared(w, i);
+    for i in sets::members(m) {
+        index[from + i as usize] |= bit;
     }
 }
 
@@ -143,10 +131,8 @@ pub fn rows(words: &[u64], n: usize, c: usize, index: &mut [u64])
     if c + 64 < n {
         return;
     }
-    let mut k = c;
-    while k < n {
+    for k in c..n {
         put_heads(index, masks::masks_at(words, k), (k - c) as u64);
-        k += 1;
     }
 }
 
@@ -159,7 +145,7 @@ pub fn chains(words: &[u64], n: usize, index: &mut [u64])
     let whole = chained(words, c, index);
     rows(words, n, c, index);
     index[CUT] = c as u64;
-    index[WHOLE] = whole;
+    index[WHOLE] = u64::from(whole);
 }
 
 // The rules that can give a conclusion within bounds: none; one, and which; perhaps more.
@@ -184,18 +170,17 @@ pub fn with_rule(r: Masks, b: Bounds, k: usize, g: Givers) -> Givers
 }
 
 // Of the first n rules, which are in chains if the index says so, those that can give the conclusion at place i of word s.
-pub fn count_givers(words: &[u64], n: usize, index: &Index, s: u64, i: u64, b: Bounds) -> Givers
-    requires { (n * 8 ≤ length words.now) × (n ≤ 256) × (get_or index.now whole_place 0 ≡ 1 → ChainsFrom words.now n index.now 0) × (s < 2) × (i < 64) }
-    ensures { Seen words.now n n (one_of s i) b result }
+pub fn count_givers(words: &[u64], n: usize, index: &Index, s: Part, i: u64, b: Bounds) -> Givers
+    requires { (n * 8 ≤ length words.now) × (n ≤ 256) × (get_or index.now whole_place 0 ≡ 1 → ChainsFrom words.now n index.now 0) × (number_of s < 2) × (i < 64) }
+    ensures { Seen words.now n n (one_of (number_of s) i) b result }
 {
     if index[WHOLE] != 1 {
         return Givers::Several;
     }
     let m = bounds::one(s, i);
     let mut g = Givers::Nobody;
-    let mut k = index[FIRST + (s * 64 + i) as usize] as usize;
-    let mut turn: u64 = 0;
-    while turn < 256 {
+    let mut k = index[FIRST + (s.number() * 64 + i) as usize] as usize;
+    for _ in 0..256 {
         if n <= k {
             return g;
         }
@@ -211,7 +196,6 @@ pub fn count_givers(words: &[u64], n: usize, index: &Index, s: u64, i: u64, b: B
             _ => {}
         }
         k = index[NEXT + k] as usize;
-        turn += 1;
     }
     Givers::Several
 }
@@ -243,29 +227,26 @@ pub fn more_givers(
     ensures { Seen words.now n n m b result }
 {
     let mut h = g;
-    let mut w = row;
-    while w != 0 {
+    for i in sets::members(row) {
         match h {
             Givers::Several => {
                 return h;
             }
             _ => {}
         }
-        let i = sets::low(w);
         let k = c + i as usize;
         if n <= k {
             return Givers::Several;
         }
         h = weighed(masks::masks_at(words, k), b, m, k, h);
-        w = waiting::cleared(w, i);
     }
     h
 }
 
 // The rules that can give the conclusion at place i of word s; perhaps several if more rules follow the chains than a row holds.
-pub fn all_givers(words: &[u64], n: usize, index: &Index, s: u64, i: u64, b: Bounds) -> Givers
-    requires { (n * 8 ≤ length words.now) × Chains words.now n index.now × (s < 2) × (i < 64) }
-    ensures { Seen words.now n n (one_of s i) b result }
+pub fn all_givers(words: &[u64], n: usize, index: &Index, s: Part, i: u64, b: Bounds) -> Givers
+    requires { (n * 8 ≤ length words.now) × Chains words.now n index.now × (number_of s < 2) × (i < 64) }
+    ensures { Seen words.now n n (one_of (number_of s) i) b result }
 {
     let c = index[CUT] as usize;
     let g = count_givers(words, c, index, s, i, b);
@@ -276,7 +257,7 @@ pub fn all_givers(words: &[u64], n: usize, index: &Index, s: u64, i: u64, b: Bou
         return Givers::Several;
     }
     let m = bounds::one(s, i);
-    let row = index[ROWS + (s * 64 + i) as usize];
+    let row = index[ROWS + (s.number() * 64 + i) as usize];
     more_givers(words, n, c, row, m, b, g)
 }
 
@@ -294,8 +275,8 @@ pub fn sole_giver(r: Masks, m: Pair, b: Bounds) -> Bounds
 }
 
 // A conclusion that no rule can give is out; a sure one makes the rule fire that alone can give it. (d), (B2)
-pub fn support(words: &[u64], n: usize, index: &Index, s: u64, i: u64, b: Bounds) -> Bounds
-    requires { (n * 8 ≤ length words.now) × Chains words.now n index.now × (s < 2) × (i < 64) }
+pub fn support(words: &[u64], n: usize, index: &Index, s: Part, i: u64, b: Bounds) -> Bounds
+    requires { (n * 8 ≤ length words.now) × Chains words.now n index.now × (number_of s < 2) × (i < 64) }
     ensures { Keeps (Ruled words.now n) b result }
 {
     let m = bounds::one(s, i);
@@ -310,15 +291,7 @@ pub fn support(words: &[u64], n: usize, index: &Index, s: u64, i: u64, b: Bounds
 // The conclusions x without the one at that place.
 pub fn others(x: Pair) -> Pair {
     if x.held != 0 {
-        return Pair {
-            taken: 0,
-            held: waiting::fewer(x.held),
-            denied: x.denied,
-        };
+        return Pair::of_statements(waiting::fewer(x.held), x.denied);
     }
-    Pair {
-        taken: 0,
-        held: 0,
-        denied: waiting::fewer(x.denied),
-    }
+    Pair::of_statements(0, waiting::fewer(x.denied))
 }

@@ -23,29 +23,20 @@ pub fn added(index: &Index, row: u64, t: Waiting) -> Waiting
     requires { row < 192 }
 {
     let at = (row * 4) as usize;
-    Waiting {
-        a: t.a | index[at],
-        b: t.b | index[at + 1],
-        c: t.c | index[at + 2],
-        d: t.d | index[at + 3],
+    let mut o = t;
+    for (k, word) in o.words.iter_mut().enumerate() {
+        *word |= index[at + k];
     }
+    o
 }
 
 // The rules of t with those of the rows of m's members, counted from row `from`.
 pub fn rows(index: &Index, from: u64, m: u64, t: Waiting) -> Waiting
     requires { from ≤ 128 }
 {
-    let mut rest = m;
     let mut o = t;
-    let mut k: u64 = 0;
-    while k < 64 {
-        let i = sets::low(rest);
-        if 64 <= i {
-            return o;
-        }
+    for i in sets::members(m) {
         o = added(index, from + i, o);
-        rest = waiting::cleared(rest, i);
-        k += 1;
     }
     o
 }
@@ -83,17 +74,8 @@ pub fn put(index: &mut Index, from: u64, m: u64, k: u64)
     requires { (from ≤ 128) × (k < 256) }
 {
     let bit = 1 << (k % 64);
-    let mut rest = m;
-    let mut j: u64 = 0;
-    while j < 64 {
-        let i = sets::low(rest);
-        if 64 <= i {
-            return;
-        }
-        let at = ((from + i) * 4 + k / 64) as usize;
-        index[at] = index[at] | bit;
-        rest = waiting::cleared(rest, i);
-        j += 1;
+    for i in sets::members(m) {
+        index[((from + i) * 4 + k / 64) as usize] |= bit;
     }
 }
 
@@ -110,18 +92,12 @@ pub fn put_rule(index: &mut Index, r: Masks, k: u64)
 pub fn fed(words: &[u64], n: usize, c: Pair) -> Pair
     requires { n * 8 ≤ length words.now }
 {
-    let mut d = Pair {
-        taken: 0,
-        held: 0,
-        denied: 0,
-    };
-    let mut k = 0;
-    while k < n {
+    let mut d = Pair::EMPTY;
+    for k in 0..n {
         let r = masks::masks_at(words, k);
         if !sets::apart(r.need, c) {
             d = sets::join(d, r.head);
         }
-        k += 1;
     }
     d
 }
@@ -130,37 +106,22 @@ pub fn fed(words: &[u64], n: usize, c: Pair) -> Pair
 pub fn circular(words: &[u64], n: usize) -> bool
     requires { n * 8 ≤ length words.now }
 {
-    let all = 0xffff_ffff_ffff_ffff;
-    let mut c = Pair {
-        taken: 0,
-        held: all,
-        denied: all,
-    };
-    let mut k: u64 = 0;
-    while k < 128 {
+    let mut c = Pair::of_statements(u64::MAX, u64::MAX);
+    for _ in 0..128 {
         let d = sets::meet(c, fed(words, n, c));
-        if sets::same(c, d) {
-            return c.held | c.denied != 0;
+        if c == d {
+            return c != Pair::EMPTY;
         }
         c = d;
-        k += 1;
     }
     true
 }
 
-// 1 if a rule has alternatives, else 0.
-pub fn branching(words: &[u64], n: usize) -> u64
+// A rule has alternatives.
+pub fn branching(words: &[u64], n: usize) -> bool
     requires { n * 8 ≤ length words.now }
 {
-    let mut k = 0;
-    while k < n {
-        let r = masks::masks_at(words, k);
-        if !masks::lone(r.head) {
-            return 1;
-        }
-        k += 1;
-    }
-    0
+    heads::simple(words, n) < n
 }
 
 // Fills an index of zeros from the first n rules.
@@ -168,16 +129,14 @@ pub fn fill(words: &[u64], n: usize, index: &mut Index)
     requires { (n * 8 ≤ length words.now) × (n ≤ 256) }
     ensures { Chains words.now n index.new }
 {
-    let mut k: usize = 0;
-    while k < n {
+    for k in 0..n {
         put_rule(index, masks::masks_at(words, k), k as u64);
-        k += 1;
     }
     if circular(words, n) {
         index[CIRCLE] = 1;
     }
     if index[CIRCLE] != 0 {
-        index[KNOT] = branching(words, n);
+        index[KNOT] = u64::from(branching(words, n));
     }
     heads::chains(words, n, index);
 }

@@ -32,7 +32,7 @@ pub struct Rest {
 
 // The word has two members at least.
 pub fn several(x: u64) -> bool {
-    waiting::fewer(x) != 0
+    sets::size(x) > 1
 }
 
 // The rule says nothing new within the bounds. No contract depends on this: a wrong answer costs time, not truth.
@@ -102,10 +102,11 @@ pub fn stepped(words: &[u64], n: usize, cut: u64, q: State) -> State
 {
     let bounds = q.bounds;
     let mut work = q.work;
-    let mut k: u64 = 0;
-    while k < 256 {
-        let j = waiting::next(work.rules);
-        if n <= j as usize {
+    for _ in 0..256 {
+        let Some(j) = waiting::next(work.rules) else {
+            return State { bounds, work };
+        };
+        if j as usize >= n {
             return State { bounds, work };
         }
         let r = masks::masks_at(words, j as usize);
@@ -117,7 +118,6 @@ pub fn stepped(words: &[u64], n: usize, cut: u64, q: State) -> State
                 work,
             };
         }
-        k += 1;
     }
     State { bounds, work }
 }
@@ -141,18 +141,15 @@ pub fn answered(words: &[u64], n: usize, index: &Index, q: State) -> State
 {
     let b = q.bounds;
     let mut asked = sets::meet(q.work.asked, b.hi);
-    let mut k: u64 = 0;
-    while k < 128 {
-        let i = heads::place(asked);
-        if 64 <= i {
+    for _ in 0..128 {
+        let Some(i) = heads::place(asked) else {
             return asking(q, b, asked);
-        }
+        };
         let o = heads::support(words, n, index, heads::side(asked), i, b);
         asked = heads::others(asked);
-        if !bounds::unchanged(b, o) {
+        if b != o {
             return asking(q, o, asked);
         }
-        k += 1;
     }
     asking(q, b, asked)
 }
@@ -163,7 +160,7 @@ pub fn turn(words: &[u64], n: usize, index: &Index, q: State) -> State
     ensures { Keeps (Ruled words.now n) q.bounds result.bounds }
 {
     let p = stepped(words, n, index[heads::CUT], q);
-    if !bounds::unchanged(q.bounds, p.bounds) {
+    if q.bounds != p.bounds {
         return p;
     }
     answered(words, n, index, p)
@@ -174,7 +171,7 @@ pub fn turn(words: &[u64], n: usize, index: &Index, q: State) -> State
 pub fn moved(index: &Index, b: Bounds, p: State) -> State
     ensures { Keeps Coherent p.bounds result.bounds }
 {
-    if bounds::unchanged(b, p.bounds) {
+    if b == p.bounds {
         return p;
     }
     let o = bounds::coheres(p.bounds);
@@ -191,8 +188,10 @@ pub fn moved(index: &Index, b: Bounds, p: State) -> State
 
 // Nothing is to be done: no rule waits, and no conclusion that is possible asks for support.
 pub fn idle(n: usize, q: State) -> bool {
-    if (waiting::next(q.work.rules) as usize) < n {
-        return false;
+    if let Some(j) = waiting::next(q.work.rules) {
+        if (j as usize) < n {
+            return false;
+        }
     }
     let x = sets::meet(q.work.asked, q.bounds.hi);
     x.held | x.denied == 0
@@ -204,8 +203,7 @@ pub fn run(words: &[u64], n: usize, index: &Index, from: State) -> State
     ensures { Keeps (Ruled words.now n) from.bounds result.bounds }
 {
     let mut q = from;
-    let mut k: u64 = 0;
-    while k < 100000 {
+    for _ in 0..100000 {
         if idle(n, q) {
             return q;
         }
@@ -213,7 +211,6 @@ pub fn run(words: &[u64], n: usize, index: &Index, from: State) -> State
         if !sets::within(q.bounds.lo, q.bounds.hi) {
             return q;
         }
-        k += 1;
     }
     q
 }
@@ -224,7 +221,7 @@ pub fn whole(words: &[u64], n: usize, ranks: &[u64], index: &Index, b: Bounds) -
     ensures { Keeps (MaskView words.now n ranks.now) b result }
 {
     let o = bounds::unlinked(words, n, ranks, bounds::levels(ranks, b));
-    if !bounds::unchanged(o, b) {
+    if o != b {
         return o;
     }
     if index[index::CIRCLE] == 0 {
@@ -240,8 +237,7 @@ pub fn propagate(words: &[u64], n: usize, ranks: &[u64], index: &Index, w: Work,
     ensures { Propagated words.now n ranks.now b result.bounds }
 {
     let mut q = State { bounds: b, work: w };
-    let mut k: u64 = 0;
-    while k < 512 {
+    for _ in 0..512 {
         let a = run(words, n, index, q);
         let live = a.work.live;
         let c = a.bounds;
@@ -252,7 +248,7 @@ pub fn propagate(words: &[u64], n: usize, ranks: &[u64], index: &Index, w: Work,
             };
         }
         let o = whole(words, n, ranks, index, c);
-        if bounds::unchanged(c, o) {
+        if c == o {
             return Rest {
                 bounds: bounds::narrowed(b, o),
                 live,
@@ -262,7 +258,6 @@ pub fn propagate(words: &[u64], n: usize, ranks: &[u64], index: &Index, w: Work,
             bounds: o,
             work: index::among(index, live, c, o),
         };
-        k += 1;
     }
     let live = q.work.live;
     Rest {

@@ -1,17 +1,20 @@
 -- The laws of sets on the three words of a pair at once: all that the search needs to know of sets.
-use mathlib.Core.Path.{◌≡◌, ap}
+use mathlib.Core.Path.{◌≡◌, refl, ap, ◌∙◌}
+use mathlib.Core.Bool.{Bool, true, false, not, ◌&&◌}
+use borrow.Author.Tests.{eq-eqb}
 use mathlib.Core.Logic.{inl, inr, ⊎_elim}
 use Prim.Native.Nat.{ℕ, ◌^◌}
 use native.Mathlib.Nat.{le_refl, le_trans}
 use native.Mathlib.Omega.{arith}
-use lib.Bits.{bit_and, bit_or, bit_xor}
+use lib.Bits.{bit_and, bit_or}
 use lib.Dec.{eqb}
 use Rattle.logic.specs.Tests.{Decides}
+use Rattle.logic.proofs.Decide.{decided}
 use Rattle.sets.specs.declared.Pair.{Pair}
 use Rattle.sets.specs.Sets.{without}
 use Rattle.sets.specs.Pairs.{Sub, Off, join_of, meet_of, minus_of, Atom}
 use Rattle.sets.proofs.Words as N
-use Rattle.sets.proofs.Words.{decide, single, none-sub, none-off, minus-zero, zero_minus, and_none, none-and, same_word, word_same, or-zero}
+use Rattle.sets.proofs.Words.{decide, single, none-sub, none-off, minus-zero, zero_minus, and_none, none-and, or-zero}
 
 -- ---- tests
 -- the three words of a test
@@ -36,11 +39,20 @@ apart-is a b =
 pub pair : (a b : Pair) → a.held ≡ b.held → a.denied ≡ b.denied → a.taken ≡ b.taken → a ≡ b
 pair a b p q r i = record { held = p i; denied = q i; taken = r i }
 
-pub same-is : (a b : Pair) → Decides (eqb (bit_or (bit_or (bit_xor a.held b.held) (bit_xor a.denied b.denied)) (bit_xor a.taken b.taken)) 0) (a ≡ b)
-same-is a b =
-    decide _ (a ≡ b)
-    (λ e. let p = or-none _ _ _ e in pair a b (same_word _ _ p.0) (same_word _ _ p.1.0) (same_word _ _ p.1.1))
-    (λ f. none_or _ _ _ (word_same _ _ (ap (λ (x : Pair). x.held) f)) (word_same _ _ (ap (λ (x : Pair). x.denied) f)) (word_same _ _ (ap (λ (x : Pair). x.taken) f)))
+-- What `==` computes decides whether two pairs are equal.
+pub equal-is : {a b : Pair} {o : Bool} → o ≡ (eqb a.taken b.taken && (eqb a.held b.held && eqb a.denied b.denied)) → Decides o (a ≡ b)
+equal-is {a} {b} {o} e = rw e (decided yes (λ f. rw f (cc (eq-eqb b.taken b.taken refl, eq-eqb b.held b.held refl, eq-eqb b.denied b.denied refl))))
+  where
+    yes : (eqb a.taken b.taken && (eqb a.held b.held && eqb a.denied b.denied)) ≡ true → a ≡ b
+    yes f = grind arith
+
+-- The same of `!=`.
+pub equal-not : {a b : Pair} {o : Bool} → o ≡ not (eqb a.taken b.taken && (eqb a.held b.held && eqb a.denied b.denied)) → Decides (not o) (a ≡ b)
+equal-not {a} {b} {o} e = equal-is (ap (λ (x : Bool). not x) e ∙ twice (eqb a.taken b.taken && (eqb a.held b.held && eqb a.denied b.denied)))
+  where
+    twice : (x : Bool) → not (not x) ≡ x
+    twice true = refl
+    twice false = refl
 
 -- ---- laws
 pub sub_refl : (a : Pair) → Sub a a

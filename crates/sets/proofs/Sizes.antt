@@ -2,7 +2,7 @@
 use mathlib.Core.Path.{◌≡◌, refl, sym, ap, ◌∙◌}
 use mathlib.Core.Logic.{◌⊎◌, inl, inr, ⊎_elim}
 use Prim.Native.Nat.{ℕ, zero, suc, ◌+◌, ◌-◌, ◌*◌, ◌/◌, ◌%◌, ◌^◌, ◌<◌, ◌≤◌}
-use native.Mathlib.Nat.{add-zero, add-suc}
+use native.Mathlib.Nat.{add-zero, add-suc, mod-eq_of_lt}
 use native.Mathlib.Omega.{arith}
 use lib.Pow.{high, low, pow_pos, pow_mono, shr-shr, mod-pow-add}
 use Rattle.logic.proofs.Decide.{decides_eq, holds-or-not}
@@ -71,6 +71,15 @@ size-least (suc k) a =
 pub size-empty : (k a : ℕ) → size_to k a ≡ 0 → a % 2 ^ k ≡ 0
 size-empty zero a e = omega arith
 size-empty (suc k) a e = ⊎_elim (λ c. c.1 ∙ size-empty k a (sym c.0 ∙ e)) (λ c. absurd (omega arith)) (digit-more k a)
+
+-- A set of one number at most.
+one-member : (k a : ℕ) → size_to k a ≤ 1 → (a % 2 ^ k ≡ 0) ⊎ ((i : ℕ) × (a % 2 ^ k ≡ 2 ^ i))
+one-member zero a h = inl (omega arith)
+one-member (suc k) a h = ⊎_elim (λ c. rw c.1 (one-member k a (omega arith))) (λ c. inr (k, let e = size-empty k a (omega arith) in omega arith)) (digit-more k a)
+
+pub one-member-most : (a : ℕ) → a < 2 ^ 64 → size a ≤ 1 → (a ≡ 0) ⊎ ((i : ℕ) × (a ≡ 2 ^ i))
+unfolding size
+one-member-most a l h = let e : a % 2 ^ 64 ≡ a = mod-eq_of_lt l in rw e at (one-member 64 a h)
 
 -- ---- sets in parts
 -- The first k numbers alone count.

@@ -4,7 +4,7 @@ use mathlib.Core.Bool.{Bool, true, false, not}
 use mathlib.Core.Logic.{◌⊎◌, inl, inr}
 use Prim.Native.Nat.{ℕ, zero, suc, ◌+◌, ◌-◌, ◌^◌, ◌<◌, ◌≤◌, max}
 use native.Mathlib.Omega.{arith}
-use lib.Bits.{bit_and, bit_or, bit_xor, or_add_and, and_le_l, and_le_r, xor_add_and, xor_self}
+use lib.Bits.{bit_and, bit_or, or_add_and, and_le_l, and_le_r, xor_add_and}
 use lib.Dec.{eqb}
 use lib.Pow.{pow_pos}
 use borrow.Author.Tests.{eqb-true, eqb-false, eq-eqb, ne_eqb}
@@ -71,12 +71,6 @@ and_none a b e i = let z = ap (λ (x : ℕ). bit_of x i) e ∙ bit-zero i in ome
 
 pub none-and : (a b : ℕ) → Apart a b → bit_and a b ≡ 0
 none-and a b f = no_bits (bit_and a b) (λ i. let q = f i in omega (arith, bit-and a b i))
-
-pub same_word : (a b : ℕ) → bit_xor a b ≡ 0 → a ≡ b
-same_word a b e = omega (arith, xor_add_and a b, and_le_l a b, and_le_r a b)
-
-pub word_same : (a b : ℕ) → a ≡ b → bit_xor a b ≡ 0
-word_same a b e = rw e (xor_self b)
 
 -- A test of a word against zero.
 pub decide : (x : ℕ) (P : Type 0) → (x ≡ 0 → P) → (P → x ≡ 0) → Decides (eqb x 0) P

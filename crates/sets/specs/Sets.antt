@@ -1,5 +1,5 @@
 -- Sets of numbers. A set is a number, and i is worth 2 ^ (i - 1) in it (document 01, 'The order of pairs'). Numbers begin at 1.
-use Rattle.std.specs.Prelude.{ℕ, zero, suc, ◌+◌, ◌-◌, ◌/◌, ◌%◌, ◌^◌, ◌<◌, ◌≤◌, Bool, true, ◌≡◌, eqb}
+use Rattle.std.specs.Prelude.{ℕ, zero, suc, ◌+◌, ◌-◌, ◌/◌, ◌%◌, ◌^◌, ◌<◌, ◌≤◌, Bool, true, ◌≡◌, eqb, Option, Some, None}
 use Rattle.std.specs.Int.Bits.{bit_and, bit_xor}
 
 -- Number i is in the set a.
@@ -47,3 +47,14 @@ without a b = bit_xor a (bit_and a b)
 pub record Lowest (x k : ℕ) : Type 0 where
   pub below : (j : ℕ) → j < k → bit_of x j ≡ 0
   pub member : k < 64 → bit_of x k ≡ 1
+
+-- Of a word's members the lowest stands at place i, and t is what is left without it.
+pub record Taken (s i t : ℕ) : Type 0 where
+  pub small : i < 64
+  pub lowest : Lowest s i
+  pub left : t ≡ without s (2 ^ i)
+
+-- What a step along the members of a word s gives: the place of one of them, or nothing if it has none; t is what is left.
+abbrev pub Gives : ℕ → Option ℕ → ℕ → Type 0
+Gives s None t = s ≡ 0
+Gives s (Some i) t = Taken s i t

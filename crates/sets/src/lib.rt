@@ -3,9 +3,10 @@
 // proofs (lib.Bits); docs/ARCHITECTURE.md says which crates, and for what.
 #![tactic(auto)]
 
-ghost use Rattle.std.specs.Prelude.{◌≡◌, false, not, ℕ, ◌<◌, ◌≤◌, eqb};
+ghost use Rattle.std.specs.Prelude.{◌≡◌, false, not, ℕ, ◌^◌, ◌<◌, ◌≤◌, eqb, MatchOption};
+ghost use Rattle.std.specs.Iterator.{at_most};
 ghost use Rattle.logic.specs.Tests.{Decides, both, either};
-ghost use Rattle.sets.specs.Sets.{member as member_of, Contained, Separate, size as size_of, Lowest};
+ghost use Rattle.sets.specs.Sets.{member as member_of, Contained, Separate, size as size_of, Lowest, Gives, without as without_of};
 ghost use Rattle.sets.specs.Pairs.{join_of, meet_of, minus_of, Sub, Off};
 
 // The set with no number.
@@ -76,13 +77,88 @@ pub fn low(x: u64) -> u64
     u64::trailing_zeros(x) as u64
 }
 
+// The place of the lowest one of a word, if it has one.
+pub fn first(x: u64) -> Option<u64>
+    ensures { MatchOption result (x ≡ 0) (λ i. (i < 64) × Lowest x i) }
+{
+    if x == 0 {
+        return None;
+    }
+    Some(low(x))
+}
+
+// The word without its member at place i.
+pub fn cleared(x: u64, i: u64) -> u64
+    requires { i < 64 }
+    ensures { result ≡ without_of x (2 ^ i) }
+{
+    x ^ (x & (1 << i))
+}
+
+// The places of a word's members, one after the other, from the lowest on.
+#[derive(Clone, Copy, Drop)]
+pub struct Places {
+    pub rest: u64,
+}
+
+impl Iterator for Places {
+    type Item = u64;
+
+    ghost next_gives = { λ s r t. Gives s.rest r t.rest };
+
+    ghost remaining = { λ s. at_most s.rest };
+
+    fn next(&mut self) -> Option<u64> {
+        let i = first(self.rest)?;
+        self.rest = cleared(self.rest, i);
+        Some(i)
+    }
+}
+
+// The places of the members of a word.
+pub fn members(x: u64) -> Places
+    ensures { result.rest ≡ x }
+{
+    Places { rest: x }
+}
+
 // A pair (S, T) as document 01 has it: exceptions taken, statements held, statements denied. Programs in C have the same struct.
 #[repr(C)]
-#[derive(Clone, Copy)]
+#[derive(Clone, Copy, PartialEq, Eq)]
 pub struct Pair {
     pub taken: u64,
     pub held: u64,
     pub denied: u64,
+}
+
+impl Pair {
+    // The pair with nothing in it.
+    pub const EMPTY: Pair = Pair {
+        taken: 0,
+        held: 0,
+        denied: 0,
+    };
+
+    // These exceptions alone.
+    pub fn of_exceptions(taken: u64) -> Pair
+        ensures { result ≡ record { taken = taken; held = 0; denied = 0 } }
+    {
+        Pair {
+            taken,
+            ..Pair::EMPTY
+        }
+    }
+
+    // These statements alone.
+    pub fn of_statements(held: u64, denied: u64) -> Pair
+        ensures { result ≡ record { taken = 0; held = held; denied = denied } }
+    {
+        Pair {
+            taken: 0,
+            held,
+            denied,
+        }
+    }
 }
 
 // What is in a or in b.
@@ -133,11 +209,4 @@ pub fn apart(a: Pair, b: Pair) -> bool
     ensures { Decides result (Off a b) }
 {
     (a.held & b.held) | (a.denied & b.denied) | (a.taken & b.taken) == 0
-}
-
-// The pairs are equal.
-pub fn same(a: Pair, b: Pair) -> bool
-    ensures { Decides result (a ≡ b) }
-{
-    (a.held ^ b.held) | (a.denied ^ b.denied) | (a.taken ^ b.taken) == 0
 }

@@ -1,13 +1,12 @@
-use Prim.Native.Nat.{◌-◌, ◌≤◌}
 use native.Mathlib.Omega.{arith}
 use Rattle.bounds.proofs.Steps.{keeps_same, levels-turn}
 use Rattle.bounds.proofs.levels.Goals as goal
 
 pub loop-a-init : goal.loop-a-init
-loop-a-init c = (omega arith, keeps_same _)
+loop-a-init c = keeps_same _
 
 pub loop-a-preserved : goal.loop-a-preserved
-loop-a-preserved c = (omega arith, levels-turn _ c.loop-a.a _ _ _ (omega arith) c.loop-a.invariant.1 c.level_step-o.ensures)
+loop-a-preserved c = levels-turn _ c.loop-a.a _ _ _ (omega arith) c.loop-a.invariant c.level_step-o.ensures
 
 pub returns : goal.returns
-returns c = c.loop-a.invariant.1
+returns c = c.loop-a.invariant

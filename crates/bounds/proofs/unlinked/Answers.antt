@@ -10,4 +10,4 @@ pub reach-taken-requires : goal.reach-taken-requires
 reach-taken-requires c = ((granted c.lined.ensures (search rules)).room, search rules)
 
 pub returns : goal.returns
-returns c = unlinked _ _ _ _ (granted c.lined.ensures (search rules)) _ _ c.lines_in-m.ensures c.reach-taken.ensures _ c.out.ensures
+returns c = unlinked _ _ _ _ (granted c.lined.ensures (search rules)) _ _ c.lines_in-m.ensures c.reach-taken.ensures _ (rw c.of_exceptions.ensures at c.out.ensures)

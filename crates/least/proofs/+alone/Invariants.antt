@@ -1,5 +1,4 @@
 use Rattle.bounds.proofs.Halves.{room}
-use Prim.Native.Nat.{◌<◌}
 use Rattle.least.proofs.+alone.Given as goal
 
 abbrev pub decreases-alone : goal.decreases-alone

@@ -1,14 +1,13 @@
-use Prim.Native.Nat.{◌-◌, ◌≤◌}
 use native.Mathlib.Omega.{arith}
 use Rattle.bounds.proofs.Steps.{keeps_same, keeps_then}
 use Rattle.least.proofs.Steps.{by_row}
 use Rattle.least.proofs.pass.Goals as goal
 
 pub loop-k-init : goal.loop-k-init
-loop-k-init c = (omega arith, keeps_same _)
+loop-k-init c = keeps_same _
 
 pub loop-k-preserved : goal.loop-k-preserved
-loop-k-preserved c = (omega arith, keeps_then c.loop-k.invariant.1 (by_row c.loop-k.k _ (omega arith) c.row_at.ensures c.step-y.ensures))
+loop-k-preserved c = keeps_then c.loop-k.invariant (by_row c.loop-k.k _ (omega arith) c.row_at.ensures c.step-y.ensures)
 
 pub returns : goal.returns
-returns c = c.loop-k.invariant.1
+returns c = c.loop-k.invariant

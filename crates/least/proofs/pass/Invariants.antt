@@ -1,10 +1,6 @@
-use Prim.Native.Nat.{◌-◌, ◌≤◌}
 use Rattle.bounds.specs.Sound.{Keeps}
 use Rattle.least.specs.Rows.{AnswersRows}
 use Rattle.least.proofs.pass.Given as goal
 
 abbrev pub invariant-loop-k : goal.invariant-loop-k
-invariant-loop-k l = (l.k ≤ l.m) × Keeps (AnswersRows l.rows l.m) l.initial.y l.y
-
-abbrev pub decreases-loop-k : goal.decreases-loop-k
-decreases-loop-k l = l.m - l.k
+invariant-loop-k l = Keeps (AnswersRows l.rows l.m) l.initial.y l.y

@@ -1,4 +1,3 @@
-use Prim.Native.Nat.{◌-◌, ◌<◌, ◌≤◌}
 use native.Mathlib.Omega.{arith}
 use borrow.Author.Count.{below_more}
 use borrow.Author.Rules.{rules}
@@ -14,13 +13,13 @@ pub returns-then-not-within : goal.returns-then-not-within
 returns-then-not-within c = λ e. absurd (clash e)
 
 pub loop-k-init : goal.loop-k-init
-loop-k-init c = (omega arith, λ k l. absurd (omega arith))
+loop-k-init c = λ k l. absurd (omega arith)
 
 pub returns-then-not-closed_at : goal.returns-then-not-closed_at
 returns-then-not-closed_at c = λ e. absurd (clash e)
 
 pub loop-k-preserved : goal.loop-k-preserved
-loop-k-preserved c = let t = c.loop-k-test.true in (omega arith, below_more _ _ c.loop-k.invariant.1 (rw c.masks_at.ensures at (c.closed_at.ensures (not-false _ (search rules)))))
+loop-k-preserved c = let t = c.loop-k-test.true in below_more _ _ c.loop-k.invariant (rw c.masks_at.ensures at (c.closed_at.ensures (not-false _ (search rules))))
 
 pub returns : goal.returns
-returns c = λ e. (search rules, granted c.within.ensures (search rules), λ k l. c.loop-k.invariant.1 k (omega (arith, c.loop-k-test.false)))
+returns c = λ e. (search rules, granted c.within.ensures (search rules), λ k l. c.loop-k.invariant k (omega (arith, c.loop-k-test.false)))

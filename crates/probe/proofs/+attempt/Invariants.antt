@@ -1,4 +1,3 @@
-use Rattle.std.proofs.Common.{◌<◌}
 use Rattle.bounds.proofs.Halves.{room}
 use Rattle.probe.proofs.+attempt.Given as goal
 

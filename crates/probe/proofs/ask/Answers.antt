@@ -3,7 +3,7 @@ use Rattle.std.proofs.Common.{rules}
 use Rattle.probe.proofs.ask.Goals as goal
 
 pub returns-in-Has : goal.returns-in-Has
-returns-in-Has c = asked-has c.attempt-a.ensures _ (search rules)
+returns-in-Has c = asked-has c.attempt.ensures _ (search rules)
 
 pub returns-in-Lacks : goal.returns-in-Lacks
-returns-in-Lacks c = asked-lacks c.attempt-a.ensures c.in-Lacks.field-0 c.in-Lacks.is
+returns-in-Lacks c = asked-lacks c.attempt.ensures c.in-Lacks.field-0 c.in-Lacks.is

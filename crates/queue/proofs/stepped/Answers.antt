@@ -1,10 +1,9 @@
 use Rattle.bounds.proofs.Steps.{keeps_same, by-rule}
 use borrow.Author.Rules.{rules}
-use Prim.Native.Nat.{◌-◌, ◌≤◌}
 use Rattle.queue.proofs.stepped.Goals as goal
 
-pub returns-then-n-j : goal.returns-then-n-j
-returns-then-n-j c = keeps_same _
+pub returns-then-j-n : goal.returns-then-j-n
+returns-then-j-n c = keeps_same _
 
 pub said-requires : goal.said-requires
 said-requires c = c.fires-alive.ensures

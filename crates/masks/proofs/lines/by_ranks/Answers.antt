@@ -1,11 +1,10 @@
-use Prim.Native.Nat.{◌-◌, ◌≤◌}
 use native.Mathlib.Omega.{arith}
 use borrow.Author.Rules.{rules}
 use Rattle.masks.proofs.Steps.{ranks-start, ranks-shifted, ranks-all}
 use Rattle.masks.proofs.lines.by_ranks.Goals as goal
 
 pub loop-a-init : goal.loop-a-init
-loop-a-init c = (omega arith, ranks-start _ _ _)
+loop-a-init c = ranks-start _ _ _
 
 pub overflow_shl-a : goal.overflow_shl-a
 overflow_shl-a c = omega arith
@@ -16,11 +15,8 @@ offset_bounds-ranks-a c = omega arith
 pub bounds-ranks-a : goal.bounds-ranks-a
 bounds-ranks-a c = omega arith
 
-pub loop-a-smaller : goal.loop-a-smaller
-loop-a-smaller c = omega arith
-
 pub loop-a-preserved : goal.loop-a-preserved
-loop-a-preserved c = (omega arith, ranks-shifted _ _ _ _ _ _ (search rules) (search rules) c.loop-a.invariant.1 c.through-p.ensures)
+loop-a-preserved c = ranks-shifted _ _ _ _ _ _ (search rules) (search rules) c.loop-a.invariant c.through-p.ensures
 
 pub returns : goal.returns
-returns c = ranks-all _ _ _ _ _ c.loop-a.invariant.0 (omega arith) c.loop-a.invariant.1
+returns c = ranks-all _ _ _ _ _ c.loop-a.auto.a-end (omega arith) c.loop-a.invariant

@@ -1,20 +1,6 @@
-use Prim.Native.Nat.{◌+◌, ◌-◌, ◌≤◌}
-use native.Mathlib.Omega.{arith}
-use borrow.Author.Rules.{rules}
-use Rattle.masks.proofs.Steps.{chosen_none, chosen-all}
+use Rattle.std.proofs.Common.{rules}
+use Rattle.masks.proofs.Steps.{passing-chosen}
 use Rattle.masks.proofs.lines.lines_in.Goals as goal
 
-pub loop-j-init : goal.loop-j-init
-loop-j-init c = (omega arith, chosen_none _)
-
-pub line_in-m-requires : goal.line_in-m-requires
-line_in-m-requires c = (search rules, search rules)
-
-pub loop-j-smaller : goal.loop-j-smaller
-loop-j-smaller c = omega arith
-
-pub loop-j-preserved : goal.loop-j-preserved
-loop-j-preserved c = (omega arith, c.line_in-m.ensures.next c.loop-j.invariant.1)
-
 pub returns : goal.returns
-returns c = chosen-all _ _ _ _ c.loop-j.invariant.0 (omega arith) c.loop-j.invariant.1
+returns c = passing-chosen _ _ (λ j o h p. search rules) c.passing.ensures

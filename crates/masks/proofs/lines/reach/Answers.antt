@@ -1,6 +1,4 @@
-use Prim.Native.Nat.{◌-◌, ◌^◌}
 use native.Mathlib.Omega.{arith}
-use mathlib.Core.Path.{◌≡◌}
 use borrow.Author.Rules.{rules}
 use Rattle.masks.proofs.Steps.{nothing_yet, larger, reached}
 use Rattle.masks.proofs.lines.reach.Goals as goal

@@ -1,15 +1,15 @@
-use Rattle.std.proofs.Common.{◌-◌, arith}
+use Rattle.bounds.proofs.Singles.{one-atom}
 use Rattle.probe.proofs.Attempts.{shave-none, shave-more}
 use Rattle.probe.proofs.shaving.shaved.Goals as goal
 
-pub loop-i-init : goal.loop-i-init
-loop-i-init c = shave-none _ _ _ _
+pub loop-part-init : goal.loop-part-init
+loop-part-init c = shave-none _ _ _ _
+
+pub tried-r-requires : goal.tried-r-requires
+tried-r-requires c = (c.requires.0, c.requires.1, c.requires.2, rw c.one.ensures (one-atom _ _))
 
 pub returns-then-not-within : goal.returns-then-not-within
-returns-then-not-within c = shave-more c.loop-i.invariant c.tried_at-r.ensures
+returns-then-not-within c = shave-more c.loop-place.invariant c.tried-r.ensures
 
-pub loop-i-smaller : goal.loop-i-smaller
-loop-i-smaller c = omega arith
-
-pub loop-i-preserved : goal.loop-i-preserved
-loop-i-preserved c = shave-more c.loop-i.invariant c.tried_at-r.ensures
+pub loop-place-preserved : goal.loop-place-preserved
+loop-place-preserved c = shave-more c.loop-place.invariant c.tried-r.ensures

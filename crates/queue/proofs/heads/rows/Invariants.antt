@@ -1,12 +1,9 @@
 use mathlib.Core.Path.{◌≡◌}
-use Prim.Native.Nat.{◌+◌, ◌-◌, ◌≤◌}
+use Prim.Native.Nat.{◌+◌, ◌≤◌}
 use lib.ListN.{length}
 use Rattle.queue.specs.Places.{index_length}
 use Rattle.queue.proofs.Rows.{RowsTo}
 use Rattle.queue.proofs.heads.rows.Given as goal
 
 abbrev pub invariant-loop-k : goal.invariant-loop-k
-invariant-loop-k l = (l.c ≤ l.k) × (l.k ≤ l.n) × (l.n ≤ l.c + 64) × (length l.index ≡ index_length) × RowsTo l.words l.n l.c l.initial.index l.k l.index
-
-abbrev pub decreases-loop-k : goal.decreases-loop-k
-decreases-loop-k l = l.n - l.k
+invariant-loop-k l = (l.n ≤ l.c + 64) × (length l.index ≡ index_length) × RowsTo l.words l.n l.c l.initial.index l.k l.index
