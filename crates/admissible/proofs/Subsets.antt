@@ -1,6 +1,6 @@
 -- A set of exceptions is minimal exactly where, for each of its members, there is no view within the set without that member.
 -- A proper subset lacks some member; one probe for each member decides.
-use mathlib.Core.Path.{◌≡◌, refl}
+use mathlib.Core.Path.{◌≡◌, refl, sym}
 use mathlib.Core.Bool.{Bool, true, false, not}
 use mathlib.Core.List.{List}
 use mathlib.Core.Logic.{⊎_elim}
@@ -9,7 +9,7 @@ use native.Mathlib.Nat.{le_refl, le_trans}
 use native.Mathlib.Omega.{arith}
 use borrow.Author.Count.{below_more}
 use Rattle.logic.specs.Tests.{Decides}
-use Rattle.logic.proofs.Decide.{reworded}
+use Rattle.logic.proofs.Decide.{clash, reworded}
 use Rattle.sets.specs.declared.Pair.{Pair}
 use Rattle.sets.specs.Sets.{bit_of, Within, Apart, without}
 use Rattle.sets.proofs.Digits.{shifted, bit-lt, bit-over, bit-without, lt-or-le}
@@ -21,8 +21,7 @@ use Rattle.masks.specs.Views.{MaskView}
 use Rattle.masks.proofs.Booleans.{refused, granted, decides-true, decides-false}
 use Rattle.bounds.specs.Sound.{In, Propagated, with_sets}
 use Rattle.bounds.proofs.Ranges.{in-sets, in-root, set_below}
-use Rattle.probe.specs.declared.Answer.{Answer}
-use Rattle.probe.specs.declared.Answer.TheVariants.{Found, Nothing}
+use Rattle.std.specs.Prelude.{Option, Some, None, is_some}
 use Rattle.probe.specs.Probes.{Probed}
 use Rattle.admissible.specs.Admissible.{Minimal, MinimalAt}
 
@@ -37,12 +36,12 @@ module _ (ws : List ℕ) (n : ℕ) (ranks : List ℕ) (root : Bounds) (taken e :
   pub minimal-sure : bit_of root.lo.taken e ≡ 1 → Decides true (MinimalAt ws n ranks root taken e)
   minimal-sure z = decides-true (record { has = λ v w x f. omega (arith, x.lo.taken e, bit-lt taken e) })
 
-  module _ (h : e < 64) (b : Bounds) (eb : b ≡ with_sets root 0 (without taken (1 * 2 ^ e % 2 ^ 64))) (a : Answer) (p : Probed ws n ranks b a) where
+  module _ (x : ℕ) (ex : x ≡ without taken (2 ^ e)) (b : Bounds) (eb : b ≡ with_sets root 0 x) (a : Option Pair) (p : Probed ws n ranks b a) where
     lacking : b ≡ with_sets root 0 (without taken (2 ^ e))
-    lacking = rw (shifted e h) at eb
+    lacking = rw ex at eb
 
     -- A view that is found has a subset of taken that lacks e.
-    pub minimal-found : (u : Pair) → (bit_of taken e ≡ 0 → ⊥) → a ≡ Found u → Decides false (MinimalAt ws n ranks root taken e)
+    minimal-found : (u : Pair) → (bit_of taken e ≡ 0 → ⊥) → a ≡ Some u → Decides false (MinimalAt ws n ranks root taken e)
     minimal-found u z ea = decides-false (λ k.
         let f = rw lacking at (p.found u ea) in
         let s : Within u.taken (without taken (2 ^ e)) = set_below root 0 _ u f.1 in
@@ -51,12 +50,20 @@ module _ (ws : List ℕ) (n : ℕ) (ranks : List ℕ) (root : Bounds) (taken e :
         let y = k.has u f.0 (in-root root 0 _ u f.1) t in
         z (omega (arith, s e, bit-without taken (2 ^ e) e, bit-lt taken e)))
 
-    pub minimal-none : a ≡ Nothing → Decides true (MinimalAt ws n ranks root taken e)
+    minimal-none : a ≡ None → Decides true (MinimalAt ws n ranks root taken e)
     minimal-none ea = decides-true (record { has = λ v w x f. go v w x f (bit_of v.taken e) refl })
       where
         go : (v : Pair) → MaskView ws n ranks v → In root v → Within v.taken taken → (d : ℕ) → bit_of v.taken e ≡ d → bit_of taken e ≤ d
         go v w x f zero ed = absurd (p.none ea v w (rw lacking (in-sets root 0 _ v x (N.none-sub _) (N.sub-minus _ _ _ f (lacks v.taken e ed)))))
         go v w x f (suc d) ed = omega (arith, bit-lt taken e)
+
+  -- Whether a view is found decides.
+  pub minimal-asked : (bit_of taken e ≡ 0 → ⊥) → (x : ℕ) → x ≡ without taken (2 ^ e) → (b : Bounds) → b ≡ with_sets root 0 x → (a : Option Pair) → Probed ws n ranks b a
+      → (r : Bool) → is_some a ≡ not r → Decides r (MinimalAt ws n ranks root taken e)
+  minimal-asked z x ex b eb None p true q = minimal-none x ex b eb None p refl
+  minimal-asked z x ex b eb None p false q = absurd (clash q)
+  minimal-asked z x ex b eb (Some u) p true q = absurd (clash (sym q))
+  minimal-asked z x ex b eb (Some u) p false q = minimal-found x ex b eb (Some u) p u z refl
 
 -- ---- all members
 abbrev pub MinimalTo : List ℕ → ℕ → List ℕ → Bounds → ℕ → ℕ → Type 0

@@ -6,8 +6,8 @@ ghost use Rattle.logic.specs.Tests.{Decides};
 ghost use Rattle.queue.specs.Chains.{Chains};
 ghost use Rattle.admissible.specs.Admissible.{Minimal, MinimalAt, Undominated, UndominatedAt, Admissible};
 
+use bounds::Part;
 use masks::Bounds;
-use probe::Answer;
 use queue::index;
 use queue::index::Index;
 use queue::waiting::Waiting;
@@ -32,13 +32,9 @@ pub fn minimal_at(
     if (root.lo.taken >> e) % 2 == 1 {
         return true;
     }
-    let b = bounds::with_sets(root, 0, taken ^ (taken & (1 << e)));
+    let b = bounds::with_sets(root, 0, sets::cleared(taken, e));
     let t = index::among(index, live, root, b);
-    let a = probe::ask(words, n, ranks, index, t, b);
-    match a {
-        Answer::Found(_) => false,
-        Answer::Nothing => true,
-    }
+    probe::ask(words, n, ranks, index, t, b).is_none()
 }
 
 // No view within root has a proper subset of `taken`: for each member there is none without it.
@@ -54,12 +50,10 @@ pub fn each_needed(
     requires { (n * 8 ≤ length words.now) × (length ranks.now ≤ 64) × Chains words.now n index.now }
     ensures { Decides result (Minimal words.now n ranks.now root taken) }
 {
-    let mut e: u64 = 0;
-    while e < 64 {
+    for e in 0..64 {
         if !minimal_at(words, n, ranks, index, live, root, taken, e) {
             return false;
         }
-        e += 1;
     }
     true
 }
@@ -98,13 +92,9 @@ pub fn undominated_at(
     if rank & taken == 0 {
         return true;
     }
-    let b = bounds::into(root, bounds::one(bounds::TAKEN, a));
+    let b = bounds::into(root, bounds::one(Part::Taken, a));
     let t = index::changed(index, root, b);
-    let f = probe::ask(words, n, ranks, index, t, b);
-    match f {
-        Answer::Found(_) => false,
-        Answer::Nothing => true,
-    }
+    probe::ask(words, n, ranks, index, t, b).is_none()
 }
 
 // No view within root takes an exception that outranks a member of `taken`.
@@ -119,12 +109,10 @@ pub fn undominated(
     requires { (n * 8 ≤ length words.now) × (length ranks.now ≤ 64) × Chains words.now n index.now }
     ensures { Decides result (Undominated words.now n ranks.now root taken) }
 {
-    let mut a = 0;
-    while a < ranks.len() {
-        if !undominated_at(words, n, ranks, index, root, taken, ranks[a], a as u64) {
+    for (a, &rank) in ranks.iter().enumerate() {
+        if !undominated_at(words, n, ranks, index, root, taken, rank, a as u64) {
             return false;
         }
-        a += 1;
     }
     true
 }
@@ -141,8 +129,5 @@ pub fn admissible(
     requires { (n * 8 ≤ length words.now) × (length ranks.now ≤ 64) × Chains words.now n index.now }
     ensures { Decides result (Admissible words.now n ranks.now root taken) }
 {
-    if !minimal(words, n, ranks, index, root, taken) {
-        return false;
-    }
-    undominated(words, n, ranks, index, root, taken)
+    minimal(words, n, ranks, index, root, taken) && undominated(words, n, ranks, index, root, taken)
 }

@@ -1,5 +1,5 @@
 -- What the gathering of few views promises: the store has all views within the bounds, in any order; the page has them in the order of pairs.
-use Rattle.std.specs.Prelude.{ℕ, ◌<◌, ◌≤◌, Bool, true, false, ◌≡◌, List, ◌⊎◌}
+use Rattle.std.specs.Prelude.{Option, IfSome, MatchOption, ℕ, ◌<◌, ◌≤◌, Bool, true, false, ◌≡◌, List, ◌⊎◌}
 use Rattle.logic.specs.Lists.{Among}
 use Rattle.sets.specs.declared.Pair.{Pair}
 use Rattle.sets.specs.Sets.{Apart}
@@ -46,28 +46,31 @@ pub record Alike (store : List ℕ) (k : ℕ) : Type 0 where
   pub taken : (i j : ℕ) → i < k → j < k → (pair_at store i).taken ≡ (pair_at store j).taken
   pub coherent : (i : ℕ) → i < k → Apart (pair_at store i).held (pair_at store i).denied
 
--- If there is a pair at place `last`, the one at place i is later.
-abbrev pub After : List ℕ → ℕ → ℕ → ℕ → Type 0
-After store k last i = last < k → Before (pair_at store last) (pair_at store i)
+-- If there is a pair at place `last`, the one at place i is later; if there is one at place `best`, the one at place i comes before it.
+abbrev pub After : List ℕ → ℕ → Option ℕ → ℕ → Type 0
+After store k last i = IfSome last (λ l. l < k → Before (pair_at store l) (pair_at store i))
+
+abbrev pub Ahead : List ℕ → ℕ → ℕ → Option ℕ → Type 0
+Ahead store k i best = IfSome best (λ l. l < k → Before (pair_at store i) (pair_at store l))
 
 -- There is a pair at place r, and it is no later than the one at place i.
-abbrev pub NoLater : List ℕ → ℕ → ℕ → ℕ → Type 0
-NoLater store k r i = (r < k) × ((pair_at store r ≡ pair_at store i) ⊎ Before (pair_at store r) (pair_at store i))
+abbrev pub NoLater : List ℕ → ℕ → Option ℕ → ℕ → Type 0
+NoLater store k r i = MatchOption r ⊥ (λ l. (l < k) × ((pair_at store l ≡ pair_at store i) ⊎ Before (pair_at store l) (pair_at store i)))
 
 -- Whether the pair at place i is later than the one at place `last`; whether it comes before the one at place `best`. Where there is no such
 -- pair, it is and does.
-pub record Follows (store : List ℕ) (k last i : ℕ) (r : Bool) : Type 0 where
+pub record Follows (store : List ℕ) (k : ℕ) (last : Option ℕ) (i : ℕ) (r : Bool) : Type 0 where
   pub yes : Alike store k → r ≡ true → After store k last i
   pub no : Alike store k → r ≡ false → After store k last i → ⊥
 
-pub record Leads (store : List ℕ) (k i best : ℕ) (r : Bool) : Type 0 where
-  pub yes : Alike store k → r ≡ true → best < k → Before (pair_at store i) (pair_at store best)
+pub record Leads (store : List ℕ) (k i : ℕ) (best : Option ℕ) (r : Bool) : Type 0 where
+  pub yes : Alike store k → r ≡ true → Ahead store k i best
   pub no : Alike store k → r ≡ false → NoLater store k best i
 
--- Of the first i pairs the one at place r is the first of those that are later than the one at place `last`; r is k if there is none.
-pub record FirstOf (store : List ℕ) (k last i r : ℕ) : Type 0 where
-  pub upto : r ≤ k
-  pub later : Alike store k → r < k → After store k last r
+-- Of the first i pairs the one at place r is the first of those that are later than the one at place `last`, or there is none.
+pub record FirstOf (store : List ℕ) (k : ℕ) (last : Option ℕ) (i : ℕ) (r : Option ℕ) : Type 0 where
+  pub upto : IfSome r (λ l. l < k)
+  pub later : Alike store k → IfSome r (λ l. After store k last l)
   pub first : Alike store k → (j : ℕ) → j < i → After store k last j → NoLater store k r j
 
 -- The list ascends and has the first k pairs of the store, all of them and nothing else.

@@ -9,7 +9,7 @@ ghost use Rattle.few.specs.Few.{most, Gathered, Collected, Sooner, Follows, Lead
 
 use masks::Bounds;
 use page::Task;
-use probe::{Answer, Node};
+use probe::Node;
 use queue::index::Index;
 use queue::waiting::Work;
 use queue::{Rest, index, waiting};
@@ -26,13 +26,7 @@ const SHORT: usize = 16;
 pub fn limit(room: usize, after: bool) -> usize
     ensures { (0 < result) × (result ≤ most) }
 {
-    if after {
-        return 1;
-    }
-    if room < SHORT {
-        return 1;
-    }
-    MOST
+    if after || room < SHORT { 1 } else { MOST }
 }
 
 // How far the store is filled, and how many nodes may still be visited.
@@ -143,11 +137,11 @@ pub fn collect(
     }
     let a = probe::probe_shaved(words, n, ranks, index, w, rest.bounds);
     match a {
-        Answer::Found(_) => Stored {
+        Some(_) => Stored {
             count: cap,
             visited,
         },
-        Answer::Nothing => Stored { count: 0, visited },
+        None => Stored { count: 0, visited },
     }
 }
 
@@ -171,53 +165,56 @@ pub fn sooner_at(store: &[u64], i: usize, j: usize) -> bool
 }
 
 // Of the first k pairs the one at place i is later than the one at place `last`, if there is one.
-pub fn follows(store: &[u64], k: usize, last: usize, i: usize) -> bool
+pub fn follows(store: &[u64], k: usize, last: Option<usize>, i: usize) -> bool
     requires { (k * 3 ≤ length store.now) × (i < k) }
     ensures { Follows store.now k last i result }
 {
-    if last < k {
-        return sooner_at(store, last, i);
+    match last {
+        None => true,
+        Some(l) => k <= l || sooner_at(store, l, i),
     }
-    true
 }
 
 // Of the first k pairs the one at place i comes before the one at place `best`, if there is one.
-pub fn leads(store: &[u64], k: usize, i: usize, best: usize) -> bool
+// Kept: one function for this and `follows` would take which of the two places comes first as a flag, or a closure with a `requires` of its own.
+pub fn leads(store: &[u64], k: usize, i: usize, best: Option<usize>) -> bool
     requires { (k * 3 ≤ length store.now) × (i < k) }
     ensures { Leads store.now k i best result }
 {
-    if best < k {
-        return sooner_at(store, i, best);
+    match best {
+        None => true,
+        Some(b) => k <= b || sooner_at(store, i, b),
     }
-    true
 }
 
 // The place of the first of those that are later than the one at place `last`, of the pair at place i and those before it: of these it is at
 // place `best`.
-pub fn better(store: &[u64], k: usize, last: usize, best: usize, i: usize) -> usize
+pub fn better(
+    store: &[u64],
+    k: usize,
+    last: Option<usize>,
+    best: Option<usize>,
+    i: usize,
+) -> Option<usize>
     requires { (k * 3 ≤ length store.now) × (i < k) }
     ensures { FirstOf store.now k last i best → FirstOf store.now k last (i + 1) result }
 {
-    if !follows(store, k, last, i) {
-        return best;
+    if follows(store, k, last, i) && leads(store, k, i, best) {
+        Some(i)
+    } else {
+        best
     }
-    if leads(store, k, i, best) {
-        return i;
-    }
-    best
 }
 
 // The place of the first in order of those of the first k pairs that are later than the one at place `last`; of all where there is no such
-// place. It is k if there are none.
-pub fn first_later(store: &[u64], k: usize, last: usize) -> usize
+// place.
+pub fn first_later(store: &[u64], k: usize, last: Option<usize>) -> Option<usize>
     requires { k * 3 ≤ length store.now }
     ensures { FirstOf store.now k last k result }
 {
-    let mut best = k;
-    let mut i: usize = 0;
-    while i < k {
+    let mut best = None;
+    for i in 0..k {
         best = better(store, k, last, best, i);
-        i += 1;
     }
     best
 }
@@ -227,17 +224,15 @@ pub fn put_sorted(store: &[u64], k: usize, room: usize, out: &mut [u64], at: usi
     requires { (k * 3 ≤ length store.now) × (room * 3 ≤ length out.old) × (at ≤ room) }
     ensures { PutSorted store.now k room at out.old out.new result }
 {
-    let mut place = at;
-    let mut j = first_later(store, k, k);
-    while place < room {
-        if k <= j {
+    let mut next = first_later(store, k, None);
+    for place in at..room {
+        let Some(j) = next else {
             return place;
-        }
+        };
         page::put(out, place, page::pair_at(store, j));
-        place += 1;
-        j = first_later(store, k, j);
+        next = first_later(store, k, next);
     }
-    place
+    room
 }
 
 // Puts all views with these exceptions on the page from place `at` on, in the order of pairs until it is full; where `after` is true only those
@@ -260,10 +255,7 @@ pub fn list(
     requires { (Fits words.now ranks.now out.old task at) × Chains words.now task.rules index.now × (cap * 3 ≤ length store.now) }
     ensures { Listed (MaskView words.now task.rules ranks.now) task taken rest.bounds after at out.old out.new result ⊎ ((after ≡ false) × (k < cap) × AllListed words.now ranks.now task rest.bounds store.now k at out.old out.new result) }
 {
-    if after {
-        return page::list_views(words, ranks, index, task, taken, rest, after, out, at);
-    }
-    if k < cap {
+    if !after && k < cap {
         return put_sorted(store, k, task.room, out, at);
     }
     page::list_views(words, ranks, index, task, taken, rest, after, out, at)

@@ -15,10 +15,9 @@ use Rattle.bounds.specs.Sound.{Keeps}
 use Rattle.meaning.specs.Order.{value}
 use Rattle.meaning.specs.Twins.Tables.{differs_from}
 use Rattle.queue.specs.declared.waiting.Waiting.{Waiting}
-use Rattle.probe.specs.declared.Answer.TheVariants.{Found, Nothing}
 use Rattle.page.specs.declared.Task.{Task}
 use Rattle.page.specs.declared.Node.{Node}
-use Rattle.page.specs.declared.Branch.TheVariants.{Cut, Open}
+use Rattle.std.specs.Prelude.{Option, Some, None}
 use Rattle.page.specs.Orders.{given, all_from, passes, list_from}
 use Rattle.page.specs.Pages.{ViewGiving, Barren, Picks, Covers, Covered, branch_from, BranchReady, Branched}
 use Rattle.page.proofs.Orders.{all-value, among-tried}
@@ -83,7 +82,7 @@ module _ (ws ranks : List ℕ) (q : Task) (left w : ℕ) (d : Node) (rd : Branch
   has_value v m = every-at (λ u. value u (q.statements - left) ≡ w) v (branch_from q left w d) (all-value q.statements left w d.pair rd.unsettled rd.value) m
 
   module _ (t : Bool) (et : t ≡ both d.equal (ltb w own)) where
-    pub branch-before : t ≡ true → Branched ws ranks q left w d Cut
+    pub branch-before : t ≡ true → Branched ws ranks q left w d None
     unfolding passes both
     branch-before e = record {
       cut = λ z g tg h. keep-none (passes g q.statements q.point (suc left) d.equal) (branch_from q left w d)
@@ -100,7 +99,7 @@ module _ (ws ranks : List ℕ) (q : Task) (left w : ℕ) (d : Node) (rd : Branch
             (h.kept v k (among-tried (λ p. all_from q.statements left p) d.pair (q.statements - left) w v rd.value m));
       }
 
-      pub branch-barren : Barren ws q.rules ranks b → Branched ws ranks q left w d Cut
+      pub branch-barren : Barren ws q.rules ranks b → Branched ws ranks q left w d None
       unfolding passes
       branch-barren n = record {
         cut = λ y g pg h. keep-none (passes g q.statements q.point (suc left) d.equal) (branch_from q left w d)
@@ -108,11 +107,11 @@ module _ (ws ranks : List ℕ) (q : Task) (left w : ℕ) (d : Node) (rd : Branch
         opened = λ c y. absurd (let x : ◌≡◌ {A = ℕ} 0 1 = cc in omega arith);
       }
 
-      pub branch-clash : (z : Bool) → Decides z (Sub b.lo b.hi) → not z ≡ true → Branched ws ranks q left w d Cut
+      pub branch-clash : (z : Bool) → Decides z (Sub b.lo b.hi) → not z ≡ true → Branched ws ranks q left w d None
       branch-clash z dz ez = branch-barren (record { none = λ v k x. refused dz ez (sub_trans x.lo x.hi) })
 
       pub branch-open : (e : Bool) (p : Pair) (live : Waiting) (hint : Pair) → e ≡ both d.equal (eqb w own) → p ≡ given d.pair (q.statements - left) w
-          → Branched ws ranks q left w d (Open (record { equal = e; pair = p; bounds = b; live = live; hint = hint }))
+          → Branched ws ranks q left w d (Some (record { equal = e; pair = p; bounds = b; live = live; hint = hint }))
       unfolding passes list_from
       branch-open e p live hint ee ep = record {
         cut = λ y g pg h. absurd (let x : ◌≡◌ {A = ℕ} 0 1 = cc in omega arith);
@@ -124,9 +123,9 @@ module _ (ws ranks : List ℕ) (q : Task) (left w : ℕ) (d : Node) (rd : Branch
         });
       }
         where
-          child : (c : Node) → Open (record { equal = e; pair = p; bounds = b; live = live; hint = hint }) ≡ Open c → record { equal = e; pair = p; bounds = b; live = live; hint = hint } ≡ c
+          child : (c : Node) → Some (record { equal = e; pair = p; bounds = b; live = live; hint = hint }) ≡ Some c → record { equal = e; pair = p; bounds = b; live = live; hint = hint } ≡ c
           child c y = cc
 
 -- What is found is not nothing.
-pub found-not : (v : Pair) {P : Type 0} → Found v ≡ Nothing → P
+pub found-not : (v : Pair) {P : Type 0} → Some v ≡ None → P
 found-not v e = absurd (let x : ◌≡◌ {A = ℕ} 0 1 = cc in omega arith)

@@ -88,11 +88,11 @@ among_next n l p u w h m = among-tried (λ r. all_from n l r) p (n - l) w u h m
 pub gone-start : (n left : ℕ) (d : Node) (r : Stretch) → r.pair ≡ d.pair → r.left ≡ left → GoneOn n left d r
 gone-start n left d r ep el = rw (ep, el) (record { fewer = le_refl left; own = λ e. (refl, refl); among = λ u m. m; kept = λ g c. refl })
 
-pub gone-turn : (n left : ℕ) (d : Node) (pair : Pair) (l : ℕ) → d.equal ≡ false → left ≤ n → 0 < l → (x : Pair) → x ≡ minus_of d.bounds.hi d.bounds.lo
+gone_one : (n left : ℕ) (d : Node) (pair : Pair) (l : ℕ) → d.equal ≡ false → left ≤ n → 0 < l → (x : Pair) → x ≡ minus_of d.bounds.hi d.bounds.lo
     → bit_of (bit_or x.held x.denied) (n - (l - 1) - 1) ≡ 0 → GoneOn n left d (record { pair = pair; left = l })
     → (w : ℕ) → w ≡ value d.bounds.lo (n - (l - 1)) → (next : Pair) → next ≡ given pair (n - (l - 1)) w → GoneOn n left d (record { pair = next; left = l - 1 })
-gone-turn n left d pair zero later few h x ex shut f w ew next en = absurd (omega arith)
-gone-turn n left d pair (suc l) later few h x ex shut f w ew next en = rw (en, ew, sub-one) record {
+gone_one n left d pair zero later few h x ex shut f w ew next en = absurd (omega arith)
+gone_one n left d pair (suc l) later few h x ex shut f w ew next en = rw (en, ew, sub-one) record {
   fewer = omega (arith, f.fewer);
   own = λ e. absurd (clash (sym later ∙ e));
   among = λ u m. f.among u (onto u m);
@@ -102,6 +102,19 @@ gone-turn n left d pair (suc l) later few h x ex shut f w ew next en = rw (en, e
   where
     onto : (u : Pair) → Among u (all_from n l (given pair (n - l) (value d.bounds.lo (n - l)))) → Among u (all_from n (suc l) pair)
     onto u m = among_next n l pair u (value d.bounds.lo (n - l)) (value-most d.bounds.lo (n - l)) m
+
+-- The same of the statement at place i.
+pub gone-turn : (n left : ℕ) (d : Node) (pair : Pair) (i : ℕ) → d.equal ≡ false → left ≤ n → i < n → (x : Pair) → x ≡ minus_of d.bounds.hi d.bounds.lo
+    → bit_of (bit_or x.held x.denied) i ≡ 0 → GoneOn n left d (record { pair = pair; left = n - i })
+    → (w : ℕ) → w ≡ value d.bounds.lo (i + 1) → (next : Pair) → next ≡ given pair (i + 1) w → GoneOn n left d (record { pair = next; left = n - (i + 1) })
+gone-turn n left d pair i later few h x ex shut f w ew next en =
+    let own : n - (n - i - 1) ≡ i + 1 = omega arith in
+    let place : n - (n - i - 1) - 1 ≡ i = omega arith in
+    let fewer : n - i - 1 ≡ n - (i + 1) = omega arith in
+    rw (← fewer) (gone_one n left d pair (n - i) later few (omega arith) x ex (rw place shut) f w (rw own ew) next (rw own en))
+
+pub gone-all : (n left : ℕ) (d : Node) (pair : Pair) (i : ℕ) → n ≤ i → GoneOn n left d (record { pair = pair; left = n - i }) → GoneOn n left d (record { pair = pair; left = 0 })
+gone-all n left d pair i h f = let e : n - i ≡ 0 = omega arith in rw e at f
 
 -- ---- settling goes on from there
 module _ (P : Pair → Type 0) (q : Task) (left : ℕ) (d : Node) (a : Stretch) (f : GoneOn q.statements left d a) (live : Waiting) (hint : Pair) where

@@ -12,13 +12,12 @@ use Rattle.meaning.specs.Twins.Tables.{differs_from}
 use Rattle.queue.specs.declared.waiting.Waiting.{Waiting}
 use Rattle.page.specs.declared.Task.{Task}
 use Rattle.page.specs.declared.Node.{Node}
-use Rattle.page.specs.declared.Branch.{Branch}
-use Rattle.page.specs.declared.Branch.TheVariants.{Cut, Open}
+use Rattle.std.specs.Prelude.{Option, Some, None}
 use Rattle.page.specs.Orders.{bare, given, tried, all_from, passes, list_from}
 use Rattle.sets.specs.Pairs.{Sub, flat}
 use Rattle.sets.proofs.Pairs.{sub_trans}
 use Rattle.bounds.specs.Sound.{Keeps}
-use Rattle.page.specs.Pages.{Tests, Picks, Covers, Covered, Fits, Ready, Settled, passing, tried_from, Tried, branch_from, TriedOne, BranchReady, Child, Branched, Listed}
+use Rattle.page.specs.Pages.{Tests, Picks, Covers, Covered, Fits, Ready, Settled, passing, tried_from, Tried, branch_from, TriedOne, BranchReady, Child, Branched, Started, Listed}
 use Rattle.page.proofs.Pages.{page-none, page-full, page-append, page-one}
 use Rattle.page.proofs.General.{both_false, keep-none, keep_append}
 
@@ -27,7 +26,7 @@ pub where-equal : (t x : Bool) → t ≡ true → x ≡ both t x
 unfolding both
 where-equal t x e = rw e
 
-pub where-not : (t x : Bool) → t ≡ false → false ≡ both t x
+pub where-not : (t x : Bool) → t ≡ false → t ≡ both t x
 unfolding both
 where-not t x e = rw e
 
@@ -109,14 +108,14 @@ module _ (P : Pair → Type 0) (q : Task) (left w : ℕ) (d : Node) (at : ℕ) (
   pub one-full : q.room ≤ at → TriedOne P q (left - 1) w d at o o at
   one-full l = record { most = place; page = λ g tg h. page-full q.room at o _ l }
 
-  module _ (ws ranks : List ℕ) (views : (v : Pair) → P v → MaskView ws q.rules ranks v) (b : Branch) (br : Branched ws ranks q (left - 1) w d b) where
+  module _ (ws ranks : List ℕ) (views : (v : Pair) → P v → MaskView ws q.rules ranks v) (b : Option Node) (br : Branched ws ranks q (left - 1) w d b) where
     picks : (g : Pair → Bool) → Tests P (branch_from q (left - 1) w d) g → Picks ws q.rules ranks (branch_from q (left - 1) w d) g
     picks g tg = record { view = λ v m e. views v ((tg.right v m).yes e) }
 
-    pub one-cut : b ≡ Cut → TriedOne P q (left - 1) w d at o o at
+    pub one-cut : b ≡ None → TriedOne P q (left - 1) w d at o o at
     one-cut e = record { most = place; page = λ g tg h. rw (br.cut e g (picks g tg) h) (page-none q.room at o) }
 
-    module _ (c : Node) (e : b ≡ Open c) where
+    module _ (c : Node) (e : b ≡ Some c) where
       child : Child ws ranks q (left - 1) w d c
       child = br.opened c e
 
@@ -167,14 +166,32 @@ module _ (P : Pair → Type 0) (q : Task) (left : ℕ) (d : Node) (at : ℕ) (o 
   unfolding tried keep
   try-none r o' l = record { most = l; page = λ g tg h. page-none q.room r o' }
 
-  pub try-last : (v : ℕ) → v ≡ 1 → (r : ℕ) (o' : List ℕ) → TriedOne P q left 2 d at o o' r → Tried P q left v d at o o' r
-  try-last v e r o' s = rw e (try_one 1 (λ z. omega arith) r r o' o' s (try-none r o' s.most))
+  -- After k of the values: what is put on the page for the others completes the page for all.
+  pub record Trying (k r : ℕ) (o' : List ℕ) : Type 0 where
+    pub most : r ≤ q.room
+    pub rest : (r' : ℕ) (o'' : List ℕ) → Tried P q left (3 - k) d r o' o'' r' → Tried P q left 3 d at o o'' r'
+
+  pub trying-none : at ≤ q.room → Trying 0 at o
+  trying-none l = record { most = l; rest = λ r' o'' t. t }
+
+  pub trying-all : (k r : ℕ) (o' : List ℕ) → 3 ≤ k → Trying k r o' → Tried P q left 3 d at o o' r
+  trying-all k r o' h f = f.rest r o' (let e : 3 - k ≡ 0 = omega arith in rw e (try-none r o' f.most))
+
+pub trying-next : (P : Pair → Type 0) (q : Task) (left : ℕ) (d : Node) (at : ℕ) (o : List ℕ) (k r : ℕ) (o' : List ℕ) → k < 3 → Trying P q left d at o k r o'
+    → (w : ℕ) → w ≡ k → (r' : ℕ) (o'' : List ℕ) → TriedOne P q left w d r o' o'' r' → Trying P q left d at o (k + 1) r' o''
+trying-next P q left d at o k r o' h f w ew r' o'' s =
+    let own : w ≡ 3 - (3 - k) = omega arith in
+    let fewer : 3 - (k + 1) ≡ 3 - k - 1 = omega arith in
+    record {
+      most = s.most;
+      rest = λ z y t. f.rest z y (try_one P q left d r o' (3 - k) (λ e. omega arith) r' z o'' y (rw own at s) (rw fewer at t));
+    }
 
 -- ---- the whole search
 module _ (P : Pair → Type 0) (q : Task) (taken : ℕ) (b : Bounds) (t : Bool) (at : ℕ) (o : List ℕ) where
   pub list_full : at ≤ q.room → q.room ≤ at → Listed P q taken b t at o o at
   list_full h l = record { most = h; page = λ g tg c. page-full q.room at o _ l }
 
-  pub list-settled : (live : Waiting) (hint : Pair) (o' : List ℕ) (r : ℕ) → Settled P q q.statements (record { equal = t; pair = bare taken; bounds = b; live = live; hint = hint }) at o o' r → Listed P q taken b t at o o' r
+  pub list-settled : (d : Node) → Started taken b t d → (o' : List ℕ) (r : ℕ) → Settled P q q.statements d at o o' r → Listed P q taken b t at o o' r
   unfolding list_from
-  list-settled live hint o' r w = record { most = w.most; page = w.page }
+  list-settled d s o' r w = record { most = w.most; page = rw (s.own, s.pair, s.bounds) at w.page }

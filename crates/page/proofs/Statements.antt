@@ -1,6 +1,6 @@
 -- What the functions on one statement make, and that bounds narrowed to a value of a statement keep every view that has the value.
 -- The view has the conclusion that the value stands for, and of the two conclusions about the statement no other.
-use Rattle.std.proofs.Common.{◌≡◌, ℕ, zero, suc, ◌-◌, ◌*◌, ◌%◌, ◌^◌, ◌<◌, Bool, true, false, List, refl, arith}
+use Rattle.std.proofs.Common.{nat_lt, ◌≤◌, [], ◌∷◌, get_or, ◌≡◌, ℕ, zero, suc, ◌-◌, ◌*◌, ◌%◌, ◌^◌, ◌<◌, Bool, true, false, List, refl, arith}
 use Rattle.sets.specs.declared.Pair.{Pair}
 use Rattle.sets.specs.Sets.{member, Apart, without}
 use Rattle.sets.specs.Pairs.{Sub, Off, join_of, minus_of}
@@ -12,7 +12,11 @@ use Rattle.bounds.specs.Singles.{one_of}
 use Rattle.bounds.specs.Sound.{Keeps, into_of, out_of}
 use Rattle.bounds.proofs.Steps.{keeps-less}
 use Rattle.meaning.specs.Order.{value_of, value}
-use Rattle.page.specs.Orders.{bare, about, said, given}
+use Rattle.std.specs.Ordering.{partial_lt}
+use Rattle.page.specs.contracts.ValuePartialOrd.TheImpl.{partial_cmp-value}
+use Rattle.page.specs.declared.Value.{Value}
+use Rattle.page.specs.declared.Value.TheVariants.{Absent, Held, Denied}
+use Rattle.page.specs.Orders.{number, bare, about, said, given}
 use Rattle.page.specs.Pages.{Giving, ViewGiving}
 use Rattle.page.proofs.General.{in-set, off_set}
 
@@ -30,23 +34,45 @@ module _ (p : Pair) (i : ℕ) (x y : Bool) (ex : x ≡ member i p.held) where
   unfolding value value_of
   value-absent ey e f = rw (← ex, ← ey, e, f)
 
+-- The values have the numbers 0, 1 and 2.
+pub number-most : (v : Value) → number v ≤ 2
+number-most Absent = omega arith
+number-most Held = omega arith
+number-most Denied = omega arith
+
+pub number-at : (k : ℕ) → k < 3 → (v : Value) → number (get_or (Absent ∷ Held ∷ Denied ∷ []) k v) ≡ k
+number-at zero h v = refl
+number-at (suc zero) h v = refl
+number-at (suc (suc zero)) h v = refl
+number-at (suc (suc (suc k))) h v = absurd (omega arith)
+
+-- The derived order is that of the numbers.
+pub less_is : (v w : Value) (r : Bool) → r ≡ partial_lt partial_cmp-value.it v w → r ≡ nat_lt (number v) (number w)
+less_is Absent Absent r e = e
+less_is Absent Held r e = e
+less_is Absent Denied r e = e
+less_is Held Absent r e = e
+less_is Held Held r e = e
+less_is Held Denied r e = e
+less_is Denied Absent r e = e
+less_is Denied Held r e = e
+less_is Denied Denied r e = e
+
 pub about-is : (i : ℕ) → i - 1 < 64 → ◌≡◌ {A = Pair} (record { taken = 0; held = 1 * 2 ^ (i - 1) % 2 ^ 64; denied = 1 * 2 ^ (i - 1) % 2 ^ 64 }) (about i)
 unfolding about
 about-is i h = rw (shifted (i - 1) h)
 
-pub said-absent : (i w : ℕ) → w ≡ 0 → bare 0 ≡ said i w
+pub said-absent : (i : ℕ) (v : Value) → v ≡ Absent → bare 0 ≡ said i (number v)
 unfolding said
-said-absent i w e = rw e
+said-absent i v e = rw e
 
-pub said-held : (i w : ℕ) (m : Pair) → w ≡ 1 → m ≡ one_of 0 (i - 1) → m ≡ said i w
+pub said-held : (i : ℕ) (v : Value) (m : Pair) → v ≡ Held → m ≡ one_of 0 (i - 1) → m ≡ said i (number v)
 unfolding said one_of
-said-held i w m e d = rw e d
+said-held i v m e d = rw e d
 
-pub said-denied : (i w : ℕ) (m : Pair) → (w ≡ 0 → ⊥) → (w ≡ 1 → ⊥) → m ≡ one_of 1 (i - 1) → m ≡ said i w
+pub said-denied : (i : ℕ) (v : Value) (m : Pair) → v ≡ Denied → m ≡ one_of 1 (i - 1) → m ≡ said i (number v)
 unfolding said one_of
-said-denied i zero m f g d = absurd (f refl)
-said-denied i (suc zero) m f g d = absurd (g refl)
-said-denied i (suc (suc w)) m f g d = d
+said-denied i v m e d = rw e d
 
 pub given_is : (p : Pair) (i w : ℕ) (a m s r : Pair) → a ≡ about i → m ≡ minus_of p a → s ≡ said i w → r ≡ join_of m s → r ≡ given p i w
 unfolding given

@@ -4,9 +4,17 @@ use Rattle.logic.specs.Lists.{Among, Every}
 use Rattle.logic.specs.Tests.{both, pick, keep}
 use Rattle.sets.specs.declared.Pair.{Pair}
 use Rattle.sets.specs.Pairs.{join_of, minus_of}
+use Rattle.page.specs.declared.Value.{Value}
+use Rattle.page.specs.declared.Value.TheVariants.{Absent, Held, Denied}
 use Rattle.meaning.specs.Books.{Book, Lawful}
 use Rattle.meaning.specs.Order.{Ascending, Point, at, Later}
 use Rattle.meaning.specs.Twins.Tables.{differs_from}
+
+-- The value's number in the order of pairs, as `value` of Order has it.
+abbrev pub number : Value → ℕ
+number Absent = 0
+number Held = 1
+number Denied = 2
 
 -- The pair that takes these exceptions and says nothing of any statement.
 abbrev pub bare : ℕ → Pair

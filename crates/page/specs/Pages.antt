@@ -1,5 +1,5 @@
 -- What the search promises: a page, the first so many pairs of a list in a lent slice; and what settling a statement and trying its values need.
-use Rattle.std.specs.Prelude.{◌≡◌, ℕ, zero, suc, ◌+◌, ◌-◌, ◌*◌, ◌<◌, ◌≤◌, Bool, true, List, [], ◌∷◌, length, take, slice_index}
+use Rattle.std.specs.Prelude.{Option, Some, None, ◌≡◌, ℕ, zero, suc, ◌+◌, ◌-◌, ◌*◌, ◌<◌, ◌≤◌, Bool, true, List, [], ◌∷◌, length, take, slice_index}
 use Rattle.std.proofs.lemmas.List.Edits.{sets}
 use Rattle.logic.specs.Lists.{Among}
 use Rattle.logic.specs.Tests.{Decides, keep}
@@ -13,8 +13,6 @@ use Rattle.meaning.specs.Order.{value as value_at}
 use Rattle.page.specs.declared.Task.{Task}
 use Rattle.page.specs.declared.Node.{Node}
 use Rattle.page.specs.declared.Stretch.{Stretch}
-use Rattle.page.specs.declared.Branch.{Branch}
-use Rattle.page.specs.declared.Branch.TheVariants.{Cut, Open}
 use Rattle.page.specs.Orders.{bare, given, tried, all_from, passes, list_from}
 
 -- ---- pages
@@ -131,10 +129,16 @@ pub record Child (ws ranks : List ℕ) (q : Task) (left w : ℕ) (d c : Node) : 
   pub same : (g : Pair → Bool) → passing g q (suc left) d (branch_from q left w d) ≡ passing g q left c (all_from q.statements left c.pair)
 
 -- The branch of the value w: where it is cut nothing is lost, where it is open it goes on.
-pub record Branched (ws ranks : List ℕ) (q : Task) (left w : ℕ) (d : Node) (r : Branch) : Type 0 where
-  pub cut : r ≡ Cut → (g : Pair → Bool) → Picks ws q.rules ranks (branch_from q left w d) g → Covered g q (suc left) d
+pub record Branched (ws ranks : List ℕ) (q : Task) (left w : ℕ) (d : Node) (r : Option Node) : Type 0 where
+  pub cut : r ≡ None → (g : Pair → Bool) → Picks ws q.rules ranks (branch_from q left w d) g → Covered g q (suc left) d
       → passing g q (suc left) d (branch_from q left w d) ≡ []
-  pub opened : (c : Node) → r ≡ Open c → Child ws ranks q left w d c
+  pub opened : (c : Node) → r ≡ Some c → Child ws ranks q left w d c
+
+-- The node begins a search for the pairs with these exceptions within the bounds b; where t is true it is the point's own.
+pub record Started (exceptions : ℕ) (b : Bounds) (t : Bool) (d : Node) : Type 0 where
+  pub own : d.equal ≡ t
+  pub pair : d.pair ≡ bare exceptions
+  pub bounds : d.bounds ≡ b
 
 -- The page of all pairs with these exceptions that have the property P, where t is true of those later than the point, if none is beyond the bounds b.
 pub record Listed (P : Pair → Type 0) (q : Task) (exceptions : ℕ) (b : Bounds) (t : Bool) (at : ℕ) (o o' : List ℕ) (r : ℕ) : Type 0 where

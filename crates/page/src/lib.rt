@@ -1,33 +1,34 @@
 // The views with one set of exceptions, in the order of pairs, from a point on, into a lent slice until it is full.
 #![tactic(auto)]
 
-ghost use Rattle.std.specs.Prelude.{◌≡◌, ◌+◌, ◌-◌, ◌*◌, ◌<◌, ◌≤◌, [], ◌∷◌, length, ◌==◌, nat_lt};
+ghost use Rattle.std.specs.Prelude.{None, ◌≡◌, ◌+◌, ◌-◌, ◌*◌, ◌<◌, ◌≤◌, [], ◌∷◌, length, ◌==◌, nat_lt};
 ghost use Rattle.std.proofs.lemmas.List.Edits.{sets};
 ghost use Rattle.logic.specs.Tests.{both};
 ghost use Rattle.masks.specs.Views.{MaskView};
 ghost use Rattle.bounds.specs.Sound.{Keeps};
 ghost use Rattle.queue.specs.Chains.{Chains};
-ghost use Rattle.probe.specs.declared.Answer.TheVariants.{Nothing};
 ghost use Rattle.meaning.specs.Order.{value as value_of};
-ghost use Rattle.page.specs.Orders.{about as about_of, said as said_of, given as given_of};
+ghost use Rattle.page.specs.Orders.{number, about as about_of, said as said_of, given as given_of};
 ghost use Rattle.sets.specs.Pairs.{flat};
-ghost use Rattle.page.specs.Pages.{pair_at, Giving, ViewGiving, Barren, Fits, BranchReady, Ready, GoneOn, Settled, Tried, TriedOne, Branched, Listed};
+ghost use Rattle.page.specs.Pages.{pair_at, Giving, ViewGiving, Barren, Fits, BranchReady, Ready, GoneOn, Settled, TriedOne, Branched, Started, Listed};
 
+use bounds::Part;
 use masks::Bounds;
-use probe::Answer;
 use queue::index::Index;
 use queue::waiting::Waiting;
 use queue::{Rest, index, waiting};
 use sets::Pair;
 
-// The values of a statement in the order of pairs: absent, held, denied.
-pub const ABSENT: u64 = 0;
+// The value of a statement, in the order of pairs.
+#[derive(Clone, Copy, PartialEq, Eq, PartialOrd, Ord)]
+pub enum Value {
+    Absent,
+    Held,
+    Denied,
+}
 
-pub const HELD: u64 = 1;
-
-pub const DENIED: u64 = 2;
-
-pub const VALUES: u64 = 3;
+// All values, in that order.
+pub const VALUES: [Value; 3] = [Value::Absent, Value::Held, Value::Denied];
 
 // How many branches without a find it takes until `glimpse` searches for a view.
 const MANY: u64 = 64;
@@ -62,25 +63,18 @@ pub struct Place {
     pub dry: u64,
 }
 
-// What becomes of a value: no view has it, or the search goes on from a node.
-#[derive(Clone, Copy)]
-pub enum Branch {
-    Cut,
-    Open(Node),
-}
-
 // What the pair says of statement i.
-pub fn value_at(p: Pair, i: u64) -> u64
+pub fn value_at(p: Pair, i: u64) -> Value
     requires { (0 < i) × (i ≤ 64) }
-    ensures { result ≡ value_of p i }
+    ensures { number result ≡ value_of p i }
 {
     if sets::member(i, p.held) {
-        return HELD;
+        Value::Held
+    } else if sets::member(i, p.denied) {
+        Value::Denied
+    } else {
+        Value::Absent
     }
-    if sets::member(i, p.denied) {
-        return DENIED;
-    }
-    ABSENT
 }
 
 // Both conclusions about statement i.
@@ -97,35 +91,29 @@ pub fn about(i: u64) -> Pair
 }
 
 // The conclusion about statement i that the value stands for, if any.
-pub fn said(i: u64, value: u64) -> Pair
+pub fn said(i: u64, value: Value) -> Pair
     requires { (0 < i) × (i ≤ 64) }
-    ensures { result ≡ said_of i value }
+    ensures { result ≡ said_of i (number value) }
 {
-    if value == ABSENT {
-        return Pair {
-            taken: 0,
-            held: 0,
-            denied: 0,
-        };
+    match value {
+        Value::Absent => Pair::EMPTY,
+        Value::Held => bounds::one(Part::Held, i - 1),
+        Value::Denied => bounds::one(Part::Denied, i - 1),
     }
-    if value == HELD {
-        return bounds::one(bounds::HELD, i - 1);
-    }
-    bounds::one(bounds::DENIED, i - 1)
 }
 
 // The pair with the value at statement i.
-pub fn given(p: Pair, i: u64, value: u64) -> Pair
+pub fn given(p: Pair, i: u64, value: Value) -> Pair
     requires { (0 < i) × (i ≤ 64) }
-    ensures { result ≡ given_of p i value }
+    ensures { result ≡ given_of p i (number value) }
 {
     sets::join(sets::minus(p, about(i)), said(i, value))
 }
 
 // Bounds for the pairs within b that have the value at statement i.
-pub fn fixed(b: Bounds, i: u64, value: u64) -> Bounds
+pub fn fixed(b: Bounds, i: u64, value: Value) -> Bounds
     requires { (0 < i) × (i ≤ 64) }
-    ensures { Keeps (Giving i value) b result }
+    ensures { Keeps (Giving i (number value)) b result }
 {
     let m = said(i, value);
     bounds::out(bounds::into(b, m), sets::minus(about(i), m))
@@ -140,16 +128,13 @@ pub fn narrow(
     live: Waiting,
     b: Bounds,
     i: u64,
-    value: u64,
+    value: Value,
 ) -> Rest
     requires { (n * 8 ≤ length words.now) × (length ranks.now ≤ 64) × (0 < i) × (i ≤ 64) × Chains words.now n index.now }
-    ensures { Keeps (ViewGiving words.now n ranks.now i value) b result.bounds }
+    ensures { Keeps (ViewGiving words.now n ranks.now i (number value)) b result.bounds }
 {
     let c = fixed(b, i, value);
-    if bounds::unchanged(b, c) {
-        return Rest { bounds: c, live };
-    }
-    if !sets::within(c.lo, c.hi) {
+    if b == c || !sets::within(c.lo, c.hi) {
         return Rest { bounds: c, live };
     }
     let w = index::among(index, live, b, c);
@@ -157,23 +142,17 @@ pub fn narrow(
 }
 
 // Where the statements settled so far are the point's: the value comes before the point's own.
-pub fn earlier(equal: bool, value: u64, own: u64) -> bool
-    ensures { result ≡ both equal (nat_lt value own) }
+pub fn earlier(equal: bool, value: Value, own: Value) -> bool
+    ensures { result ≡ both equal (nat_lt (number value) (number own)) }
 {
-    if equal {
-        return value < own;
-    }
-    false
+    equal && value < own
 }
 
 // With the value the statements settled are still the point's.
-pub fn still(equal: bool, value: u64, own: u64) -> bool
-    ensures { result ≡ both equal (value == own) }
+pub fn still(equal: bool, value: Value, own: Value) -> bool
+    ensures { result ≡ both equal (number value == number own) }
 {
-    if equal {
-        return value == own;
-    }
-    false
+    equal && value == own
 }
 
 // Whether any view is within the bounds: asked only after many branches without a find, not where the point's own branch goes on, and not
@@ -188,41 +167,35 @@ pub fn glimpse(
     live: Waiting,
     b: Bounds,
     hint: Pair,
-) -> Answer
+) -> Option<Pair>
     requires { (n * 8 ≤ length words.now) × (length ranks.now ≤ 64) × Chains words.now n index.now }
-    ensures { result ≡ Nothing → Barren words.now n ranks.now b }
+    ensures { result ≡ None → Barren words.now n ranks.now b }
 {
-    if dry < MANY {
-        return Answer::Found(hint);
-    }
-    if equal {
-        return Answer::Found(hint);
-    }
-    if sets::within(b.lo, hint) && sets::within(hint, b.hi) {
-        return Answer::Found(hint);
+    if dry < MANY || equal || (sets::within(b.lo, hint) && sets::within(hint, b.hi)) {
+        return Some(hint);
     }
     probe::ask(words, n, ranks, index, waiting::none(live), b)
 }
 
-// The branch of a value at a statement that `left` others follow: cut if it comes before the point, forced conclusions clash,
-// or it is barren.
+// The branch of a value at a statement that `left` others follow: the node that the search goes on from, or none if the value comes before the
+// point's own, forced conclusions clash, or the branch is barren.
 pub fn branch_of(
     words: &[u64],
     ranks: &[u64],
     index: &Index,
     task: Task,
     left: u64,
-    value: u64,
+    value: Value,
     node: Node,
     dry: u64,
-) -> Branch
-    requires { (BranchReady words.now ranks.now task left value) × Chains words.now task.rules index.now }
-    ensures { Branched words.now ranks.now task left value node result }
+) -> Option<Node>
+    requires { (BranchReady words.now ranks.now task left (number value)) × Chains words.now task.rules index.now }
+    ensures { Branched words.now ranks.now task left (number value) node result }
 {
     let i = task.statements - left;
     let own = value_at(task.point, i);
     if earlier(node.equal, value, own) {
-        return Branch::Cut;
+        return None;
     }
     let rest = narrow(
         words,
@@ -237,25 +210,24 @@ pub fn branch_of(
     let bounds = rest.bounds;
     let live = rest.live;
     if !sets::within(bounds.lo, bounds.hi) {
-        return Branch::Cut;
+        return None;
     }
     let equal = still(node.equal, value, own);
-    let a = glimpse(
+    let hint = glimpse(
         words, task.rules, ranks, index, dry, equal, live, bounds, node.hint,
-    );
-    match a {
-        Answer::Nothing => Branch::Cut,
-        Answer::Found(hint) => Branch::Open(Node {
-            equal,
-            pair: given(node.pair, i, value),
-            bounds,
-            live,
-            hint,
-        }),
-    }
+    )?;
+    let pair = given(node.pair, i, value);
+    Some(Node {
+        equal,
+        pair,
+        bounds,
+        live,
+        hint,
+    })
 }
 
 // Writes the pair at place `at`.
+// Kept: the C interface lends a page as words, three to a pair (`bantameasel_first_page`), so a page is no slice of pairs.
 pub fn put(out: &mut [u64], at: usize, p: Pair)
     requires { at * 3 + 3 ≤ length out.old }
     ensures { out.new ≡ sets out.old (at * 3) (flat (p ∷ [])) }
@@ -325,26 +297,23 @@ pub fn ahead(node: Node, n: u64, left: u64) -> Stretch
     ensures { GoneOn n left node result }
 {
     let mut pair = node.pair;
-    let mut l = left;
     if node.equal {
-        return Stretch { pair, left: l };
+        return Stretch { pair, left };
     }
     let x = sets::minus(node.bounds.hi, node.bounds.lo);
     let free = x.held | x.denied;
-    while 0 < l {
-        let i = n - (l - 1);
-        if (free >> (i - 1)) % 2 == 1 {
-            return Stretch { pair, left: l };
+    for i in n - left..n {
+        if (free >> i) % 2 == 1 {
+            return Stretch { pair, left: n - i };
         }
-        pair = given(pair, i, value_at(node.bounds.lo, i));
-        l -= 1;
+        pair = given(pair, i + 1, value_at(node.bounds.lo, i + 1));
     }
-    Stretch { pair, left: l }
+    Stretch { pair, left: 0 }
 }
 
 // Settles the last `left` statements: puts the views that come from the node on the page, in order, and answers the place after them. Statements
 // that the bounds have settled are passed over.
-#[cycle(settle_try_value_values)]
+#[cycle(settle_try_value)]
 pub fn settle(
     words: &[u64],
     ranks: &[u64],
@@ -360,84 +329,69 @@ pub fn settle(
 {
     let a = ahead(node, task.statements, left);
     let pair = a.pair;
-    let bounds = node.bounds;
-    let live = node.live;
-    let hint = node.hint;
-    let next = Node {
-        equal: node.equal,
-        pair,
-        bounds,
-        live,
-        hint,
-    };
+    let next = Node { pair, ..node };
     if a.left == 0 {
         return finish(words, ranks, task, next, out, place);
     }
-    values(words, ranks, index, task, a.left, VALUES, next, out, place)
-}
-
-// Tries the last `rest` values of the first statement left: absent, held, denied.
-#[cycle(settle_try_value_values)]
-pub fn values(
-    words: &[u64],
-    ranks: &[u64],
-    index: &Index,
-    task: Task,
-    left: u64,
-    rest: u64,
-    node: Node,
-    out: &mut [u64],
-    place: Place,
-) -> Place
-    requires { (Ready words.now ranks.now out.old task left place.at) × (0 < left) × (0 < rest) × (rest ≤ 3) × Chains words.now task.rules index.now }
-    ensures { Tried (MaskView words.now task.rules ranks.now) task (left - 1) rest node place.at out.old out.new result.at }
-{
-    if rest == 1 {
-        return try_value(words, ranks, index, task, left, DENIED, node, out, place);
+    let mut r = place;
+    for &value in &VALUES {
+        r = try_value(words, ranks, index, task, a.left, value, next, out, r);
     }
-    let r = try_value(
-        words,
-        ranks,
-        index,
-        task,
-        left,
-        VALUES - rest,
-        node,
-        out,
-        place,
-    );
-    values(words, ranks, index, task, left, rest - 1, node, out, r)
+    r
 }
 
-// Tries one of them. What a branch takes on the stack is here, once for each statement, and not in the calls for the values before it.
-#[cycle(settle_try_value_values)]
+// Tries a value of the first statement left. What a branch takes on the stack is here, once for each statement.
+#[cycle(settle_try_value)]
 pub fn try_value(
     words: &[u64],
     ranks: &[u64],
     index: &Index,
     task: Task,
     left: u64,
-    value: u64,
+    value: Value,
     node: Node,
     out: &mut [u64],
     place: Place,
 ) -> Place
-    requires { (Ready words.now ranks.now out.old task left place.at) × (0 < left) × (value ≤ 2) × Chains words.now task.rules index.now }
-    ensures { TriedOne (MaskView words.now task.rules ranks.now) task (left - 1) value node place.at out.old out.new result.at }
+    requires { (Ready words.now ranks.now out.old task left place.at) × (0 < left) × Chains words.now task.rules index.now }
+    ensures { TriedOne (MaskView words.now task.rules ranks.now) task (left - 1) (number value) node place.at out.old out.new result.at }
 {
     if task.room <= place.at {
         return place;
     }
-    let b = branch_of(words, ranks, index, task, left - 1, value, node, place.dry);
-    match b {
-        Branch::Cut => place,
-        Branch::Open(c) => {
+    match branch_of(words, ranks, index, task, left - 1, value, node, place.dry) {
+        None => place,
+        Some(c) => {
             let next = Place {
                 at: place.at,
-                dry: std::num::wrapping_add_u64(place.dry, 1),
+                dry: place.dry.wrapping_add(1),
             };
             settle(words, ranks, index, task, left - 1, c, out, next)
         }
+    }
+}
+
+// The node that a search for the pairs with these exceptions within the bounds begins with. Its hint is within no bounds.
+pub fn start(taken: u64, rest: Rest, equal: bool) -> Node
+    ensures { Started taken rest.bounds equal result }
+{
+    let bounds = rest.bounds;
+    let live = rest.live;
+    // Kept: a hint that is an Option would make the answer of `glimpse` an Option of an Option, since it may answer with a hint that is none.
+    let hint = Pair {
+        taken: EVERY,
+        held: EVERY,
+        denied: EVERY,
+    };
+    Node {
+        equal,
+        pair: Pair {
+            taken,
+            ..Pair::EMPTY
+        },
+        bounds,
+        live,
+        hint,
     }
 }
 
@@ -461,23 +415,7 @@ pub fn list_views(
     if task.room <= at {
         return at;
     }
-    let bounds = rest.bounds;
-    let live = rest.live;
-    let node = Node {
-        equal: after,
-        pair: Pair {
-            taken,
-            held: 0,
-            denied: 0,
-        },
-        bounds,
-        live,
-        hint: Pair {
-            taken: EVERY,
-            held: EVERY,
-            denied: EVERY,
-        },
-    };
+    let node = start(taken, rest, after);
     let place = Place { at, dry: 0 };
     settle(words, ranks, index, task, task.statements, node, out, place).at
 }

@@ -10,10 +10,11 @@ use Rattle.page.specs.Pages.{Page}
 use Rattle.meaning.specs.Books.{Book, Lawful}
 use Rattle.meaning.specs.Order.{Point}
 use Rattle.resolution.specs.Rooted.{Rooted}
+use Rattle.standing.specs.declared.memory.Memory.{Memory}
 use Rattle.standing.specs.Standing.{Right, StandingView}
 
 -- A part of the search: its place is in the room or at its end, the memory stays right, and where the memory is right, S holds of what is put on the page.
-pub record Sifts (ws ranks : List ℕ) (root : Bounds) (q : Task) (w w' : List ℕ) (r : ℕ) (S : Type 0) : Type 0 where
+pub record Sifts (ws ranks : List ℕ) (root : Bounds) (q : Task) (w w' : Memory) (r : ℕ) (S : Type 0) : Type 0 where
   pub most : r ≤ q.room
   pub memory : Right ws q.rules ranks root w → Right ws q.rules ranks root w'
   pub page : Right ws q.rules ranks root w → S
@@ -24,7 +25,7 @@ pub record Serves (b : Book) (ws ranks : List ℕ) (root : Bounds) (q : Task) : 
   pub statements : q.statements ≡ b.statements
 
 -- What a task asks of one set t, all of whose views are within the bounds c: the listing begins at the point, or before the first pair with that set.
-pub record Asked (b : Book) (from : Point) (ws ranks : List ℕ) (root : Bounds) (q : Task) (t : ℕ) (c : Bounds) (w : List ℕ) (later : Bool) (point : Pair) : Type 0 where
+pub record Asked (b : Book) (from : Point) (ws ranks : List ℕ) (root : Bounds) (q : Task) (t : ℕ) (c : Bounds) (w : Memory) (later : Bool) (point : Pair) : Type 0 where
   pub serves : Serves b ws ranks root q
   pub has : t < 2 ^ length b.exceptions
   pub right : Right ws q.rules ranks root w
@@ -32,7 +33,7 @@ pub record Asked (b : Book) (from : Point) (ws ranks : List ℕ) (root : Bounds)
   pub bounded : (p : Pair) → Lawful b p → p.taken ≡ t → MaskView ws q.rules ranks p → In c p
 
 -- The page of the views that stand.
-pub record AllSifted (ws ranks : List ℕ) (root : Bounds) (q : Task) (t : ℕ) (c : Bounds) (after : Bool) (k : ℕ) (w w' o o' : List ℕ) (r : ℕ) : Type 0 where
+pub record AllSifted (ws ranks : List ℕ) (root : Bounds) (q : Task) (t : ℕ) (c : Bounds) (after : Bool) (k : ℕ) (w w' : Memory) (o o' : List ℕ) (r : ℕ) : Type 0 where
   pub most : r ≤ q.room
   pub memory : Right ws q.rules ranks root w → Right ws q.rules ranks root w'
   pub part : (b : Book) (from : Point) → Asked b from ws ranks root q t c w after q.point

@@ -5,19 +5,16 @@
 ghost use Rattle.std.specs.Prelude.{◌+◌, ◌-◌, ◌*◌, ◌<◌, ◌≤◌, length};
 ghost use Rattle.bounds.specs.Sound.{Keeps};
 ghost use Rattle.queue.specs.Chains.{Chains};
-ghost use Rattle.page.specs.Pages.{Fits, Ready, Settled, Tried, TriedOne};
+ghost use Rattle.page.specs.Orders.{number};
+ghost use Rattle.page.specs.Pages.{Fits, Ready, Settled, TriedOne};
 ghost use Rattle.standing.specs.Standing.{Right, StandingView};
 ghost use Rattle.sifting.specs.Sifted.{Sifts, AllSifted};
 
 use masks::Bounds;
-use page::{Branch, Node, Place, Task};
+use page::{Node, Place, Task, Value};
 use queue::Rest;
 use queue::index::Index;
-use sets::Pair;
 use standing::memory::Memory;
-
-// The set of all numbers that a word has room for.
-const EVERY: u64 = 0xffff_ffff_ffff_ffff;
 
 // Every statement is settled: the pair is put on the page if it is a view that stands and not the point itself.
 pub fn finish(
@@ -64,14 +61,16 @@ pub fn lessened(
     let b = node.bounds;
     let live = node.live;
     let rest = Rest { bounds: b, live };
-    if bounds::unchanged(from, b) {
+    if from == b {
         return rest;
     }
     standing::bans::unbanned(words, n, ranks, index, rest, memory)
 }
 
 // Settles the last `left` statements: puts the views that come from the node and stand on the page, in order, and answers the place after them.
-#[cycle(settle_try_value_values)]
+// Kept: one function for this and `page::settle` would take a trait for the property, the memory, the last test and the narrowing, of which `page` needs
+// the test alone; `page::settle` besides passes over settled statements.
+#[cycle(settle_try_value)]
 pub fn settle(
     words: &[u64],
     ranks: &[u64],
@@ -90,84 +89,17 @@ pub fn settle(
     if left == 0 {
         return finish(words, ranks, index, root, task, node, memory, out, place);
     }
-    values(
-        words,
-        ranks,
-        index,
-        root,
-        task,
-        left,
-        page::VALUES,
-        node,
-        memory,
-        out,
-        place,
-    )
-}
-
-// Tries the last `rest` values of the first statement left: absent, held, denied.
-#[cycle(settle_try_value_values)]
-pub fn values(
-    words: &[u64],
-    ranks: &[u64],
-    index: &Index,
-    root: Bounds,
-    task: Task,
-    left: u64,
-    rest: u64,
-    node: Node,
-    memory: &mut Memory,
-    out: &mut [u64],
-    place: Place,
-) -> Place
-    requires { Ready words.now ranks.now out.old task left place.at × (0 < left) × (0 < rest) × (rest ≤ 3) × Chains words.now task.rules index.now × ((task.rules + 32) * 8 ≤ length words.now) }
-    ensures { Sifts words.now ranks.now root task memory.old memory.new result.at (Tried (StandingView words.now task.rules ranks.now root) task (left - 1) rest node place.at out.old out.new result.at) }
-{
-    if rest == 1 {
-        return try_value(
-            words,
-            ranks,
-            index,
-            root,
-            task,
-            left,
-            page::DENIED,
-            node,
-            memory,
-            out,
-            place,
+    let mut r = place;
+    for &value in &page::VALUES {
+        r = try_value(
+            words, ranks, index, root, task, left, value, node, memory, out, r,
         );
     }
-    let r = try_value(
-        words,
-        ranks,
-        index,
-        root,
-        task,
-        left,
-        page::VALUES - rest,
-        node,
-        memory,
-        out,
-        place,
-    );
-    values(
-        words,
-        ranks,
-        index,
-        root,
-        task,
-        left,
-        rest - 1,
-        node,
-        memory,
-        out,
-        r,
-    )
+    r
 }
 
-// Tries one of them. What a branch takes on the stack is here, once for each statement.
-#[cycle(settle_try_value_values)]
+// Tries a value of the first statement left. What a branch takes on the stack is here, once for each statement.
+#[cycle(settle_try_value)]
 pub fn try_value(
     words: &[u64],
     ranks: &[u64],
@@ -175,41 +107,32 @@ pub fn try_value(
     root: Bounds,
     task: Task,
     left: u64,
-    value: u64,
+    value: Value,
     node: Node,
     memory: &mut Memory,
     out: &mut [u64],
     place: Place,
 ) -> Place
-    requires { Ready words.now ranks.now out.old task left place.at × (0 < left) × (value ≤ 2) × Chains words.now task.rules index.now × ((task.rules + 32) * 8 ≤ length words.now) }
-    ensures { Sifts words.now ranks.now root task memory.old memory.new result.at (TriedOne (StandingView words.now task.rules ranks.now root) task (left - 1) value node place.at out.old out.new result.at) }
+    requires { Ready words.now ranks.now out.old task left place.at × (0 < left) × Chains words.now task.rules index.now × ((task.rules + 32) * 8 ≤ length words.now) }
+    ensures { Sifts words.now ranks.now root task memory.old memory.new result.at (TriedOne (StandingView words.now task.rules ranks.now root) task (left - 1) (number value) node place.at out.old out.new result.at) }
 {
     if task.room <= place.at {
         return place;
     }
     let n = task.rules;
-    let b = page::branch_of(words, ranks, index, task, left - 1, value, node, place.dry);
-    match b {
-        Branch::Cut => place,
-        Branch::Open(c) => {
+    match page::branch_of(words, ranks, index, task, left - 1, value, node, place.dry) {
+        None => place,
+        Some(c) => {
             let r = lessened(words, n, ranks, index, node.bounds, c, memory);
             let bounds = r.bounds;
             let live = r.live;
             if !sets::within(bounds.lo, bounds.hi) {
                 return place;
             }
-            let pair = c.pair;
-            let hint = c.hint;
-            let d = Node {
-                equal: c.equal,
-                pair,
-                bounds,
-                live,
-                hint,
-            };
+            let d = Node { bounds, live, ..c };
             let next = Place {
                 at: place.at,
-                dry: std::num::wrapping_add_u64(place.dry, 1),
+                dry: place.dry.wrapping_add(1),
             };
             settle(
                 words,
@@ -248,23 +171,7 @@ pub fn list_standing(
     if task.room <= at {
         return at;
     }
-    let bounds = rest.bounds;
-    let live = rest.live;
-    let node = Node {
-        equal: after,
-        pair: Pair {
-            taken: t,
-            held: 0,
-            denied: 0,
-        },
-        bounds,
-        live,
-        hint: Pair {
-            taken: EVERY,
-            held: EVERY,
-            denied: EVERY,
-        },
-    };
+    let node = page::start(t, rest, after);
     let place = Place { at, dry: 0 };
     settle(
         words,

@@ -22,6 +22,7 @@ use Rattle.probe.specs.declared.Outcome.{Outcome}
 use Rattle.probe.specs.declared.Outcome.TheVariants.{Has, Lacks, Stopped}
 use Rattle.probe.specs.Probes.{Opened}
 use Rattle.admissible.specs.Admissible.{Stands}
+use Rattle.standing.specs.declared.memory.Memory.{Memory}
 use Rattle.standing.specs.Standing.{Right, Unbanned, StandingIn, AttemptedIn}
 use Rattle.standing.proofs.Halving.{in_left, from_out, from-into}
 
@@ -42,12 +43,12 @@ module _ (ws : List ℕ) (n : ℕ) (ranks : List ℕ) (root b : Bounds) where
   }
 
 -- ---- a search that may stop
-module _ (ws : List ℕ) (n : ℕ) (ranks : List ℕ) (root b : Bounds) (mem : List ℕ) (x : Node) (o : Opened ws n ranks b x) where
+module _ (ws : List ℕ) (n : ℕ) (ranks : List ℕ) (root b : Bounds) (mem : Memory) (x : Node) (o : Opened ws n ranks b x) where
   -- If the memory is right it stays so, and what is said of c is right.
-  abbrev Tried : List ℕ → Bounds → Outcome → Type 0
+  abbrev Tried : Memory → Bounds → Outcome → Type 0
   Tried mem' c r = Right ws n ranks root mem → Right ws n ranks root mem' × AttemptedIn ws n ranks root c r
 
-  module _ (v : Pair) (e : x ≡ View v) (mem' : List ℕ) (r : Bool) (f : Right ws n ranks root mem → Right ws n ranks root mem' × Decides r (Stands ws n ranks root v)) where
+  module _ (v : Pair) (e : x ≡ View v) (mem' : Memory) (r : Bool) (f : Right ws n ranks root mem → Right ws n ranks root mem' × Decides r (Stands ws n ranks root v)) where
     pub tried-view : r ≡ true → Tried mem' b (Has v)
     tried-view d q = let g = f q in let y = o.view v e in (g.0, has-only ws n ranks root b v (y.0, y.1, g.1.yes d))
 
@@ -65,14 +66,14 @@ module _ (ws : List ℕ) (n : ℕ) (ranks : List ℕ) (root b : Bounds) (mem : L
     pub tried-void : (w : Bool) → Decides w (Sub d.lo d.hi) → not w ≡ true → (left : ℕ) → Tried mem b (Lacks left)
     tried-void w dw ew left q = (q, lacks-all ws n ranks root b left (λ v y i s. let k = left_in q v y i s in refused dw ew (sub_trans k.lo k.hi)))
 
-    module _ (p : Bounds) (ep : p ≡ out_of d m) (mem₁ : List ℕ) (a : Outcome) (f : Tried mem₁ p a) where
+    module _ (p : Bounds) (ep : p ≡ out_of d m) (mem₁ : Memory) (a : Outcome) (f : Tried mem₁ p a) where
       pub tried-out : (v : Pair) → a ≡ Has v → Tried mem₁ b (Has v)
       tried-out v ea q =
           let g = f q in
           let k = rw ep at (g.1.found v ea) in
           (g.0, has-only ws n ranks root b v (k.0, from_out ws n ranks root b mem x o c m live e d u k.1, k.2))
 
-      pub tried-into : (left : ℕ) → a ≡ Lacks left → (p' : Bounds) → p' ≡ into_of d m → (mem₂ : List ℕ) (a' : Outcome) → (Right ws n ranks root mem₁ → Right ws n ranks root mem₂ × AttemptedIn ws n ranks root p' a') → Tried mem₂ b a'
+      pub tried-into : (left : ℕ) → a ≡ Lacks left → (p' : Bounds) → p' ≡ into_of d m → (mem₂ : Memory) (a' : Outcome) → (Right ws n ranks root mem₁ → Right ws n ranks root mem₂ × AttemptedIn ws n ranks root p' a') → Tried mem₂ b a'
       tried-into left ea p' ep' mem₂ a' f' q =
           let g = f q in
           let g' = f' g.0 in (
@@ -86,19 +87,19 @@ module _ (ws : List ℕ) (n : ℕ) (ranks : List ℕ) (root b : Bounds) (mem : L
           )
 
 -- ---- what the whole search makes of it
-module _ (ws : List ℕ) (n : ℕ) (ranks : List ℕ) (root b : Bounds) (mem mem' : List ℕ) (a : Outcome) (f : Right ws n ranks root mem → Right ws n ranks root mem' × AttemptedIn ws n ranks root b a) where
+module _ (ws : List ℕ) (n : ℕ) (ranks : List ℕ) (root b : Bounds) (mem mem' : Memory) (a : Outcome) (f : Right ws n ranks root mem → Right ws n ranks root mem' × AttemptedIn ws n ranks root b a) where
   pub stands-has : (v : Pair) → a ≡ Has v → Right ws n ranks root mem → Right ws n ranks root mem' × StandingIn ws n ranks root b true
   stands-has v e q = let g = f q in let k = g.1.found v e in (g.0, record { found = λ z. (v, k.0, k.1, k.2); none = λ z. absurd (clash (sym z)) })
 
   pub stands-lacks : (left : ℕ) → a ≡ Lacks left → Right ws n ranks root mem → Right ws n ranks root mem' × StandingIn ws n ranks root b false
   stands-lacks left e q = let g = f q in (g.0, record { found = λ z. absurd (clash z); none = λ z. g.1.none left e })
 
-  pub stands-anew : (mem₂ : List ℕ) (r : Bool) → (Right ws n ranks root mem' → Right ws n ranks root mem₂ × StandingIn ws n ranks root b r)
+  pub stands-anew : (mem₂ : Memory) (r : Bool) → (Right ws n ranks root mem' → Right ws n ranks root mem₂ × StandingIn ws n ranks root b r)
       → Right ws n ranks root mem → Right ws n ranks root mem₂ × StandingIn ws n ranks root b r
   stands-anew mem₂ r g q = g (f q).0
 
 -- A search within what propagation leaves is one within the bounds themselves.
-pub stands-within : {ws : List ℕ} {n : ℕ} {ranks : List ℕ} {root b c d : Bounds} {mem mem' : List ℕ} {r : Bool} → Propagated ws n ranks b c → Propagated ws n ranks c d
+pub stands-within : {ws : List ℕ} {n : ℕ} {ranks : List ℕ} {root b c d : Bounds} {mem mem' : Memory} {r : Bool} → Propagated ws n ranks b c → Propagated ws n ranks c d
     → (Right ws n ranks root mem → Right ws n ranks root mem' × StandingIn ws n ranks root d r) → Right ws n ranks root mem → Right ws n ranks root mem' × StandingIn ws n ranks root b r
 stands-within f g h q = let k = h q in (
   k.0,

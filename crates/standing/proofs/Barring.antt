@@ -26,6 +26,7 @@ use Rattle.bounds.proofs.Steps.{in-out, keeps_then, keeps-less}
 use Rattle.admissible.specs.Admissible.{Stands}
 use Rattle.superior.specs.Superiors.{Used}
 use Rattle.superior.proofs.Lines.{one-and, fires-more}
+use Rattle.standing.specs.declared.memory.Memory.{Memory}
 use Rattle.standing.specs.Standing.{ban_at, Right, Failing, Joins, ShutAt, Shut, Spared, StandingView, Unbanned}
 
 -- ---- lines that do not count
@@ -92,7 +93,7 @@ module _ (ws : List ℕ) (n : ℕ) (ranks : List ℕ) (sure t l : ℕ) (b : Boun
             (here_of t f g.upper g.upper_in)
 
 -- ---- all bans
-module _ (ws : List ℕ) (n : ℕ) (ranks mem : List ℕ) (b : Bounds) where
+module _ (ws : List ℕ) (n : ℕ) (ranks : List ℕ) (mem : Memory) (b : Bounds) where
   -- What is left has every pair within b that stands.
   abbrev pub Leaves : Bounds → Type 0
   Leaves o = (root : Bounds) → Right ws n ranks root mem → Keeps (Stands ws n ranks root) b o
@@ -100,13 +101,13 @@ module _ (ws : List ℕ) (n : ℕ) (ranks mem : List ℕ) (b : Bounds) where
   pub leaves_all : Leaves b
   leaves_all root r = record { kept = λ v k i. i }
 
-  pub leaves-turn : (sure k : ℕ) → Counting ws n b.hi b.lo sure → k < 32 → (o p : Bounds) → Leaves o → Keeps (Spared ws n ranks sure (get_or mem (ban_at k) 0) (get_or mem (ban_at k + 1) 0)) o p → Leaves p
+  pub leaves-turn : (sure k : ℕ) → Counting ws n b.hi b.lo sure → k < 32 → (o p : Bounds) → Leaves o → Keeps (Spared ws n ranks sure (ban_at mem k).taken (ban_at mem k).lines) o p → Leaves p
   leaves-turn sure k c h o p f g root r = record {
     kept = λ v s i. g.kept v (record { counts = λ j e. fires-more _ _ _ _ _ i.hi i.lo (c.only j e).1; free = λ q. r.bans k h v q s }) ((f root r).kept v s i);
   }
 
 -- ---- bans and rules in turn
-module _ (ws : List ℕ) (n : ℕ) (ranks mem : List ℕ) (b : Bounds) where
+module _ (ws : List ℕ) (n : ℕ) (ranks : List ℕ) (mem : Memory) (b : Bounds) where
   abbrev pub Spares : Bounds → Type 0
   Spares o = (root : Bounds) → Right ws n ranks root mem → Keeps (StandingView ws n ranks root) b o
 

@@ -21,15 +21,16 @@ use Rattle.masks.proofs.Booleans.{refused, granted, decides-true, decides-false}
 use Rattle.bounds.specs.Sound.{In, Propagated, with_sets}
 use Rattle.bounds.proofs.Ranges.{in-sets, in-root, set_below}
 use Rattle.admissible.specs.Admissible.{Stands, Unexceeded}
+use Rattle.standing.specs.declared.memory.Memory.{Memory}
 use Rattle.standing.specs.Standing.{Right, StandingIn, UnexceededAt, UnexceededIn}
 
 lacks : (v e : ℕ) → bit_of v e ≡ 0 → Apart v (2 ^ e)
 lacks v e z = ⊎_elim (λ f. absurd (let q = single-has e v f in omega arith)) (λ f i. let q = f i in omega arith) (single e v)
 
 -- ---- one member
-module _ (ws : List ℕ) (n : ℕ) (ranks : List ℕ) (root b : Bounds) (mem : List ℕ) (taken e : ℕ) where
+module _ (ws : List ℕ) (n : ℕ) (ranks : List ℕ) (root b : Bounds) (mem : Memory) (taken e : ℕ) where
   -- If the memory is right it stays so, and the test decides.
-  abbrev ToldAt : List ℕ → Bool → Type 0
+  abbrev ToldAt : Memory → Bool → Type 0
   ToldAt mem' r = Right ws n ranks root mem → Right ws n ranks root mem' × Decides r (UnexceededAt ws n ranks root b taken e)
 
   pub at-absent : bit_of taken e ≡ 0 → ToldAt mem true
@@ -39,9 +40,9 @@ module _ (ws : List ℕ) (n : ℕ) (ranks : List ℕ) (root b : Bounds) (mem : L
   pub at-sure : bit_of b.lo.taken e ≡ 1 → ToldAt mem true
   at-sure z q = (q, decides-true (record { has = λ v y i s f. omega (arith, i.lo.taken e, bit-lt taken e) }))
 
-  module _ (h : e < 64) (c : Bounds) (ec : c ≡ with_sets b 0 (without taken (1 * 2 ^ e % 2 ^ 64))) where
+  module _ (x : ℕ) (ex : x ≡ without taken (2 ^ e)) (c : Bounds) (ec : c ≡ with_sets b 0 x) where
     lacking : c ≡ with_sets b 0 (without taken (2 ^ e))
-    lacking = rw (shifted e h) at ec
+    lacking = rw ex at ec
 
     -- A view that is found has a subset of taken that lacks e.
     exceeds : (bit_of taken e ≡ 0 → ⊥) → (v : Pair) × MaskView ws n ranks v × In c v × Stands ws n ranks root v → UnexceededAt ws n ranks root b taken e → ⊥
@@ -59,21 +60,21 @@ module _ (ws : List ℕ) (n : ℕ) (ranks : List ℕ) (root b : Bounds) (mem : L
         go v y i s f zero ed = absurd (k v y (rw lacking (in-sets b 0 _ v i (N.none-sub _) (N.sub-minus _ _ _ f (lacks v.taken e ed)))) s)
         go v y i s f (suc d) ed = omega (arith, bit-lt taken e)
 
-    pub at-asked : (bit_of taken e ≡ 0 → ⊥) → (mem' : List ℕ) (x : Bool) → (Right ws n ranks root mem → Right ws n ranks root mem' × StandingIn ws n ranks root c x) → ToldAt mem' (not x)
+    pub at-asked : (bit_of taken e ≡ 0 → ⊥) → (mem' : Memory) (x : Bool) → (Right ws n ranks root mem → Right ws n ranks root mem' × StandingIn ws n ranks root c x) → ToldAt mem' (not x)
     at-asked z mem' true f q = let g = f q in (g.0, decides-false (exceeds z (g.1.found refl)))
     at-asked z mem' false f q = let g = f q in (g.0, decides-true (needed (g.1.none refl)))
 
 -- ---- all members
-module _ (ws : List ℕ) (n : ℕ) (ranks : List ℕ) (root b : Bounds) (mem : List ℕ) (taken : ℕ) where
+module _ (ws : List ℕ) (n : ℕ) (ranks : List ℕ) (root b : Bounds) (mem : Memory) (taken : ℕ) where
   -- So far: the memory is right, and each of the first k members is needed.
-  abbrev pub SoFar : ℕ → List ℕ → Type 0
+  abbrev pub SoFar : ℕ → Memory → Type 0
   SoFar k mem' = Right ws n ranks root mem → Right ws n ranks root mem' × ((e : ℕ) → e < k → UnexceededAt ws n ranks root b taken e)
 
   pub so-far-none : SoFar 0 mem
   so-far-none q = (q, λ e h. absurd (omega arith))
 
-  module _ (k : ℕ) (mem₁ : List ℕ) (s : SoFar k mem₁) where
-    module _ (mem₂ : List ℕ) (r : Bool) (f : Right ws n ranks root mem₁ → Right ws n ranks root mem₂ × Decides r (UnexceededAt ws n ranks root b taken k)) where
+  module _ (k : ℕ) (mem₁ : Memory) (s : SoFar k mem₁) where
+    module _ (mem₂ : Memory) (r : Bool) (f : Right ws n ranks root mem₁ → Right ws n ranks root mem₂ × Decides r (UnexceededAt ws n ranks root b taken k)) where
       pub so-far-turn : not r ≡ false → SoFar (k + 1) mem₂
       so-far-turn e q = let g = s q in let i = f g.0 in (i.0, below_more _ k g.1 (granted i.1 e))
 
@@ -87,7 +88,7 @@ module _ (ws : List ℕ) (n : ℕ) (ranks : List ℕ) (root b : Bounds) (mem : L
 
 -- ---- what all subsets have in common
 -- The views that matter are within the bounds that are left, and what is within these is within root.
-pub beneath : (ws : List ℕ) (n : ℕ) (ranks : List ℕ) (root : Bounds) (mem mem' : List ℕ) (taken : ℕ) (b o : Bounds) (r : Bool) → b ≡ with_sets root 0 taken → Propagated ws n ranks b o
+pub beneath : (ws : List ℕ) (n : ℕ) (ranks : List ℕ) (root : Bounds) (mem mem' : Memory) (taken : ℕ) (b o : Bounds) (r : Bool) → b ≡ with_sets root 0 taken → Propagated ws n ranks b o
     → (Right ws n ranks root mem → Right ws n ranks root mem' × Decides r (UnexceededIn ws n ranks root o taken))
     → Right ws n ranks root mem → Right ws n ranks root mem' × Decides r (Unexceeded ws n ranks root taken)
 beneath ws n ranks root mem mem' taken b o r eb p0 f q =

@@ -21,12 +21,13 @@ use Rattle.masks.proofs.Booleans.{decides-true, decides-false}
 use Rattle.masks.proofs.Steps.{common, has, leads-more}
 use Rattle.bounds.specs.Sound.{In}
 use Rattle.admissible.specs.Admissible.{Stands}
-use Rattle.probe.specs.declared.Answer.{Answer}
-use Rattle.probe.specs.declared.Answer.TheVariants.{Found, Nothing}
+use Rattle.std.specs.Prelude.{Option, Some, None}
 use Rattle.superior.proofs.Lines.{one-and}
 use Rattle.superior.specs.Superiors.{Used, Usable, Superior}
 use native.Mathlib.Nat.{le_refl}
-use Rattle.standing.specs.Standing.{ban_at, Ranking, Ranked, RightBan, RightFree, Right, Banned, Freed, KnownFree, Crosses, KnownBarred, Searched}
+use Rattle.standing.specs.declared.memory.Row.{Row}
+use Rattle.standing.specs.declared.memory.Memory.{Memory}
+use Rattle.standing.specs.Standing.{ban_at, free_at, Ranking, Ranked, RightBan, RightFree, Right, Banned, Freed, KnownFree, Crosses, KnownBarred, Searched}
 
 same_word : (a b j : ℕ) → a ≡ b → bit_of b j ≡ 1 → bit_of a j ≡ 1
 same_word a b j e x = rw e x
@@ -73,7 +74,7 @@ module _ (ws : List ℕ) (n : ℕ) (ranks : List ℕ) where
     })
 
     -- No view within root leads to t by lines of u.
-    pub free-right : root.hi.taken < 2 ^ 64 → (t u : ℕ) (x : Answer) → Superior ws n ranks root t u u x → x ≡ Nothing → RightFree ws n ranks root t u
+    pub free-right : root.hi.taken < 2 ^ 64 → (t u : ℕ) (x : Option Pair) → Superior ws n ranks root t u u x → x ≡ None → RightFree ws n ranks root t u
     free-right h t u x q e v f g = record {
       free = λ w y i d. q.none e w y i d.upper (low w i d.upper d.upper_in) d.upper_in (record {
         lower = d.lower;
@@ -86,7 +87,7 @@ module _ (ws : List ℕ) (n : ℕ) (ranks : List ℕ) where
         low w i a z = ⊎_elim (λ (l : a < 64). l) (λ (l : 64 ≤ a). let p = i.hi.taken a in let o = bit-over root.hi.taken 64 a h l in absurd (omega arith)) (lt-or-le a 64)
 
     -- A view within root that leads by lines whose steps rank in v dominates it.
-    pub found-falls : (v : Pair) (u : ℕ) → Ranked ws n v u → (x : Answer) → Superior ws n ranks root v.taken u u x → (w : Pair) → x ≡ Found w → Stands ws n ranks root v → ⊥
+    pub found-falls : (v : Pair) (u : ℕ) → Ranked ws n v u → (x : Option Pair) → Superior ws n ranks root v.taken u u x → (w : Pair) → x ≡ Some w → Stands ws n ranks root v → ⊥
     found-falls v u k x q w e s =
         let f = q.found w e in
         let d = f.2.2 in
@@ -98,12 +99,12 @@ module _ (ws : List ℕ) (n : ℕ) (ranks : List ℕ) where
           leads = leads-more ws n ranks (Used ws n w u) (Shared ws n w v) (λ j h z. (z.0, (k.only j z.1).1)) d.leads;
         })
 
-    module _ (mem : List ℕ) where
+    module _ (mem : Memory) where
       -- Rows of zeros are right.
-      pub nothing-remembered : ((i : ℕ) → get_or mem i 0 ≡ 0) → Right ws n ranks root mem
-      nothing-remembered z = record {
-        bans = λ k h v b s. no_member _ (z _) b.upper b.upper_in;
-        free = λ k h v f g. record { free = λ w y i d. no_member _ (z _) d.lower (has v.taken _ d.lower f d.lower_in) };
+      pub nothing-remembered : ((k : ℕ) → ban_at mem k ≡ record { taken = 0; lines = 0 }) → ((k : ℕ) → free_at mem k ≡ record { taken = 0; lines = 0 }) → Right ws n ranks root mem
+      nothing-remembered y z = record {
+        bans = λ k h v b s. no_member _ (ap (λ (x : Row). x.taken) (y k)) b.upper b.upper_in;
+        free = λ k h v f g. record { free = λ w y i d. no_member _ (ap (λ (x : Row). x.taken) (z k)) d.lower (has v.taken _ d.lower f d.lower_in) };
       }
         where
           no_member : (x : ℕ) → x ≡ 0 → (i : ℕ) → bit_of x i ≡ 1 → ⊥
@@ -125,11 +126,12 @@ module _ (ws : List ℕ) (n : ℕ) (ranks : List ℕ) where
             })
 
 -- The memory at the start is right.
-pub nothing_yet : (ws : List ℕ) (n : ℕ) (ranks : List ℕ) (root : Bounds) (k : ℕ) → Right ws n ranks root (replicate k 0)
-nothing_yet ws n ranks root k = nothing-remembered ws n ranks root (replicate k 0) zero-at
-  where
-    zero-at : (i : ℕ) → ◌≡◌ {A = ℕ} (get_or (replicate k 0) i 0) 0
-    zero-at i = ⊎_elim (λ h. get_or-replicate k i 0 0 h) (λ h. get_or-eq_default (replicate k 0) 0 (rw (length-replicate {A = ℕ} k 0) h)) (lt-or-le i k)
+same-row : (k : ℕ) (x : Row) (i : ℕ) → get_or (replicate k x) i x ≡ x
+same-row k x i = ⊎_elim (λ h. get_or-replicate k i x x h) (λ h. get_or-eq_default (replicate k x) x (rw (length-replicate {A = Row} k x) h)) (lt-or-le i k)
+
+pub nothing_yet : (ws : List ℕ) (n : ℕ) (ranks : List ℕ) (root : Bounds) (b f x y : ℕ)
+    → Right ws n ranks root (record { bans = replicate b (record { taken = 0; lines = 0 }); free = replicate f (record { taken = 0; lines = 0 }); next_ban = x; next_free = y })
+nothing_yet ws n ranks root b f x y = nothing-remembered ws n ranks root _ (same-row b _) (same-row f _)
 
 -- ---- what is reached from a ban
 module _ (ws : List ℕ) (n : ℕ) (ranks : List ℕ) (m t s : ℕ) where
@@ -142,13 +144,13 @@ module _ (ws : List ℕ) (n : ℕ) (ranks : List ℕ) (m t s : ℕ) where
       (λ k. let c = common r s k h in record { lower = c.0; member = c.2; led = f.only c.0 c.1 })
       (λ k z. let y = f.all k.lower k.led in let q = and_none r s z k.lower in let o = k.member in omega arith)
 
-pub some-ban : (ws : List ℕ) (n : ℕ) (ranks : List ℕ) (mem : List ℕ) (m s k : ℕ) → k < 32 → (r : Bool) → Decides r (Crosses ws n ranks (bit_and m (get_or mem (ban_at k + 1) 0)) (get_or mem (ban_at k) 0) s) → r ≡ true
+pub some-ban : (ws : List ℕ) (n : ℕ) (ranks : List ℕ) (mem : Memory) (m s k : ℕ) → k < 32 → (r : Bool) → Decides r (Crosses ws n ranks (bit_and m (ban_at mem k).lines) (ban_at mem k).taken s) → r ≡ true
     → KnownBarred ws n ranks mem m s
 some-ban ws n ranks mem m s k h r d e = record { row = k; small = h; has = d.yes e }
 
 -- ---- a search, and the memory after it
-module _ (ws : List ℕ) (n : ℕ) (ranks : List ℕ) (root : Bounds) (t u : ℕ) (mem : List ℕ) (x : Answer) (p : Superior ws n ranks root t u u x) (mem' : List ℕ) where
-  pub searched-found : (w : Pair) → x ≡ Found w → (l : ℕ) → Ranked ws n w l → Banned mem mem' w.taken l → Searched ws n ranks root t u mem mem' false
+module _ (ws : List ℕ) (n : ℕ) (ranks : List ℕ) (root : Bounds) (t u : ℕ) (mem : Memory) (x : Option Pair) (p : Superior ws n ranks root t u u x) (mem' : Memory) where
+  pub searched-found : (w : Pair) → x ≡ Some w → (l : ℕ) → Ranked ws n w l → Banned mem mem' w.taken l → Searched ws n ranks root t u mem mem' false
   searched-found w e l k b =
       let f = p.found w e in
       record {
@@ -157,14 +159,14 @@ module _ (ws : List ℕ) (n : ℕ) (ranks : List ℕ) (root : Bounds) (t u : ℕ
         falls = λ q v et k s. found-falls ws n ranks root v u k x (rw et p) w e s;
       }
 
-  pub searched-none : root.hi.taken < 2 ^ 64 → x ≡ Nothing → Freed mem mem' t u → Searched ws n ranks root t u mem mem' true
+  pub searched-none : root.hi.taken < 2 ^ 64 → x ≡ None → Freed mem mem' t u → Searched ws n ranks root t u mem mem' true
   searched-none h e b =
       let f = free-right ws n ranks root h t u x p e in
       record { right = λ r. b.right ws n ranks root r f; free = λ q. f; falls = λ q. absurd (clash (sym q)) }
 
 -- ---- the answer, and the memory after it
-module _ (ws : List ℕ) (n : ℕ) (ranks : List ℕ) (root : Bounds) (mem : List ℕ) (v : Pair) where
-  abbrev Answers : List ℕ → Bool → Type 0
+module _ (ws : List ℕ) (n : ℕ) (ranks : List ℕ) (root : Bounds) (mem : Memory) (v : Pair) where
+  abbrev Answers : Memory → Bool → Type 0
   Answers mem' r = Right ws n ranks root mem → Right ws n ranks root mem' × Decides r (Stands ws n ranks root v)
 
   module _ (m u : ℕ) (c : Counting ws n v v m) (q : Mates ws n m 32 u) where
@@ -177,5 +179,5 @@ module _ (ws : List ℕ) (n : ℕ) (ranks : List ℕ) (root : Bounds) (mem : Lis
     pub answer-barred : (b : Bool) → (b ≡ true → KnownBarred ws n ranks mem m v.taken) → b ≡ true → Answers mem false
     answer-barred b f e r = (r, decides-false (known-falls ws n ranks root mem v r m c (f e)))
 
-    pub answer-searched : (mem' : List ℕ) (b : Bool) → Searched ws n ranks root v.taken u mem mem' b → Answers mem' b
+    pub answer-searched : (mem' : Memory) (b : Bool) → Searched ws n ranks root v.taken u mem mem' b → Answers mem' b
     answer-searched mem' b s r = (s.right r, record { yes = λ e. s.free e v (λ i. le_refl _) is-ranked.all; no = λ e. s.falls e v refl is-ranked })

@@ -24,17 +24,18 @@ use Rattle.probe.specs.Probes.{Halved, Opened}
 use Rattle.bounds.proofs.Halves.{room}
 use Rattle.probe.proofs.Halves.{out-less, into_less}
 use Rattle.admissible.specs.Admissible.{Stands}
+use Rattle.standing.specs.declared.memory.Memory.{Memory}
 use Rattle.standing.specs.Standing.{Right, Unbanned, Split, same, other, StandingIn}
 
-module _ (ws : List ℕ) (n : ℕ) (ranks : List ℕ) (root b : Bounds) (mem : List ℕ) (x : Node) (o : Opened ws n ranks b x) where
+module _ (ws : List ℕ) (n : ℕ) (ranks : List ℕ) (root b : Bounds) (mem : Memory) (x : Node) (o : Opened ws n ranks b x) where
   -- If the memory is right it stays so, and P holds.
-  abbrev Told : List ℕ → Bounds → Bool → Type 0
+  abbrev Told : Memory → Bounds → Bool → Type 0
   Told mem' c r = Right ws n ranks root mem → Right ws n ranks root mem' × StandingIn ws n ranks root c r
 
   none-stands : ((v : Pair) → MaskView ws n ranks v → In b v → Stands ws n ranks root v → ⊥) → StandingIn ws n ranks root b false
   none-stands f = record { found = λ e. absurd (clash e); none = λ e. f }
 
-  pub told-view : (v : Pair) → x ≡ View v → (mem' : List ℕ) (r : Bool) → (Right ws n ranks root mem → Right ws n ranks root mem' × Decides r (Stands ws n ranks root v)) → Told mem' b r
+  pub told-view : (v : Pair) → x ≡ View v → (mem' : Memory) (r : Bool) → (Right ws n ranks root mem → Right ws n ranks root mem' × Decides r (Stands ws n ranks root v)) → Told mem' b r
   told-view v e mem' r f q =
       let g = f q in
       let y = o.view v e in
@@ -79,14 +80,14 @@ module _ (ws : List ℕ) (n : ℕ) (ranks : List ℕ) (root b : Bounds) (mem : L
     pub told-void : (w : Bool) → Decides w (Sub d.lo d.hi) → not w ≡ true → Told mem b false
     told-void w dw ew q = (q, none-stands (λ v y i s. let k = in_left q v y i s in refused dw ew (sub_trans k.lo k.hi)))
 
-    module _ (p : Bounds) (ep : p ≡ out_of d m) (mem₁ : List ℕ) (a : Bool) (f : Told mem₁ p a) where
+    module _ (p : Bounds) (ep : p ≡ out_of d m) (mem₁ : Memory) (a : Bool) (f : Told mem₁ p a) where
       pub told-out : a ≡ true → Told mem₁ b true
       told-out ea q =
           let g = f q in
           let k = rw ep at (g.1.found ea) in
           (g.0, record { found = λ z. (k.0, k.1, from_out k.2, k.3); none = λ z. absurd (clash (sym z)) })
 
-      pub told-into : a ≡ false → (p' : Bounds) → p' ≡ into_of d m → (mem₂ : List ℕ) (a' : Bool) → (Right ws n ranks root mem₁ → Right ws n ranks root mem₂ × StandingIn ws n ranks root p' a') → Told mem₂ b a'
+      pub told-into : a ≡ false → (p' : Bounds) → p' ≡ into_of d m → (mem₂ : Memory) (a' : Bool) → (Right ws n ranks root mem₁ → Right ws n ranks root mem₂ × StandingIn ws n ranks root p' a') → Told mem₂ b a'
       told-into ea p' ep' mem₂ a' f' q =
           let g = f q in
           let g' = f' g.0 in (
@@ -100,7 +101,7 @@ module _ (ws : List ℕ) (n : ℕ) (ranks : List ℕ) (root b : Bounds) (mem : L
           )
 
 -- ---- another member to split by
-module _ (ws : List ℕ) (n : ℕ) (ranks : List ℕ) (b c : Bounds) (mem : List ℕ) (d : Bounds) (u : Unbanned ws n ranks mem c d) where
+module _ (ws : List ℕ) (n : ℕ) (ranks : List ℕ) (b c : Bounds) (mem : Memory) (d : Bounds) (u : Unbanned ws n ranks mem c d) where
   -- One that is open in what is left of the bounds will do as well.
   resplit : (m r : Pair) → Halved ws n ranks b c m → Split d m r → Halved ws n ranks b c r
   resplit m r h (same e) = rw e h

@@ -1,8 +1,10 @@
 -- Which pairs stand, and what is remembered while that is asked of many: dominating views that were found, and sets that stand.
-use Rattle.std.specs.Prelude.{ℕ, ◌+◌, ◌*◌, ◌<◌, ◌≤◌, ◌≡◌, Bool, true, false, List, get_or}
+use Rattle.std.specs.Prelude.{ℕ, ◌+◌, ◌*◌, ◌<◌, ◌≤◌, ◌≡◌, Bool, true, false, List, get_or, length, slice_set}
 use Rattle.std.specs.Int.Bits.{bit_and}
 use Rattle.sets.specs.declared.Pair.{Pair}
 use Rattle.sets.specs.Sets.{bit_of, Within}
+use Rattle.standing.specs.declared.memory.Row.{Row}
+use Rattle.standing.specs.declared.memory.Memory.{Memory}
 use Rattle.masks.specs.declared.Masks.{Masks}
 use Rattle.masks.specs.declared.Bounds.{Bounds}
 use Rattle.masks.specs.Views.{Fires, Counts, Leads, Alike, MaskView, from_at, to_at}
@@ -40,45 +42,47 @@ RightBan ws n ranks root t m = (v : Pair) → Bars ws n ranks t m v → Stands w
 abbrev pub RightFree : List ℕ → ℕ → List ℕ → Bounds → ℕ → ℕ → Type 0
 RightFree ws n ranks root t m = (v : Pair) → Within v.taken t → ((j : ℕ) → j < 32 → Ranking ws n v j → bit_of m j ≡ 1) → Stands ws n ranks root v
 
--- The memory has 32 bans of two words, then 8 free rows of two words, then two counters.
-abbrev pub ban_at : ℕ → ℕ
-ban_at k = k * 2
+-- The memory has 32 bans and 8 free rows.
+abbrev pub ban_at : Memory → ℕ → Row
+ban_at mem k = get_or mem.bans k (record { taken = 0; lines = 0 })
 
-abbrev pub free_at : ℕ → ℕ
-free_at k = 64 + k * 2
-
-abbrev pub memory_length : ℕ
-memory_length = 82
+abbrev pub free_at : Memory → ℕ → Row
+free_at mem k = get_or mem.free k (record { taken = 0; lines = 0 })
 
 -- All that is remembered is right.
-pub record Right (ws : List ℕ) (n : ℕ) (ranks : List ℕ) (root : Bounds) (mem : List ℕ) : Type 0 where
-  pub bans : (k : ℕ) → k < 32 → RightBan ws n ranks root (get_or mem (ban_at k) 0) (get_or mem (ban_at k + 1) 0)
-  pub free : (k : ℕ) → k < 8 → RightFree ws n ranks root (get_or mem (free_at k) 0) (get_or mem (free_at k + 1) 0)
+pub record Right (ws : List ℕ) (n : ℕ) (ranks : List ℕ) (root : Bounds) (mem : Memory) : Type 0 where
+  pub bans : (k : ℕ) → k < 32 → RightBan ws n ranks root (ban_at mem k).taken (ban_at mem k).lines
+  pub free : (k : ℕ) → k < 8 → RightFree ws n ranks root (free_at mem k).taken (free_at mem k).lines
 
--- A ban is put into the memory: where all that was remembered is right and the ban is, all that is remembered after it is. The same of a free row.
-pub record Banned (mem mem' : List ℕ) (t m : ℕ) : Type 0 where
+-- A row is put in the place of another. A ban is put into the memory: where all that was remembered is right and the ban is, all that is remembered after it is. The same of a free row.
+pub record Put (rows rows' : List Row) (row : Row) : Type 0 where
+  pub place : ℕ
+  pub within : place < length rows
+  pub is : rows' ≡ slice_set rows place row
+
+pub record Banned (mem mem' : Memory) (t m : ℕ) : Type 0 where
   pub right : (ws : List ℕ) (n : ℕ) (ranks : List ℕ) (root : Bounds) → Right ws n ranks root mem → RightBan ws n ranks root t m → Right ws n ranks root mem'
 
-pub record Freed (mem mem' : List ℕ) (t m : ℕ) : Type 0 where
+pub record Freed (mem mem' : Memory) (t m : ℕ) : Type 0 where
   pub right : (ws : List ℕ) (n : ℕ) (ranks : List ℕ) (root : Bounds) → Right ws n ranks root mem → RightFree ws n ranks root t m → Right ws n ranks root mem'
 
 -- A search for a view that dominates a pair with the exceptions t in which the steps of the lines of u rank: the memory stays right; if there is
 -- none, t and u are a right free row; if there is one, such a pair does not stand.
-pub record Searched (ws : List ℕ) (n : ℕ) (ranks : List ℕ) (root : Bounds) (t u : ℕ) (mem mem' : List ℕ) (r : Bool) : Type 0 where
+pub record Searched (ws : List ℕ) (n : ℕ) (ranks : List ℕ) (root : Bounds) (t u : ℕ) (mem mem' : Memory) (r : Bool) : Type 0 where
   pub right : Right ws n ranks root mem → Right ws n ranks root mem'
   pub free : r ≡ true → RightFree ws n ranks root t u
   pub falls : r ≡ false → (v : Pair) → v.taken ≡ t → Ranked ws n v u → Stands ws n ranks root v → ⊥
 
 -- ---- what the memory says of a pair
--- Free row k has these exceptions and these lines; some free row has.
-pub record FreeRow (mem : List ℕ) (taken u k : ℕ) : Type 0 where
-  pub exceptions : Within taken (get_or mem (free_at k) 0)
-  pub lines : Within u (get_or mem (free_at k + 1) 0)
+-- The row has these exceptions and these lines; some free row has.
+pub record FreeRow (row : Row) (taken u : ℕ) : Type 0 where
+  pub exceptions : Within taken row.taken
+  pub lines : Within u row.lines
 
-pub record KnownFree (mem : List ℕ) (taken u : ℕ) : Type 0 where
+pub record KnownFree (mem : Memory) (taken u : ℕ) : Type 0 where
   pub row : ℕ
   pub small : row < 8
-  pub has : FreeRow mem taken u row
+  pub has : FreeRow (free_at mem row) taken u
 
 -- Steps of lines of m lead from a member of t to one of s.
 pub record Crosses (ws : List ℕ) (n : ℕ) (ranks : List ℕ) (m t s : ℕ) : Type 0 where
@@ -87,10 +91,10 @@ pub record Crosses (ws : List ℕ) (n : ℕ) (ranks : List ℕ) (m t s : ℕ) : 
   pub led : LedTo ws n ranks m t lower
 
 -- Lines of m that ban k has lead from one of its exceptions to a member of s; those of some ban do.
-abbrev pub BanRow : List ℕ → ℕ → List ℕ → List ℕ → ℕ → ℕ → ℕ → Type 0
-BanRow ws n ranks mem m s k = Crosses ws n ranks (bit_and m (get_or mem (ban_at k + 1) 0)) (get_or mem (ban_at k) 0) s
+abbrev pub BanRow : List ℕ → ℕ → List ℕ → Memory → ℕ → ℕ → ℕ → Type 0
+BanRow ws n ranks mem m s k = Crosses ws n ranks (bit_and m (ban_at mem k).lines) (ban_at mem k).taken s
 
-pub record KnownBarred (ws : List ℕ) (n : ℕ) (ranks : List ℕ) (mem : List ℕ) (m s : ℕ) : Type 0 where
+pub record KnownBarred (ws : List ℕ) (n : ℕ) (ranks : List ℕ) (mem : Memory) (m s : ℕ) : Type 0 where
   pub row : ℕ
   pub small : row < 32
   pub has : BanRow ws n ranks mem m s row
@@ -127,7 +131,7 @@ pub record StandingView (ws : List ℕ) (n : ℕ) (ranks : List ℕ) (root : Bou
   pub stands : Stands ws n ranks root v
 
 -- The bounds o are those of b without pairs that a ban bars, if the memory is right, and no wider.
-pub record Unbanned (ws : List ℕ) (n : ℕ) (ranks : List ℕ) (mem : List ℕ) (b o : Bounds) : Type 0 where
+pub record Unbanned (ws : List ℕ) (n : ℕ) (ranks : List ℕ) (mem : Memory) (b o : Bounds) : Type 0 where
   pub keeps : (root : Bounds) → Right ws n ranks root mem → Keeps (StandingView ws n ranks root) b o
   pub lo : Sub b.lo o.lo
   pub hi : Sub o.hi b.hi

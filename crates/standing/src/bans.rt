@@ -8,7 +8,6 @@ ghost use Rattle.queue.specs.Chains.{Chains};
 ghost use Rattle.admissible.specs.Admissible.{Stands};
 ghost use Rattle.standing.specs.Standing.{Right, Failing, ShutAt, Shut, Spared, StandingView, Unbanned};
 
-use crate::memory;
 use crate::memory::Memory;
 use masks::{Bounds, Masks};
 use queue::index::Index;
@@ -35,10 +34,7 @@ pub fn shut_at(words: &[u64], n: usize, m: u64, s: u64, t: u64, j: usize, b: Bou
         return b;
     }
     let l = masks::masks_at(words, n + j);
-    if l.head.held & s == 0 {
-        return b;
-    }
-    if l.head.denied & t == 0 {
+    if l.head.held & s == 0 || l.head.denied & t == 0 {
         return b;
     }
     fails_body(l, b)
@@ -50,10 +46,8 @@ pub fn shut(words: &[u64], n: usize, m: u64, s: u64, t: u64, b: Bounds) -> Bound
     ensures { Keeps (Shut words.now n m s t) b result }
 {
     let mut o = b;
-    let mut j: usize = 0;
-    while j < masks::lines::LINES {
+    for j in 0..masks::lines::LINES {
         o = shut_at(words, n, m, s, t, j, o);
-        j += 1;
     }
     o
 }
@@ -85,8 +79,7 @@ pub fn by_ban(
         b,
         Pair {
             taken: f,
-            held: 0,
-            denied: 0,
+            ..Pair::EMPTY
         },
     );
     let left = may & lines;
@@ -98,20 +91,17 @@ pub fn by_bans(words: &[u64], n: usize, ranks: &[u64], mem: &Memory, b: Bounds) 
     requires { ((n + 32) * 8 ≤ length words.now) × (length ranks.now ≤ 64) }
     ensures { (root : BoundsOf) → Right words.now n ranks.now root mem.now → Keeps (Stands words.now n ranks.now root) b result }
 {
-    if mem[memory::NEXT_BAN] == 0 {
+    if mem.next_ban == 0 {
         return b;
     }
     let sure = masks::lines::lines_in(words, n, b.hi, b.lo);
     let may = masks::lines::lines_in(words, n, b.lo, b.hi);
     let mut o = b;
-    let mut k: usize = 0;
-    while k < memory::BANS {
-        let at = k * 2;
-        o = by_ban(words, n, ranks, mem[at], mem[at + 1], sure, may, o);
+    for ban in &mem.bans {
+        o = by_ban(words, n, ranks, ban.taken, ban.lines, sure, may, o);
         if !sets::within(o.lo, o.hi) {
             return o;
         }
-        k += 1;
     }
     o
 }
@@ -132,11 +122,10 @@ pub fn in_turn(
     ensures { (root : BoundsOf) → Right words.now n ranks.now root mem.now → Keeps (StandingView words.now n ranks.now root) rest.bounds result.bounds }
 {
     let mut r = rest;
-    let mut k: u64 = 0;
-    while k < ROUNDS {
+    for _ in 0..ROUNDS {
         let b = r.bounds;
         let o = by_bans(words, n, ranks, mem, b);
-        if bounds::unchanged(o, b) {
+        if o == b {
             return r;
         }
         let w = index::among(index, r.live, b, o);
@@ -144,7 +133,6 @@ pub fn in_turn(
         if !sets::within(r.bounds.lo, r.bounds.hi) {
             return r;
         }
-        k += 1;
     }
     r
 }

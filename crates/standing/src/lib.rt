@@ -9,7 +9,7 @@ ghost use Rattle.standing.specs.Standing.{Ranked, Right, Searched, StandingIn, A
 
 use crate::memory::Memory;
 use masks::Bounds;
-use probe::{Answer, Node, Outcome};
+use probe::{Node, Outcome};
 use queue::index::Index;
 use queue::waiting::Work;
 use queue::{Rest, index, waiting};
@@ -45,13 +45,12 @@ pub fn undominated(
         bounds: root,
         live: waiting::everything(),
     };
-    let x = superior::superior(words, n, ranks, index, rest, taken, u, u);
-    match x {
-        Answer::Found(w) => {
+    match superior::superior(words, n, ranks, index, rest, taken, u, u) {
+        Some(w) => {
             memory::forbid(mem, w.taken, ranking(words, n, w));
             false
         }
-        Answer::Nothing => {
+        None => {
             memory::allow(mem, taken, u);
             true
         }
@@ -125,6 +124,7 @@ pub fn search(
 const FUEL: u64 = 256;
 
 // The same search, which visits at most `fuel` nodes.
+// Kept: one function for this and `search` would make the fuel an Option, and `search` would have an answer `Stopped` that never comes.
 pub fn attempt(
     words: &[u64],
     n: usize,
@@ -246,12 +246,13 @@ pub fn unexceeded_at(
     if (b.lo.taken >> e) % 2 == 1 {
         return true;
     }
-    let c = bounds::with_sets(b, 0, taken ^ (taken & (1 << e)));
+    let c = bounds::with_sets(b, 0, sets::cleared(taken, e));
     let w = index::among(index, rest.live, b, c);
     !standing(words, n, ranks, index, root, w, c, mem)
 }
 
 // No view within bounds at rest that stands has a proper subset of `taken`: for each member there is none without it.
+// Kept: one function for this and `admissible::each_needed` would take a closure that changes the memory, with a `requires` of its own.
 pub fn each_needed(
     words: &[u64],
     n: usize,
@@ -265,12 +266,10 @@ pub fn each_needed(
     requires { ((n + 32) * 8 ≤ length words.now) × (length ranks.now ≤ 64) × Chains words.now n index.now }
     ensures { Right words.now n ranks.now root mem.old → Right words.now n ranks.now root mem.new × Decides result (UnexceededIn words.now n ranks.now root rest.bounds taken) }
 {
-    let mut e: u64 = 0;
-    while e < 64 {
+    for e in 0..64 {
         if !unexceeded_at(words, n, ranks, index, root, rest, mem, taken, e) {
             return false;
         }
-        e += 1;
     }
     true
 }

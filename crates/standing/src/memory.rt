@@ -1,73 +1,83 @@
 // What is remembered while it is asked of many pairs whether they stand. Which rows give way to new ones, no contract depends on.
-ghost use Rattle.std.specs.Prelude.{◌≡◌, true, ◌+◌, ◌*◌, ◌<◌, ◌≤◌, length};
+ghost use Rattle.std.specs.Prelude.{◌≡◌, true, ℕ, List, ◌+◌, ◌*◌, ◌<◌, ◌≤◌, length};
 ghost use Rattle.logic.specs.Tests.{Decides};
-ghost use Rattle.standing.specs.Standing.{memory_length, Banned, Freed, FreeRow, KnownFree, Crosses, KnownBarred};
+ghost use Rattle.masks.specs.declared.Bounds.{Bounds as BoundsOf};
+ghost use Rattle.standing.specs.Standing.{Right, Put, Banned, Freed, FreeRow, KnownFree, Crosses, KnownBarred};
 
 // How many dominating views, and how many sets that stand.
 pub const BANS: usize = 32;
 
 pub const FREE: usize = 8;
 
-// Where the sets that stand begin, and the two counters.
-pub const FIRST_FREE: usize = BANS * 2;
+// A set of exceptions and a set of lines.
+#[derive(Clone, Copy)]
+pub struct Row {
+    pub taken: u64,
+    pub lines: u64,
+}
 
-pub const NEXT_BAN: usize = FIRST_FREE + FREE * 2;
+// A ban has the exceptions of a view that was found to dominate, and the lines whose steps rank in it. A free row has a set of exceptions and a set
+// of lines, such that no view dominates a pair that takes no more and in which no more lines' steps rank. Two counters say which rows are replaced
+// next. Rows of zeros say nothing.
+pub struct Memory {
+    pub bans: [Row; BANS],
+    pub free: [Row; FREE],
+    pub next_ban: usize,
+    pub next_free: usize,
+}
 
-pub const NEXT_FREE: usize = NEXT_BAN + 1;
+// Nothing is remembered yet.
+pub fn nothing() -> Memory
+    ensures { (words : List ℕ) (n : ℕ) (ranks : List ℕ) (root : BoundsOf) → Right words n ranks root result }
+{
+    let row = Row { taken: 0, lines: 0 };
+    Memory {
+        bans: [row; BANS],
+        free: [row; FREE],
+        next_ban: 0,
+        next_free: 0,
+    }
+}
 
-pub const LENGTH: usize = NEXT_FREE + 1;
-
-// A ban has two words: the exceptions of a view that was found to dominate, and the lines whose steps rank in it. A free row has two words: a set
-// of exceptions and a set of lines, such that no view dominates a pair that takes no more and in which no more lines' steps rank. Then two counters
-// say which rows are replaced next. Rows of zeros say nothing.
-pub type Memory = [u64; LENGTH];
+// Puts a row in the place of the oldest.
+pub fn put(rows: &mut [Row], next: &mut usize, row: Row)
+    requires { 0 < length rows.old }
+    ensures { Put rows.old rows.new row }
+{
+    let k = *next % rows.len();
+    rows[k] = row;
+    *next = k + 1;
+}
 
 // Puts a ban in the place of the oldest.
-pub fn forbid(mem: &mut [u64], taken: u64, lines: u64)
-    requires { length mem.old ≡ memory_length }
+pub fn forbid(mem: &mut Memory, taken: u64, lines: u64)
     ensures { Banned mem.old mem.new taken lines }
 {
-    let k = mem[NEXT_BAN] % 32;
-    let at = (k as usize) * 2;
-    mem[at] = taken;
-    mem[at + 1] = lines;
-    mem[NEXT_BAN] = k + 1;
+    put(&mut mem.bans, &mut mem.next_ban, Row { taken, lines });
 }
 
 // Puts a free row in the place of the oldest.
-pub fn allow(mem: &mut [u64], taken: u64, lines: u64)
-    requires { length mem.old ≡ memory_length }
+pub fn allow(mem: &mut Memory, taken: u64, lines: u64)
     ensures { Freed mem.old mem.new taken lines }
 {
-    let k = mem[NEXT_FREE] % 8;
-    let at = FIRST_FREE + (k as usize) * 2;
-    mem[at] = taken;
-    mem[at + 1] = lines;
-    mem[NEXT_FREE] = k + 1;
+    put(&mut mem.free, &mut mem.next_free, Row { taken, lines });
 }
 
-// Free row k has these exceptions and these lines.
-pub fn free_row(mem: &Memory, taken: u64, lines: u64, k: usize) -> bool
-    requires { k < 8 }
-    ensures { result ≡ true → FreeRow mem.now taken lines k }
+// The row has these exceptions and these lines.
+pub fn has(row: Row, taken: u64, lines: u64) -> bool
+    ensures { result ≡ true → FreeRow row taken lines }
 {
-    let at = FIRST_FREE + k * 2;
-    if !sets::subset(taken, mem[at]) {
-        return false;
-    }
-    sets::subset(lines, mem[at + 1])
+    sets::subset(taken, row.taken) && sets::subset(lines, row.lines)
 }
 
 // A free row has these exceptions and these lines.
 pub fn known_free(mem: &Memory, taken: u64, lines: u64) -> bool
     ensures { result ≡ true → KnownFree mem.now taken lines }
 {
-    let mut k: usize = 0;
-    while k < FREE {
-        if free_row(mem, taken, lines, k) {
+    for &row in &mem.free {
+        if has(row, taken, lines) {
             return true;
         }
-        k += 1;
     }
     false
 }
@@ -77,11 +87,7 @@ pub fn crosses(words: &[u64], n: usize, ranks: &[u64], m: u64, t: u64, s: u64) -
     requires { ((n + 32) * 8 ≤ length words.now) × (length ranks.now ≤ 64) }
     ensures { Decides result (Crosses words.now n ranks.now m t s) }
 {
-    if t == 0 {
-        return false;
-    }
-    let r = masks::lines::reach(words, n, ranks, m, t);
-    r & s != 0
+    t != 0 && masks::lines::reach(words, n, ranks, m, t) & s != 0
 }
 
 // Lines of m that some ban has lead from one of its exceptions to a member of s.
@@ -89,13 +95,10 @@ pub fn known_barred(words: &[u64], n: usize, ranks: &[u64], mem: &Memory, m: u64
     requires { ((n + 32) * 8 ≤ length words.now) × (length ranks.now ≤ 64) }
     ensures { result ≡ true → KnownBarred words.now n ranks.now mem.now m s }
 {
-    let mut k: usize = 0;
-    while k < BANS {
-        let at = k * 2;
-        if crosses(words, n, ranks, m & mem[at + 1], mem[at], s) {
+    for row in &mem.bans {
+        if crosses(words, n, ranks, m & row.lines, row.taken, s) {
             return true;
         }
-        k += 1;
     }
     false
 }

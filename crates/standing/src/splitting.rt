@@ -20,15 +20,9 @@ pub fn with_entries(words: &[u64], n: usize, m: u64, j: usize, x: Pair) -> Pair
 pub fn entries(words: &[u64], n: usize, m: u64) -> Pair
     requires { (n + 32) * 8 ≤ length words.now }
 {
-    let mut x = Pair {
-        taken: 0,
-        held: 0,
-        denied: 0,
-    };
-    let mut j = 0;
-    while j < lines::LINES {
+    let mut x = Pair::EMPTY;
+    for j in 0..lines::LINES {
         x = with_entries(words, n, m, j, x);
-        j += 1;
     }
     x
 }

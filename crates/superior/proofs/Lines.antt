@@ -32,8 +32,7 @@ use Rattle.masks.proofs.Facts.{fires-or-not}
 use Rattle.masks.proofs.Booleans.{decides-false}
 use Rattle.masks.proofs.Steps.{common, has, leads-more}
 use Rattle.probe.specs.Probes.{Probed}
-use Rattle.probe.specs.declared.Answer.{Answer}
-use Rattle.probe.specs.declared.Answer.TheVariants.{Found, Nothing}
+use Rattle.std.specs.Prelude.{Option, Some, None, is_some}
 use Rattle.superior.specs.Superiors.{ToMember, Used, Usable, Superior, Source, Taking, TakingAt, Left, Without, Hopeless, Picks}
 
 -- ---- bodies
@@ -68,7 +67,7 @@ to-more ws n ranks L K t a f h = record { lower = h.lower; member = h.member; le
 
 module _ (ws : List ℕ) (n : ℕ) (ranks : List ℕ) (b : Bounds) (t usable free : ℕ) where
   -- Bounds with nothing in them have no view.
-  pub none-void : (Sub b.lo b.hi → ⊥) → Superior ws n ranks b t usable free Nothing
+  pub none-void : (Sub b.lo b.hi → ⊥) → Superior ws n ranks b t usable free None
   none-void f = record { found = λ w e. absurd (let z : ◌≡◌ {A = ℕ} 0 1 = cc in omega arith); none = λ e w v i a g x h. f (sub_trans i.lo i.hi) }
 
   module _ (s0 m0 : ℕ) (cs : Counting ws n b.hi b.lo s0) (cm : Counting ws n b.lo b.hi m0) where
@@ -89,7 +88,7 @@ module _ (ws : List ℕ) (n : ℕ) (ranks : List ℕ) (b : Bounds) (t usable fre
     sure-used w i j e = let o = one-and s0 usable j e in (fires-more _ _ _ _ _ i.hi i.lo (cs.only j o.0).1, o.1)
 
     -- Nothing that may be used leads to t.
-    pub none-far : (r : ℕ) → Reached ws n ranks (bit_or sure may) b.hi.taken r → bit_and r t ≡ 0 → Superior ws n ranks b t usable free Nothing
+    pub none-far : (r : ℕ) → Reached ws n ranks (bit_or sure may) b.hi.taken r → bit_and r t ≡ 0 → Superior ws n ranks b t usable free None
     none-far r f z = record {
       found = λ w e. absurd (let z : ◌≡◌ {A = ℕ} 0 1 = cc in omega arith);
       none = λ e w v i a below x h.
@@ -99,16 +98,16 @@ module _ (ws : List ℕ) (n : ℕ) (ranks : List ℕ) (b : Bounds) (t usable fre
           let k = and_none r t z h.lower in let o = h.member in omega arith;
     }
 
-    pub none-hopeless : (r : Bool) → Hopeless ws n ranks b (bit_or sure may) t r → r ≡ true → Superior ws n ranks b t usable free Nothing
+    pub none-hopeless : (r : Bool) → Hopeless ws n ranks b (bit_or sure may) t r → r ≡ true → Superior ws n ranks b t usable free None
     none-hopeless r f q = record {
       found = λ w e. absurd (let z : ◌≡◌ {A = ℕ} 0 1 = cc in omega arith);
       none = λ e w v i a g x h.
           f.none q w v i a g x (to-more ws n ranks (Usable ws n b w usable free) (Of (bit_or sure may)) t a (λ j k u. or-one sure may j (⊎_elim (λ y. inl y) (λ y. inr y.0) (usable-is w i j k u))) h);
     }
 
-    module _ (s : ℕ) (so : Chosen (Source ws n ranks sure b.hi.taken t) 64 s) (r : Answer) (ta : Taking ws n ranks b s 64 r) where
+    module _ (s : ℕ) (so : Chosen (Source ws n ranks sure b.hi.taken t) 64 s) (r : Option Pair) (ta : Taking ws n ranks b s 64 r) where
       -- A view that takes a source.
-      pub found-source : (w : Pair) → r ≡ Found w → Superior ws n ranks b t usable free (Found w)
+      pub found-source : (w : Pair) → r ≡ Some w → Superior ws n ranks b t usable free (Some w)
       found-source w e = record {
         found = λ u q. let y : w ≡ u = cc in
             let f = ta.found w e in
@@ -116,13 +115,13 @@ module _ (ws : List ℕ) (n : ℕ) (ranks : List ℕ) (b : Bounds) (t usable fre
         none = λ q. absurd (let z : ◌≡◌ {A = ℕ} 0 1 = cc in omega arith);
       }
 
-      module _ (e : r ≡ Nothing) where
+      module _ (e : r ≡ None) where
         -- A view within the bounds takes no source.
         no_source : (w : Pair) → MaskView ws n ranks w → In b w → (a : ℕ) → bit_of w.taken a ≡ 1 → bit_of s a ≡ 1 → ⊥
         no_source w v i a x y = ta.none e w v i a (so.only a y).0 x y
 
         -- All lines that may be used are sure.
-        pub none-sure : without may sure ≡ 0 → Superior ws n ranks b t usable free Nothing
+        pub none-sure : without may sure ≡ 0 → Superior ws n ranks b t usable free None
         none-sure z = record {
           found = λ w q. absurd (let z : ◌≡◌ {A = ℕ} 0 1 = cc in omega arith);
           none = λ q w v i a g x h.
@@ -166,13 +165,13 @@ module _ (ws : List ℕ) (n : ℕ) (ranks : List ℕ) (b : Bounds) (t usable fre
           from_inner : (w : Pair) → In inner w → In b w
           from_inner w i = record { lo = sub_trans lo (sub_trans inner-lo i.lo); hi = sub_trans i.hi (sub_trans inner-hi hi) }
 
-          pub found-inner : (y : Answer) → Superior ws n ranks inner t usable less y → (w : Pair) → y ≡ Found w → Superior ws n ranks b t usable free (Found w)
+          pub found-inner : (y : Option Pair) → Superior ws n ranks inner t usable less y → (w : Pair) → y ≡ Some w → Superior ws n ranks b t usable free (Some w)
           found-inner y f w g = record {
             found = λ u q. let x = f.found u (g ∙ q) in (x.0, from_inner u x.1, x.2);
             none = λ q. absurd (let z : ◌≡◌ {A = ℕ} 0 1 = cc in omega arith);
           }
 
-          pub both_halves : (z x : Answer) → Superior ws n ranks inner t usable less z → z ≡ Nothing → Superior ws n ranks c t usable less x → Superior ws n ranks b t usable free x
+          pub both_halves : (z x : Option Pair) → Superior ws n ranks inner t usable less z → z ≡ None → Superior ws n ranks c t usable less x → Superior ws n ranks b t usable free x
           both_halves z x f nil g = record {
             found = λ u q. let y = g.found u q in (y.0, record { lo = sub_trans lo y.1.lo; hi = sub_trans y.1.hi hi }, y.2);
             none = λ q w v i a below y h.
@@ -214,10 +213,10 @@ module _ (ws : List ℕ) (n : ℕ) (ranks : List ℕ) (m among t : ℕ) where
 
 -- ---- views that take a source
 module _ (ws : List ℕ) (n : ℕ) (ranks : List ℕ) (b : Bounds) (s : ℕ) where
-  pub taking-off : (a : ℕ) → bit_of s a ≡ 0 → TakingAt ws n ranks b s a Nothing
+  pub taking-off : (a : ℕ) → bit_of s a ≡ 0 → TakingAt ws n ranks b s a None
   taking-off a z = record { found = λ w e. absurd (let z : ◌≡◌ {A = ℕ} 0 1 = cc in omega arith); none = λ e w v i x y. absurd (omega arith) }
 
-  pub taking-probed : (a : ℕ) (m : Pair) → m ≡ one_of 2 a → (c : Bounds) → c ≡ into_of b m → (r : Answer) → Probed ws n ranks c r → (bit_of s a ≡ 0 → ⊥) → TakingAt ws n ranks b s a r
+  pub taking-probed : (a : ℕ) (m : Pair) → m ≡ one_of 2 a → (c : Bounds) → c ≡ into_of b m → (r : Option Pair) → Probed ws n ranks c r → (bit_of s a ≡ 0 → ⊥) → TakingAt ws n ranks b s a r
   unfolding into_of one_of
   taking-probed a m em c ec r p z = record {
     found = λ w e.
@@ -236,16 +235,16 @@ module _ (ws : List ℕ) (n : ℕ) (ranks : List ℕ) (b : Bounds) (s : ℕ) whe
   pub none_first : NoneTo 0
   none_first w v i a h = absurd (omega arith)
 
-  pub none-turn : (k : ℕ) (r : Answer) → TakingAt ws n ranks b s k r → r ≡ Nothing → NoneTo k → NoneTo (k + 1)
+  pub none-turn : (k : ℕ) (r : Option Pair) → TakingAt ws n ranks b s k r → r ≡ None → NoneTo k → NoneTo (k + 1)
   none-turn k r t e f w v i a h x y = ⊎_elim (λ (q : a ≡ k). t.none e w v i (rw q at x) (rw q at y)) (λ (q : a < k). f w v i a q x y) (eq-or-lt_of_le (omega arith))
 
-  pub taking-found : (k : ℕ) (r : Answer) → TakingAt ws n ranks b s k r → (w : Pair) → r ≡ Found w → Taking ws n ranks b s 64 (Found w)
+  pub taking-found : (k : ℕ) (r : Option Pair) → TakingAt ws n ranks b s k r → (w : Pair) → r ≡ Some w → Taking ws n ranks b s 64 (Some w)
   taking-found k r t w e = record {
     found = λ u q. let y : w ≡ u = cc in let f = t.found w e in rw (← y) (f.0, f.1, (k, f.2, f.3));
     none = λ q. absurd (let z : ◌≡◌ {A = ℕ} 0 1 = cc in omega arith);
   }
 
-  pub taking-none : (k : ℕ) → 64 ≤ k → NoneTo k → Taking ws n ranks b s 64 Nothing
+  pub taking-none : (k : ℕ) → 64 ≤ k → NoneTo k → Taking ws n ranks b s 64 None
   taking-none k h f = record { found = λ w e. absurd (let z : ◌≡◌ {A = ℕ} 0 1 = cc in omega arith); none = λ e w v i a l. f w v i a (omega arith) }
 
 -- ---- the halves
@@ -266,32 +265,27 @@ left_is ws n ranks b s c o e p = record {
 pub assumed-made : (ws : List ℕ) (n j : ℕ) (b : Bounds) (l : Masks) → l ≡ masks_at ws (n + j) → (c : Bounds) → c ≡ out_of b l.bar → {d : Bounds} → d ≡ into_of c l.need → d ≡ into_of (out_of b (masks_at ws (n + j)).bar) (masks_at ws (n + j)).need
 assumed-made ws n j b l e c f {d} g = g ∙ rw (f, e)
 
-pub without_is : (free j : ℕ) → j < 64 → Without free j (without free (1 * 2 ^ j % 2 ^ 64))
-without_is free j l = record { others = others; less = less }
+-- The set without a member.
+pub without_is : (free j r : ℕ) → r ≡ without free (2 ^ j) → Without free j r
+without_is free j r er = rw er (record { others = others; less = less })
   where
-    r : ℕ
-    r = without free (1 * 2 ^ j % 2 ^ 64)
-
-    is_one : 1 * 2 ^ j % 2 ^ 64 ≡ 2 ^ j
-    is_one = shifted j l
-
-    others : (i : ℕ) → bit_of free i ≡ 1 → (i ≡ j → ⊥) → bit_of (without free (1 * 2 ^ j % 2 ^ 64)) i ≡ 1
+    others : (i : ℕ) → bit_of free i ≡ 1 → (i ≡ j → ⊥) → bit_of (without free (2 ^ j)) i ≡ 1
     others i e f =
-        let d = bit-without free (1 * 2 ^ j % 2 ^ 64) i in
-        let q = bit-lt (1 * 2 ^ j % 2 ^ 64) i in
-        ⊎_elim (λ (z : bit_of (1 * 2 ^ j % 2 ^ 64) i ≡ 1). absurd (f (sym (eqb-true j i (sym (bit-single j i) ∙ eq-eqb _ 1 (rw is_one at z))))))
-        (λ (z : bit_of (1 * 2 ^ j % 2 ^ 64) i ≡ 1 → ⊥). let k = zero (bit_of (1 * 2 ^ j % 2 ^ 64) i) q z in omega arith) (holds-or-not (decides_eq (bit_of (1 * 2 ^ j % 2 ^ 64) i) 1))
+        let d = bit-without free (2 ^ j) i in
+        let q = bit-lt (2 ^ j) i in
+        ⊎_elim (λ (z : bit_of (2 ^ j) i ≡ 1). absurd (f (sym (eqb-true j i (sym (bit-single j i) ∙ eq-eqb _ 1 z)))))
+        (λ (z : bit_of (2 ^ j) i ≡ 1 → ⊥). let k = zero (bit_of (2 ^ j) i) q z in omega arith) (holds-or-not (decides_eq (bit_of (2 ^ j) i) 1))
       where
         zero : (u : ℕ) → u < 2 → (u ≡ 1 → ⊥) → u ≡ 0
         zero u h n = omega arith
 
-    less : bit_of free j ≡ 1 → without free (1 * 2 ^ j % 2 ^ 64) < free
+    less : bit_of free j ≡ 1 → without free (2 ^ j) < free
     less e =
-        let own : bit_of (1 * 2 ^ j % 2 ^ 64) j ≡ 1 = rw is_one (eqb-true (bit_of (2 ^ j) j) 1 (bit-single j j ∙ eq-eqb j j refl)) in
-        let d = bit-without free (1 * 2 ^ j % 2 ^ 64) j in
-        let w = sub-le (without free (1 * 2 ^ j % 2 ^ 64)) free (W.minus-sub free (1 * 2 ^ j % 2 ^ 64)) in
-        ⊎_elim (λ z. z) (λ (z : free ≤ without free (1 * 2 ^ j % 2 ^ 64)). let q : without free (1 * 2 ^ j % 2 ^ 64) ≡ free = omega arith in let y : bit_of (without free (1 * 2 ^ j % 2 ^ 64)) j ≡ bit_of free j = rw q in absurd (omega arith))
-        (lt-or-le (without free (1 * 2 ^ j % 2 ^ 64)) free)
+        let own : bit_of (2 ^ j) j ≡ 1 = eqb-true (bit_of (2 ^ j) j) 1 (bit-single j j ∙ eq-eqb j j refl) in
+        let d = bit-without free (2 ^ j) j in
+        let w = sub-le (without free (2 ^ j)) free (W.minus-sub free (2 ^ j)) in
+        ⊎_elim (λ z. z) (λ (z : free ≤ without free (2 ^ j)). let q : without free (2 ^ j) ≡ free = omega arith in let y : bit_of (without free (2 ^ j)) j ≡ bit_of free j = rw q in absurd (omega arith))
+        (lt-or-le (without free (2 ^ j)) free)
 
 -- A line that may count and is not sure is one of the first 32, and may be used.
 pub low-line : (ws : List ℕ) (n : ℕ) (v c : Pair) (m0 free sure k : ℕ) → Counting ws n v c m0 → (without (bit_and m0 free) sure ≡ 0 → ⊥)
@@ -320,5 +314,9 @@ module _ (ws : List ℕ) (n : ℕ) (ranks : List ℕ) (b : Bounds) (m t : ℕ) w
   pub hope-left : Hopeless ws n ranks b m t false
   hope-left = record { none = λ e. absurd (clash e) }
 
-  pub no-hope : (s : ℕ) → Chosen (Source ws n ranks m b.hi.taken t) 64 s → (x : Answer) → Taking ws n ranks b s 64 x → x ≡ Nothing → Hopeless ws n ranks b m t true
-  no-hope s so x ta e = record { none = λ q w v i a g y h. ta.none e w v i a g y (so.all a g (has w.taken b.hi.taken a i.hi.taken y, h)) }
+  pub no-hope : (s : ℕ) → Chosen (Source ws n ranks m b.hi.taken t) 64 s → (x : Option Pair) → Taking ws n ranks b s 64 x → (r : Bool) → is_some x ≡ not r → Hopeless ws n ranks b m t r
+  no-hope s so x ta r e = record { none = λ q w v i a g y h. ta.none (nil x r e q) w v i a g y (so.all a g (has w.taken b.hi.taken a i.hi.taken y, h)) }
+    where
+      nil : (x : Option Pair) (r : Bool) → is_some x ≡ not r → r ≡ true → x ≡ None
+      nil None r e q = refl
+      nil (Some w) r e q = absurd (clash (sym (rw q at e)))

@@ -7,8 +7,7 @@ use Rattle.masks.specs.Views.{masks_at, Fires, Leads, MaskView}
 use Rattle.sets.specs.Pairs.{Sub}
 use Rattle.bounds.specs.Sound.{In, Propagated, into_of, out_of}
 use Rattle.masks.specs.Steps.{Of}
-use Rattle.probe.specs.declared.Answer.{Answer}
-use Rattle.probe.specs.declared.Answer.TheVariants.{Found, Nothing}
+use Rattle.std.specs.Prelude.{Option, Some, None}
 
 -- Steps by lines with the property L lead from a to a member of t.
 pub record ToMember (ws : List ℕ) (n : ℕ) (ranks : List ℕ) (L : ℕ → Type 0) (t a : ℕ) : Type 0 where
@@ -25,23 +24,23 @@ abbrev pub Usable : List ℕ → ℕ → Bounds → Pair → ℕ → ℕ → ℕ
 Usable ws n b w usable free j = Used ws n w usable j × ((bit_of free j ≡ 1) ⊎ Fires (masks_at ws (n + j)) b.hi b.lo)
 
 -- What is found is a view within b from whose exceptions used lines lead to t; if nothing is found, none leads there by lines that may be used.
-pub record Superior (ws : List ℕ) (n : ℕ) (ranks : List ℕ) (b : Bounds) (t usable free : ℕ) (r : Answer) : Type 0 where
-  pub found : (w : Pair) → r ≡ Found w → MaskView ws n ranks w × In b w × ((a : ℕ) × (bit_of w.taken a ≡ 1) × ToMember ws n ranks (Used ws n w usable) t a)
-  pub none : r ≡ Nothing → (w : Pair) → MaskView ws n ranks w → In b w → (a : ℕ) → a < 64 → bit_of w.taken a ≡ 1 → ToMember ws n ranks (Usable ws n b w usable free) t a → ⊥
+pub record Superior (ws : List ℕ) (n : ℕ) (ranks : List ℕ) (b : Bounds) (t usable free : ℕ) (r : Option Pair) : Type 0 where
+  pub found : (w : Pair) → r ≡ Some w → MaskView ws n ranks w × In b w × ((a : ℕ) × (bit_of w.taken a ≡ 1) × ToMember ws n ranks (Used ws n w usable) t a)
+  pub none : r ≡ None → (w : Pair) → MaskView ws n ranks w → In b w → (a : ℕ) → a < 64 → bit_of w.taken a ≡ 1 → ToMember ws n ranks (Usable ws n b w usable free) t a → ⊥
 
 -- Exception a is one of `among`, and steps by lines of m lead from it to a member of t.
 abbrev pub Source : List ℕ → ℕ → List ℕ → ℕ → ℕ → ℕ → ℕ → Type 0
 Source ws n ranks m among t a = (bit_of among a ≡ 1) × ToMember ws n ranks (Of m) t a
 
 -- A view within b that takes one of the members of s; none takes one of the first k.
-pub record Taking (ws : List ℕ) (n : ℕ) (ranks : List ℕ) (b : Bounds) (s k : ℕ) (r : Answer) : Type 0 where
-  pub found : (w : Pair) → r ≡ Found w → MaskView ws n ranks w × In b w × ((a : ℕ) × (bit_of w.taken a ≡ 1) × (bit_of s a ≡ 1))
-  pub none : r ≡ Nothing → (w : Pair) → MaskView ws n ranks w → In b w → (a : ℕ) → a < k → bit_of w.taken a ≡ 1 → bit_of s a ≡ 1 → ⊥
+pub record Taking (ws : List ℕ) (n : ℕ) (ranks : List ℕ) (b : Bounds) (s k : ℕ) (r : Option Pair) : Type 0 where
+  pub found : (w : Pair) → r ≡ Some w → MaskView ws n ranks w × In b w × ((a : ℕ) × (bit_of w.taken a ≡ 1) × (bit_of s a ≡ 1))
+  pub none : r ≡ None → (w : Pair) → MaskView ws n ranks w → In b w → (a : ℕ) → a < k → bit_of w.taken a ≡ 1 → bit_of s a ≡ 1 → ⊥
 
 -- The same of the member a alone.
-pub record TakingAt (ws : List ℕ) (n : ℕ) (ranks : List ℕ) (b : Bounds) (s a : ℕ) (r : Answer) : Type 0 where
-  pub found : (w : Pair) → r ≡ Found w → MaskView ws n ranks w × In b w × (bit_of w.taken a ≡ 1) × (bit_of s a ≡ 1)
-  pub none : r ≡ Nothing → (w : Pair) → MaskView ws n ranks w → In b w → bit_of w.taken a ≡ 1 → bit_of s a ≡ 1 → ⊥
+pub record TakingAt (ws : List ℕ) (n : ℕ) (ranks : List ℕ) (b : Bounds) (s a : ℕ) (r : Option Pair) : Type 0 where
+  pub found : (w : Pair) → r ≡ Some w → MaskView ws n ranks w × In b w × (bit_of w.taken a ≡ 1) × (bit_of s a ≡ 1)
+  pub none : r ≡ None → (w : Pair) → MaskView ws n ranks w → In b w → bit_of w.taken a ≡ 1 → bit_of s a ≡ 1 → ⊥
 
 -- Every view within b that takes none of s is within c, which is no wider.
 pub record Left (ws : List ℕ) (n : ℕ) (ranks : List ℕ) (b : Bounds) (s : ℕ) (c : Bounds) : Type 0 where

@@ -5,9 +5,9 @@ ghost use Rattle.std.specs.Prelude.{◌+◌, ◌*◌, ◌<◌, ◌≤◌, length
 ghost use Rattle.logic.specs.Tests.{Decides};
 ghost use Rattle.masks.specs.Steps.{Chosen, Choice};
 ghost use Rattle.queue.specs.Chains.{Chains};
-ghost use Rattle.superior.specs.Superiors.{Source, Taking, TakingAt, Left, Assumed, Without, Hopeless, Picks, Superior};
+ghost use Rattle.superior.specs.Superiors.{Source, Taking, TakingAt, Left, Assumed, Hopeless, Picks, Superior};
 
-use probe::Answer;
+use bounds::Part;
 use queue::index::Index;
 use queue::{Rest, index, waiting};
 use sets::Pair;
@@ -17,11 +17,7 @@ pub fn source_at(words: &[u64], n: usize, ranks: &[u64], m: u64, among: u64, t: 
     requires { ((n + 32) * 8 ≤ length words.now) × (length ranks.now ≤ 64) × (a < 64) }
     ensures { Decides result (Source words.now n ranks.now m among t a) }
 {
-    if (among >> a) % 2 == 0 {
-        return false;
-    }
-    let r = masks::lines::reach(words, n, ranks, m, 1 << a);
-    r & t != 0
+    (among >> a) % 2 != 0 && masks::lines::reach(words, n, ranks, m, 1 << a) & t != 0
 }
 
 // The set s with exception a, if that is one of `among` and the lines of m lead from it to a member of t.
@@ -39,9 +35,10 @@ pub fn source_in(
     ensures { Choice (Source words.now n ranks.now m among t) a s result }
 {
     if source_at(words, n, ranks, m, among, t, a) {
-        return s | (1 << a);
+        s | (1 << a)
+    } else {
+        s
     }
-    s
 }
 
 // The exceptions of `among` from which the lines of m lead to a member of t.
@@ -50,10 +47,8 @@ pub fn sources(words: &[u64], n: usize, ranks: &[u64], m: u64, among: u64, t: u6
     ensures { Chosen (Source words.now n ranks.now m among t) 64 result }
 {
     let mut s: u64 = 0;
-    let mut a: u64 = 0;
-    while a < 64 {
+    for a in 0..64 {
         s = source_in(words, n, ranks, m, among, t, a, s);
-        a += 1;
     }
     s
 }
@@ -67,36 +62,37 @@ pub fn taking_at(
     rest: Rest,
     s: u64,
     a: u64,
-) -> Answer
+) -> Option<Pair>
     requires { (n * 8 ≤ length words.now) × (length ranks.now ≤ 64) × (a < 64) × Chains words.now n index.now }
     ensures { TakingAt words.now n ranks.now rest.bounds s a result }
 {
     if (s >> a) % 2 == 0 {
-        return Answer::Nothing;
+        return None;
     }
     let b = rest.bounds;
-    let c = bounds::into(b, bounds::one(bounds::TAKEN, a));
+    let c = bounds::into(b, bounds::one(Part::Taken, a));
     let w = index::among(index, rest.live, b, c);
     probe::ask(words, n, ranks, index, w, c)
 }
 
 // A view within the bounds that takes one of the exceptions of s, or none.
-pub fn taking(words: &[u64], n: usize, ranks: &[u64], index: &Index, rest: Rest, s: u64) -> Answer
+pub fn taking(
+    words: &[u64],
+    n: usize,
+    ranks: &[u64],
+    index: &Index,
+    rest: Rest,
+    s: u64,
+) -> Option<Pair>
     requires { (n * 8 ≤ length words.now) × (length ranks.now ≤ 64) × Chains words.now n index.now }
     ensures { Taking words.now n ranks.now rest.bounds s 64 result }
 {
-    let mut a: u64 = 0;
-    while a < 64 {
-        let x = taking_at(words, n, ranks, index, rest, s, a);
-        match x {
-            Answer::Found(v) => {
-                return Answer::Found(v);
-            }
-            Answer::Nothing => {}
+    for a in 0..64 {
+        if let Some(v) = taking_at(words, n, ranks, index, rest, s, a) {
+            return Some(v);
         }
-        a += 1;
     }
-    Answer::Nothing
+    None
 }
 
 // The bounds without the exceptions of s, at rest.
@@ -109,8 +105,7 @@ pub fn left(words: &[u64], n: usize, ranks: &[u64], index: &Index, rest: Rest, s
         b,
         Pair {
             taken: s,
-            held: 0,
-            denied: 0,
+            ..Pair::EMPTY
         },
     );
     queue::propagate(
@@ -141,14 +136,6 @@ pub fn assumed(words: &[u64], n: usize, ranks: &[u64], index: &Index, rest: Rest
     )
 }
 
-// The set of lines without line j.
-pub fn without(free: u64, j: u64) -> u64
-    requires { j < 64 }
-    ensures { Without free j result }
-{
-    free ^ (free & (1 << j))
-}
-
 // How many lines may be decided before it is asked whether there is any hope.
 const PATIENCE: u32 = 4;
 
@@ -166,15 +153,11 @@ pub fn hopeless(
     requires { ((n + 32) * 8 ≤ length words.now) × (length ranks.now ≤ 64) × Chains words.now n index.now }
     ensures { Hopeless words.now n ranks.now rest.bounds m t result }
 {
-    if u64::count_ones(decided) < PATIENCE {
+    if decided.count_ones() < PATIENCE {
         return false;
     }
     let s = sources(words, n, ranks, m, rest.bounds.hi.taken, t);
-    let x = taking(words, n, ranks, index, rest, s);
-    match x {
-        Answer::Found(_) => false,
-        Answer::Nothing => true,
-    }
+    taking(words, n, ranks, index, rest, s).is_none()
 }
 
 // The lines that end in a member of k. No contract depends on this.
@@ -182,13 +165,10 @@ pub fn ending(words: &[u64], n: usize, k: u64) -> u64
     requires { (n + 32) * 8 ≤ length words.now }
 {
     let mut e: u64 = 0;
-    let mut j: usize = 0;
-    while j < 32 {
-        let l = masks::masks_at(words, n + j);
-        if l.head.denied & k != 0 {
-            e = e | (1 << (j as u64));
+    for j in 0..32 {
+        if masks::masks_at(words, n + j).head.denied & k != 0 {
+            e |= 1 << j;
         }
-        j += 1;
     }
     e
 }
@@ -200,9 +180,10 @@ pub fn line_to_try(words: &[u64], n: usize, m: u64, k: u64) -> u64
 {
     let near = m & ending(words, n, k);
     if near != 0 {
-        return sets::low(near);
+        sets::low(near)
+    } else {
+        sets::low(m)
     }
-    sets::low(m)
 }
 
 // A view within bounds at rest from whose exceptions P lines and lines lead to a member of t, or none. Of `usable`, the lines of `free` may be
@@ -216,7 +197,7 @@ pub fn superior(
     t: u64,
     usable: u64,
     free: u64,
-) -> Answer
+) -> Option<Pair>
     requires { ((n + 32) * 8 ≤ length words.now) × (length ranks.now ≤ 64) × Chains words.now n index.now }
     ensures { Superior words.now n ranks.now rest.bounds t usable free result }
 {
@@ -224,36 +205,32 @@ pub fn superior(
     let lo = b.lo;
     let hi = b.hi;
     if !sets::within(lo, hi) {
-        return Answer::Nothing;
+        return None;
     }
     let sure = masks::lines::lines_in(words, n, hi, lo) & usable;
     let may = masks::lines::lines_in(words, n, lo, hi) & free;
     let far = masks::lines::reach(words, n, ranks, sure | may, hi.taken);
     if far & t == 0 {
-        return Answer::Nothing;
+        return None;
     }
     let s = sources(words, n, ranks, sure, hi.taken, t);
-    let x = taking(words, n, ranks, index, rest, s);
-    match x {
-        Answer::Found(v) => Answer::Found(v),
-        Answer::Nothing => {
-            let m = may ^ (may & sure);
-            if m == 0 {
-                return Answer::Nothing;
-            }
-            let decided = usable ^ (usable & free);
-            if hopeless(words, n, ranks, index, rest, sure | may, t, decided) {
-                return Answer::Nothing;
-            }
-            let j = line_to_try(words, n, m, t | s);
-            let less = without(free, j);
-            let others = left(words, n, ranks, index, rest, s);
-            let inner = assumed(words, n, ranks, index, others, j as usize);
-            let y = superior(words, n, ranks, index, inner, t, usable, less);
-            match y {
-                Answer::Found(v) => Answer::Found(v),
-                Answer::Nothing => superior(words, n, ranks, index, others, t, usable, less),
-            }
-        }
+    if let Some(v) = taking(words, n, ranks, index, rest, s) {
+        return Some(v);
     }
+    let m = may ^ (may & sure);
+    if m == 0 {
+        return None;
+    }
+    let decided = usable ^ (usable & free);
+    if hopeless(words, n, ranks, index, rest, sure | may, t, decided) {
+        return None;
+    }
+    let j = line_to_try(words, n, m, t | s);
+    let less = sets::cleared(free, j);
+    let others = left(words, n, ranks, index, rest, s);
+    let inner = assumed(words, n, ranks, index, others, j as usize);
+    if let Some(v) = superior(words, n, ranks, index, inner, t, usable, less) {
+        return Some(v);
+    }
+    superior(words, n, ranks, index, others, t, usable, less)
 }

@@ -1,15 +1,5 @@
-use Rattle.admissible.proofs.Subsets.{minimal-absent, minimal-sure, minimal-found, minimal-none}
-use borrow.Author.Rules.{rules}
+use Rattle.admissible.proofs.Subsets.{minimal-asked}
 use Rattle.admissible.proofs.minimal_at.Goals as goal
 
-pub returns-then-taken-e-eq0 : goal.returns-then-taken-e-eq0
-returns-then-taken-e-eq0 c = minimal-absent _ _ _ _ _ _ (search rules)
-
-pub returns-then-root-e-eq1 : goal.returns-then-root-e-eq1
-returns-then-root-e-eq1 c = minimal-sure _ _ _ _ _ _ (search rules)
-
-pub returns-in-Found : goal.returns-in-Found
-returns-in-Found c = minimal-found _ _ _ _ _ _ c.requires.2 _ c.with_sets-b.ensures _ c.ask-a.ensures c.in-Found.field-0 (search rules) c.in-Found.is
-
-pub returns-in-Nothing : goal.returns-in-Nothing
-returns-in-Nothing c = minimal-none _ _ _ _ _ _ c.requires.2 _ c.with_sets-b.ensures _ c.ask-a.ensures (search rules)
+pub returns : goal.returns
+returns c = minimal-asked _ _ _ _ _ _ c.if-taken-e-eq0.false _ c.cleared.ensures _ c.with_sets-b.ensures _ c.ask.ensures _ c.is_none.ensures

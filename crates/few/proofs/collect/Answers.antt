@@ -8,8 +8,8 @@ returns-then-r-ne0 c = collected-is _ _ _ _ _ _ _ _ _ c.gather-r.ensures c.requi
 pub returns-then-r-ne0-2 : goal.returns-then-r-ne0-2
 returns-then-r-ne0-2 c = collected-full _ _ _ _ _ _ _ _ _ c.gather-r.ensures (search rules)
 
-pub returns-in-Found : goal.returns-in-Found
-returns-in-Found c = collected-found c.probe_shaved-a.ensures _ _ c.in-Found.field-0 c.in-Found.is
+pub returns-in-Some : goal.returns-in-Some
+returns-in-Some c = collected-found c.probe_shaved-a.ensures _ _ c.in-Some.field-0 c.in-Some.is
 
-pub returns-in-Nothing : goal.returns-in-Nothing
-returns-in-Nothing c = collected-nothing c.probe_shaved-a.ensures _ _ (search rules)
+pub returns-in-None : goal.returns-in-None
+returns-in-None c = collected-nothing c.probe_shaved-a.ensures _ _ (search rules)

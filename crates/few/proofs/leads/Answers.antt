@@ -1,9 +1,6 @@
-use Rattle.few.proofs.Sorting.{leads-sooner, leads-none}
-use borrow.Author.Rules.{rules}
+use Rattle.std.proofs.Common.{rules}
+use Rattle.few.proofs.Sorting.{leads-sooner}
 use Rattle.few.proofs.leads.Goals as goal
 
-pub returns-then-best-k : goal.returns-then-best-k
-returns-then-best-k c = leads-sooner _ _ _ (search rules) _ (search rules) _ c.sooner_at.ensures
-
-pub returns : goal.returns
-returns c = leads-none _ _ _ (search rules) _ (search rules)
+pub returns-else-k-b : goal.returns-else-k-b
+returns-else-k-b c = rw c.in-Some.is (leads-sooner _ _ _ (search rules) _ c.if-k-b.false _ c.sooner_at.ensures)

@@ -1,4 +1,4 @@
-use Rattle.std.proofs.Common.{arith, rules}
+use Rattle.std.proofs.Common.{◌≡◌, None, arith, rules}
 use Rattle.page.proofs.Branches.{branch-before, branch-barren, branch-clash, branch-open}
 use Rattle.page.proofs.branch_of.Goals as goal
 
@@ -8,14 +8,10 @@ returns-then-earlier c = branch-before _ _ _ _ _ _ c.requires.0 _ c.value_at-own
 pub returns-then-not-within : goal.returns-then-not-within
 returns-then-not-within c = branch-clash _ _ _ _ _ _ c.requires.0 _ c.value_at-own.ensures _ c.earlier.ensures (search rules) _ c.narrow-rest.ensures _ c.within.ensures (search rules)
 
-pub glimpse-a-requires : goal.glimpse-a-requires
-glimpse-a-requires c = (c.requires.0.suits.rules, c.requires.0.suits.ranked, c.requires.1)
+pub returns-in_err-hint : goal.returns-in_err-hint
+returns-in_err-hint c =
+    let e : c.from_residual.result ≡ None = search rules in
+    rw e (branch-barren _ _ _ _ _ _ c.requires.0 _ c.value_at-own.ensures _ c.earlier.ensures (search rules) _ c.narrow-rest.ensures (c.glimpse.ensures (search rules)))
 
-pub given-requires : goal.given-requires
-given-requires c = (omega (arith, c.requires.0.unsettled), omega (arith, c.requires.0.suits.few))
-
-pub returns-in-Nothing : goal.returns-in-Nothing
-returns-in-Nothing c = branch-barren _ _ _ _ _ _ c.requires.0 _ c.value_at-own.ensures _ c.earlier.ensures (search rules) _ c.narrow-rest.ensures (c.glimpse-a.ensures (search rules))
-
-pub returns-in-Found : goal.returns-in-Found
-returns-in-Found c = branch-open _ _ _ _ _ _ c.requires.0 _ c.value_at-own.ensures _ c.earlier.ensures (search rules) _ c.narrow-rest.ensures _ _ _ _ c.still-equal.ensures c.given.ensures
+pub returns : goal.returns
+returns c = branch-open _ _ _ _ _ _ c.requires.0 _ c.value_at-own.ensures _ c.earlier.ensures (search rules) _ c.narrow-rest.ensures _ _ _ _ c.still-equal.ensures c.given-pair.ensures

@@ -6,4 +6,4 @@ pub returns-then-task-at : goal.returns-then-task-at
 returns-then-task-at c = list_full _ _ _ _ _ _ _ c.requires.0.place (search rules)
 
 pub returns : goal.returns
-returns c = list-settled _ _ _ _ _ _ _ _ _ _ _ c.settle.ensures
+returns c = list-settled _ _ _ _ _ _ _ _ c.start-node.ensures _ _ c.settle.ensures

@@ -1,12 +1,11 @@
 use Rattle.page.proofs.Statements.{said-absent, said-held, said-denied}
-use Rattle.std.proofs.Common.{rules}
 use Rattle.page.proofs.said.Goals as goal
 
-pub returns-then-value-eq-ABSENT : goal.returns-then-value-eq-ABSENT
-returns-then-value-eq-ABSENT c = said-absent _ _ (search rules)
+pub returns-in-Absent : goal.returns-in-Absent
+returns-in-Absent c = said-absent _ _ c.in-Absent.is
 
-pub returns-then-value-eq-HELD : goal.returns-then-value-eq-HELD
-returns-then-value-eq-HELD c = said-held _ _ _ (search rules) c.one.ensures
+pub returns-in-Held : goal.returns-in-Held
+returns-in-Held c = said-held _ _ _ c.in-Held.is c.one.ensures
 
-pub returns : goal.returns
-returns c = said-denied _ _ _ (search rules) (search rules) c.one-2.ensures
+pub returns-in-Denied : goal.returns-in-Denied
+returns-in-Denied c = said-denied _ _ _ c.in-Denied.is c.one-in-Denied.ensures

@@ -5,16 +5,13 @@ use Prim.Native.Nat.{◌-◌, ◌≤◌}
 use Rattle.standing.proofs.each_needed.Goals as goal
 
 pub loop-e-init : goal.loop-e-init
-loop-e-init c = (omega arith, so-far-none _ _ _ _ _ _ _)
+loop-e-init c = so-far-none _ _ _ _ _ _ _
 
 pub returns-then-not-unexceeded_at : goal.returns-then-not-unexceeded_at
-returns-then-not-unexceeded_at c = so-far-lost _ _ _ _ _ _ _ _ _ c.loop-e.invariant.1 _ _ c.unexceeded_at.ensures (search rules)
-
-pub loop-e-smaller : goal.loop-e-smaller
-loop-e-smaller c = omega arith
+returns-then-not-unexceeded_at c = so-far-lost _ _ _ _ _ _ _ _ _ c.loop-e.invariant _ _ c.unexceeded_at.ensures (search rules)
 
 pub loop-e-preserved : goal.loop-e-preserved
-loop-e-preserved c = (omega arith, so-far-turn _ _ _ _ _ _ _ _ _ c.loop-e.invariant.1 _ _ c.unexceeded_at.ensures (search rules))
+loop-e-preserved c = so-far-turn _ _ _ _ _ _ _ _ _ c.loop-e.invariant _ _ c.unexceeded_at.ensures (search rules)
 
 pub returns : goal.returns
-returns c = so-far-all _ _ _ _ _ _ _ _ _ c.loop-e.invariant.1 c.ranges.taken.fits (search rules)
+returns c = so-far-all _ _ _ _ _ _ _ _ _ c.loop-e.invariant c.ranges.taken.fits (search rules)

@@ -9,4 +9,4 @@ pub returns-then-b-e-eq1 : goal.returns-then-b-e-eq1
 returns-then-b-e-eq1 c = at-sure _ _ _ _ _ _ _ _ (search rules)
 
 pub returns : goal.returns
-returns c = at-asked _ _ _ _ _ _ _ _ c.requires.2 _ c.with_sets-c.ensures (search rules) _ _ c.standing.ensures
+returns c = at-asked _ _ _ _ _ _ _ _ _ c.cleared.ensures _ c.with_sets-c.ensures (search rules) _ _ c.standing.ensures

@@ -1,48 +1,36 @@
 use borrow.Author.Rules.{rules}
 use Rattle.masks.proofs.Booleans.{refused}
 use native.Mathlib.Omega.{arith}
-use Rattle.superior.proofs.Lines.{none-void, none-far, found-source, none-sure, none-hopeless, found-inner, both_halves, low-line}
+use Rattle.superior.proofs.Lines.{none-void, none-far, found-source, none-sure, none-hopeless, found-inner, both_halves, low-line, without_is}
 use Prim.Native.Nat.{◌<◌}
 use Rattle.superior.proofs.+superior.Goals as goal
-
-pub returns-then-not-within : goal.returns-then-not-within
-returns-then-not-within t c = none-void _ _ _ _ _ _ _ (refused c.within.ensures (search rules))
 
 pub returns-then-far-t-eq0 : goal.returns-then-far-t-eq0
 returns-then-far-t-eq0 t c = none-far _ _ _ _ _ _ _ _ _ c.lines_in.ensures c.lines_in-2.ensures _ c.reach-far.ensures (search rules)
 
 pub returns-then-m-eq0 : goal.returns-then-m-eq0
-returns-then-m-eq0 t c = none-sure _ _ _ _ _ _ _ _ _ c.lines_in.ensures c.lines_in-2.ensures _ c.sources-s.ensures _ c.taking-x.ensures (search rules) (search rules)
-
-pub hopeless-requires : goal.hopeless-requires
-hopeless-requires t c = c.requires
+returns-then-m-eq0 t c = none-sure _ _ _ _ _ _ _ _ _ c.lines_in.ensures c.lines_in-2.ensures _ c.sources-s.ensures _ c.taking.ensures (search rules) (search rules)
 
 pub returns-then-hopeless : goal.returns-then-hopeless
 returns-then-hopeless t c = none-hopeless _ _ _ _ _ _ _ _ _ c.lines_in.ensures c.lines_in-2.ensures _ c.hopeless.ensures (search rules)
 
-pub line_to_try-j-requires : goal.line_to_try-j-requires
-line_to_try-j-requires t c = c.requires.0
-
-pub without-less-requires : goal.without-less-requires
-without-less-requires t c = let q = low-line _ _ _ _ _ _ _ _ c.lines_in-2.ensures (search rules) c.line_to_try-j.ensures in omega (arith, q.0)
-
-pub left-others-requires : goal.left-others-requires
-left-others-requires t c = let p = c.requires in (omega (arith, p.0), p.1, p.2)
-
 pub assumed-inner-requires : goal.assumed-inner-requires
 assumed-inner-requires t c = let p = c.requires in let q = low-line _ _ _ _ _ _ _ _ c.lines_in-2.ensures (search rules) c.line_to_try-j.ensures in (p.0, p.1, q.0, p.2)
 
-pub superior-y-requires : goal.superior-y-requires
-superior-y-requires t c = let p = c.requires in let q = low-line _ _ _ _ _ _ _ _ c.lines_in-2.ensures (search rules) c.line_to_try-j.ensures in let h = c.without-less.ensures.less q.1 in (omega (arith, c.decreases), p)
-
 pub superior-requires : goal.superior-requires
-superior-requires t c = let p = c.requires in let q = low-line _ _ _ _ _ _ _ _ c.lines_in-2.ensures (search rules) c.line_to_try-j.ensures in let h = c.without-less.ensures.less q.1 in (omega (arith, c.decreases), p)
+superior-requires t c = let p = c.requires in let q = low-line _ _ _ _ _ _ _ _ c.lines_in-2.ensures (search rules) c.line_to_try-j.ensures in let h = (without_is _ _ _ c.cleared-less.ensures).less q.1 in (omega (arith, c.decreases), p)
 
-pub returns-in-Found : goal.returns-in-Found
-returns-in-Found t c = found-source _ _ _ _ _ _ _ _ _ c.lines_in.ensures c.lines_in-2.ensures _ c.sources-s.ensures _ c.taking-x.ensures _ (search rules)
+pub superior-requires-2 : goal.superior-requires-2
+superior-requires-2 t c = let p = c.requires in let q = low-line _ _ _ _ _ _ _ _ c.lines_in-2.ensures (search rules) c.line_to_try-j.ensures in let h = (without_is _ _ _ c.cleared-less.ensures).less q.1 in (omega (arith, c.decreases), p)
 
-pub returns-in-Found-y : goal.returns-in-Found-y
-returns-in-Found-y t c = found-inner _ _ _ _ _ _ _ _ _ c.lines_in.ensures c.lines_in-2.ensures _ c.sources-s.ensures _ c.taking-x.ensures c.in-Nothing.is _ _ c.without-less.ensures.others _ _ _ c.left-others.ensures.lo c.left-others.ensures.hi c.left-others.ensures.keeps c.assumed-inner.ensures.made c.assumed-inner.ensures.propagated _ c.superior-y.ensures _ (search rules)
+pub returns-in-Some : goal.returns-in-Some
+returns-in-Some t c = found-source _ _ _ _ _ _ _ _ _ c.lines_in.ensures c.lines_in-2.ensures _ c.sources-s.ensures _ c.taking.ensures _ (search rules)
 
-pub returns-in-Nothing-y : goal.returns-in-Nothing-y
-returns-in-Nothing-y t c = both_halves _ _ _ _ _ _ _ _ _ c.lines_in.ensures c.lines_in-2.ensures _ c.sources-s.ensures _ c.taking-x.ensures c.in-Nothing.is _ _ c.without-less.ensures.others _ _ _ c.left-others.ensures.lo c.left-others.ensures.hi c.left-others.ensures.keeps c.assumed-inner.ensures.made c.assumed-inner.ensures.propagated _ _ c.superior-y.ensures (search rules) c.superior.ensures
+pub returns-in-Some-superior : goal.returns-in-Some-superior
+returns-in-Some-superior t c = found-inner _ _ _ _ _ _ _ _ _ c.lines_in.ensures c.lines_in-2.ensures _ c.sources-s.ensures _ c.taking.ensures (search rules) _ _ (without_is _ _ _ c.cleared-less.ensures).others _ _ _ c.left-others.ensures.lo c.left-others.ensures.hi c.left-others.ensures.keeps c.assumed-inner.ensures.made c.assumed-inner.ensures.propagated _ c.superior.ensures _ (search rules)
+
+pub returns : goal.returns
+returns t c = both_halves _ _ _ _ _ _ _ _ _ c.lines_in.ensures c.lines_in-2.ensures _ c.sources-s.ensures _ c.taking.ensures (search rules) _ _ (without_is _ _ _ c.cleared-less.ensures).others _ _ _ c.left-others.ensures.lo c.left-others.ensures.hi c.left-others.ensures.keeps c.assumed-inner.ensures.made c.assumed-inner.ensures.propagated _ _ c.superior.ensures (search rules) c.superior-2.ensures
+
+pub cleared-less-requires : goal.cleared-less-requires
+cleared-less-requires t c = let q = low-line _ _ _ _ _ _ _ _ c.lines_in-2.ensures (search rules) c.line_to_try-j.ensures in omega (arith, q.0)

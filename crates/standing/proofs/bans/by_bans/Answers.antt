@@ -1,23 +1,14 @@
-use borrow.Author.Rules.{rules}
-use native.Mathlib.Omega.{arith}
 use Rattle.standing.proofs.Barring.{leaves_all, leaves-turn}
-use Prim.Native.Nat.{◌-◌, ◌≤◌}
 use Rattle.standing.proofs.bans.by_bans.Goals as goal
 
 pub returns-then-mem-eq0 : goal.returns-then-mem-eq0
 returns-then-mem-eq0 c = leaves_all _ _ _ _ _
 
-pub loop-k-init : goal.loop-k-init
-loop-k-init c = (omega arith, leaves_all _ _ _ _ _)
+pub loop-ban-init : goal.loop-ban-init
+loop-ban-init c = leaves_all _ _ _ _ _
 
 pub returns-then-not-within : goal.returns-then-not-within
-returns-then-not-within c = leaves-turn _ _ _ _ _ _ _ c.lines_in-sure.ensures (search rules) _ _ c.loop-k.invariant.1 c.by_ban-o.ensures
+returns-then-not-within c = leaves-turn _ _ _ _ _ _ _ c.lines_in-sure.ensures c.loop-ban-test.true _ _ c.loop-ban.invariant c.by_ban-o.ensures
 
-pub loop-k-smaller : goal.loop-k-smaller
-loop-k-smaller c = omega arith
-
-pub loop-k-preserved : goal.loop-k-preserved
-loop-k-preserved c = (omega arith, leaves-turn _ _ _ _ _ _ _ c.lines_in-sure.ensures (search rules) _ _ c.loop-k.invariant.1 c.by_ban-o.ensures)
-
-pub returns : goal.returns
-returns c = c.loop-k.invariant.1
+pub loop-ban-preserved : goal.loop-ban-preserved
+loop-ban-preserved c = leaves-turn _ _ _ _ _ _ _ c.lines_in-sure.ensures c.loop-ban-test.true _ _ c.loop-ban.invariant c.by_ban-o.ensures

@@ -6,13 +6,10 @@ use Prim.Native.Nat.{◌-◌, ◌≤◌}
 use Rattle.standing.proofs.bans.shut.Goals as goal
 
 pub loop-j-init : goal.loop-j-init
-loop-j-init c = (omega arith, keeps_same _)
-
-pub loop-j-smaller : goal.loop-j-smaller
-loop-j-smaller c = omega arith
+loop-j-init c = keeps_same _
 
 pub loop-j-preserved : goal.loop-j-preserved
-loop-j-preserved c = (omega arith, shut-turn _ _ _ _ _ _ _ _ _ (search rules) c.loop-j.invariant.1 c.shut_at-o.ensures)
+loop-j-preserved c = shut-turn _ _ _ _ _ _ _ _ _ (search rules) c.loop-j.invariant c.shut_at-o.ensures
 
 pub returns : goal.returns
-returns c = c.loop-j.invariant.1
+returns c = c.loop-j.invariant

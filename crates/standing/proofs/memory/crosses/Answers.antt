@@ -1,10 +1,9 @@
-use native.Mathlib.Omega.{arith}
+use Rattle.std.proofs.Common.{◌≡◌, refl, arith, rules}
 use Rattle.standing.proofs.Domination.{crosses-none, crosses-is}
-use borrow.Author.Rules.{rules}
 use Rattle.standing.proofs.memory.crosses.Goals as goal
 
-pub returns-then-t-eq0 : goal.returns-then-t-eq0
-returns-then-t-eq0 c = crosses-none _ _ _ _ _ _ (search rules)
+pub returns-else-t-ne0 : goal.returns-else-t-ne0
+returns-else-t-ne0 c = let e : c.args.t ≡ 0 = search rules in rw e (crosses-none _ _ _ _ _ _ refl)
 
-pub returns : goal.returns
-returns c = crosses-is _ _ _ _ _ _ _ (omega (arith, c.reach-r.type_inv)) c.reach-r.ensures
+pub returns-then-t-ne0 : goal.returns-then-t-ne0
+returns-then-t-ne0 c = crosses-is _ _ _ _ _ _ _ (omega (arith, c.reach.type_inv)) c.reach.ensures
