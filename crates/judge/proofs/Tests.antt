@@ -3,10 +3,10 @@
 use mathlib.Core.Path.{◌≡◌, sym}
 use mathlib.Core.Bool.{Bool, true, false, not}
 use mathlib.Core.List.{List}
-use mathlib.Core.Logic.{◌⊎◌, inl, inr, ◌↔◌}
+use mathlib.Core.Logic.{◌⊎◌, inl, inr}
 use Prim.Native.Nat.{ℕ}
 use Rattle.logic.specs.Tests.{Decides}
-use Rattle.logic.proofs.Decide.{holds-or-not}
+use Rattle.logic.proofs.Decide.{holds-or-not, reworded}
 use Rattle.sets.specs.declared.Pair.{Pair}
 use Rattle.masks.specs.declared.Bounds.{Bounds}
 use Rattle.masks.specs.Views.{Level, Lined, Uncrossed}
@@ -16,13 +16,13 @@ use Rattle.bridge.proofs.Views.{answers-same, bodies-same, unranked-same}
 use Rattle.admissible.specs.Admissible.{Minimal, Undominated, Stands, Unexceeded}
 use Rattle.meaning.specs.Books.{Book, Lawful}
 use Rattle.meaning.specs.Views.{Answers, RankedWithin, View}
-use Rattle.meaning.specs.Resolutions.{Dominated, Exceeded, Verdict, no_answer_set, ranked_within, body_unsatisfied, dominated, not_minimal, resolution}
+use Rattle.meaning.specs.Resolutions.{Dominated, Verdict, no_answer_set, ranked_within, body_unsatisfied, dominated, not_minimal, resolution}
 use Rattle.meaning.proofs.Ranks.{decides-within}
 use Rattle.meaning.proofs.Twins.{decides-dominated, decides-exceeded}
 use Rattle.meaning.proofs.Laws.{verdict-only}
 use Rattle.resolution.specs.Rooted.{Rooted}
 use Rattle.resolution.proofs.Resolutions.{minimal-same, stands_same, undominated-same, unexceeded-same}
-use Rattle.judge.specs.Judged.{Judged, JudgedView}
+use Rattle.judge.specs.Judged.{Judged, Free, Smallest}
 
 -- What is decided and not refuted holds.
 must : {P : Type 0} → P ⊎ (P → ⊥) → ((P → ⊥) → ⊥) → P
@@ -38,35 +38,19 @@ module _ {P Q : Type 0} (c : Bool) (d : Decides c P) where
   one_holds e u k = record { yes = λ h. (granted d e, k.yes h); no = λ h x. k.no h x.1 }
 
 module _ (ws : List ℕ) (n : ℕ) (ranks : List ℕ) (root : Bounds) (p : Pair) where
-  -- ---- verdicts 4, 5 and 0 on a view, by tests of domination and of minimality
-  -- In every book of these words and ranks, U says that the pair is undominated, and M of such a pair that it is minimal.
-  pub record Last (U M : Type 0) : Type 0 where
-    pub free : (b : Book) → Rooted b ws n ranks root → U ↔ (Dominated b p → ⊥)
-    pub least : (b : Book) → Rooted b ws n ranks root → (Dominated b p → ⊥) → M ↔ (Exceeded b p → ⊥)
+  -- ---- the tests of verdicts 4 and 5, by lines or without
+  module _ (u : Bool) where
+    pub free-lined : Decides u (Stands ws n ranks root p) → Free ws n ranks root p u
+    free-lined d = record { tells = λ b r. let f = stands_same b ws n ranks root r p in reworded d f.0 f.1 }
 
-  pub with-lines : Last (Stands ws n ranks root p) (Unexceeded ws n ranks root p.taken)
-  with-lines = record { free = λ b r. stands_same b ws n ranks root r p; least = λ b r z. unexceeded-same b ws n ranks root r p }
+    pub free-plain : (Lined ws n → ⊥) → Decides u (Undominated ws n ranks root p.taken) → Free ws n ranks root p u
+    free-plain l d = record { tells = λ b r. let f = undominated-same b ws n ranks root r l p in reworded d f.0 f.1 }
 
-  pub without-lines : (Lined ws n → ⊥) → Last (Undominated ws n ranks root p.taken) (Minimal ws n ranks root p.taken)
-  without-lines f = record { free = λ b r. undominated-same b ws n ranks root r f p; least = λ b r. minimal-same b ws n ranks root r f p }
+    pub smallest-lined : Decides u (Unexceeded ws n ranks root p.taken) → Smallest ws n ranks root p u
+    smallest-lined d = record { tells = λ b r z. let f = unexceeded-same b ws n ranks root r p in reworded d f.0 f.1 }
 
-  module _ {U M : Type 0} (t : Last U M) where
-    seen : (k : ℕ) → ((b : Book) → Rooted b ws n ranks root → View b p → Verdict b p k) → JudgedView ws n ranks root p k
-    seen k f = record { is = λ b r v. sym (verdict-only b p v.lawful k (f b r v)) }
-
-    module _ (u : Bool) (du : Decides u U) where
-      pub seen-4 : not u ≡ true → JudgedView ws n ranks root p 4
-      seen-4 e = seen 4 (λ b r v. dominated v (must (holds-or-not (decides-dominated b p)) (λ x. refused du e ((t.free b r).1 x))))
-
-      module _ (eu : not u ≡ false) (m : Bool) (dm : Decides m M) where
-        unbeaten : (b : Book) → Rooted b ws n ranks root → Dominated b p → ⊥
-        unbeaten b r = (t.free b r).0 (granted du eu)
-
-        pub seen-5 : not m ≡ true → JudgedView ws n ranks root p 5
-        seen-5 e = seen 5 (λ b r v. not_minimal v (unbeaten b r) (must (holds-or-not (decides-exceeded b p)) (λ x. refused dm e ((t.least b r (unbeaten b r)).1 x))))
-
-        pub seen-0 : not m ≡ false → JudgedView ws n ranks root p 0
-        seen-0 e = seen 0 (λ b r v. resolution (record { view = v; undominated = unbeaten b r; minimal = (t.least b r (unbeaten b r)).0 (granted dm e) }))
+    pub smallest-plain : (Lined ws n → ⊥) → Decides u (Minimal ws n ranks root p.taken) → Smallest ws n ranks root p u
+    smallest-plain l d = record { tells = λ b r z. let f = minimal-same b ws n ranks root r l p z in reworded d f.0 f.1 }
 
   -- ---- verdicts 1, 2 and 3
   given : (k : ℕ) → ((b : Book) → Rooted b ws n ranks root → Lawful b p → Verdict b p k) → Judged ws n ranks root p k
@@ -92,12 +76,25 @@ module _ (ws : List ℕ) (n : ℕ) (ranks : List ℕ) (root : Bounds) (p : Pair)
         judged-3 e = given 3 (λ b r l. body_unsatisfied (answers_of b r) (unranked-of b r l) (λ x. refused ds e ((bodies-same b ws n r.packs p).1 x)))
 
         -- All three tests passed: the pair is a view.
-        pub judged-view : not s ≡ false → (k : ℕ) → JudgedView ws n ranks root p k → Judged ws n ranks root p k
-        judged-view e k j = record {
-          is = λ b r l. j.is b r (record {
+        module _ (es : not s ≡ false) where
+          view_of : (b : Book) → Rooted b ws n ranks root → Lawful b p → View b p
+          view_of b r l = record {
             lawful = l;
             answers = answers_of b r;
             unranked = unranked-of b r l;
-            bodies = (bodies-same b ws n r.packs p).0 (granted ds e);
-          });
-        }
+            bodies = (bodies-same b ws n r.packs p).0 (granted ds es);
+          }
+
+          module _ (u : Bool) (du : Free ws n ranks root p u) where
+            pub judged-4 : not u ≡ true → Judged ws n ranks root p 4
+            judged-4 e = given 4 (λ b r l. dominated (view_of b r l) (must (holds-or-not (decides-dominated b p)) (refused (du.tells b r) e)))
+
+            module _ (eu : not u ≡ false) (m : Bool) (dm : Smallest ws n ranks root p m) where
+              unbeaten : (b : Book) → Rooted b ws n ranks root → Dominated b p → ⊥
+              unbeaten b r = granted (du.tells b r) eu
+
+              pub judged-5 : not m ≡ true → Judged ws n ranks root p 5
+              judged-5 e = given 5 (λ b r l. not_minimal (view_of b r l) (unbeaten b r) (must (holds-or-not (decides-exceeded b p)) (refused (dm.tells b r (unbeaten b r)) e)))
+
+              pub judged-0 : not m ≡ false → Judged ws n ranks root p 0
+              judged-0 e = given 0 (λ b r l. resolution (record { view = view_of b r l; undominated = unbeaten b r; minimal = granted (dm.tells b r (unbeaten b r)) e }))

@@ -1,11 +1,11 @@
 // The verdict on a lawful pair of a prepared book.
 #![tactic(auto)]
 
-ghost use Rattle.std.specs.Prelude.{◌*◌, ◌≤◌, length};
+ghost use Rattle.std.specs.Prelude.{◌≡◌, ◌*◌, ◌≤◌, length};
 ghost use Rattle.logic.specs.Tests.{Decides};
 ghost use Rattle.masks.specs.Views.{Level, Lined, Uncrossed};
 ghost use Rattle.queue.specs.Chains.{Chains};
-ghost use Rattle.judge.specs.Judged.{Judged, JudgedView};
+ghost use Rattle.judge.specs.Judged.{number_of, Judged, Free, Smallest};
 
 use masks::Bounds;
 use queue::index::Index;
@@ -25,39 +25,76 @@ fn unranked(words: &[u64], n: usize, ranks: &[u64], p: Pair) -> bool
     masks::lines::uncrossed(words, n, ranks, p)
 }
 
-// The verdict on a view, without lines: 4, 5 or 0. The set of exceptions alone decides; a view with a subset of an undominated set is undominated, so
-// all views are asked.
-fn last_verdict(words: &[u64], n: usize, ranks: &[u64], index: &Index, root: Bounds, p: Pair) -> u32
-    requires { (n * 8 ≤ length words.now) × (length ranks.now ≤ 64) × (Lined words.now n → ⊥) × Chains words.now n index.now }
-    ensures { JudgedView words.now n ranks.now root p result }
+// No view dominates the pair. Without lines the set of exceptions alone decides.
+fn undominated(words: &[u64], n: usize, ranks: &[u64], index: &Index, root: Bounds, p: Pair) -> bool
+    requires { (n * 8 ≤ length words.now) × (length ranks.now ≤ 64) × Chains words.now n index.now }
+    ensures { Free words.now n ranks.now root p result }
 {
-    let taken = p.taken;
-    if !admissible::undominated(words, n, ranks, index, root, taken) {
-        return 4;
+    if masks::lines::lined(words, n) {
+        return lined::undominated(words, n, ranks, index, root, p);
     }
-    if !admissible::minimal(words, n, ranks, index, root, taken) {
-        return 5;
+    admissible::undominated(words, n, ranks, index, root, p.taken)
+}
+
+// No undominated view has a proper subset of the exceptions of the pair, which is undominated. Without lines a view with a subset of an undominated set is
+// undominated, so all views are asked.
+fn minimal(words: &[u64], n: usize, ranks: &[u64], index: &Index, root: Bounds, p: Pair) -> bool
+    requires { (n * 8 ≤ length words.now) × (length ranks.now ≤ 64) × Chains words.now n index.now }
+    ensures { Smallest words.now n ranks.now root p result }
+{
+    if masks::lines::lined(words, n) {
+        return lined::minimal(words, n, ranks, index, root, p.taken);
     }
-    0
+    admissible::minimal(words, n, ranks, index, root, p.taken)
+}
+
+// The verdicts. Their numbers are those of the documents and of C.
+#[derive(Clone, Copy, PartialEq, Eq)]
+pub enum Judgement {
+    Resolution,
+    NoAnswerSet,
+    RankedWithin,
+    BodyUnsatisfied,
+    Dominated,
+    NotMinimal,
+}
+
+impl Judgement {
+    // Its number.
+    pub fn number(self) -> u32
+        ensures { result ≡ number_of self }
+    {
+        self as u32
+    }
 }
 
 // The verdict, the first that applies: 1 no answer set; 2 a member of T beside its superior; 3 a body in T unsatisfied; 4 dominated;
 // 5 some undominated view has a proper subset of T; 0 a resolution. The bounds root have the book's views.
-pub fn verdict(words: &[u64], n: usize, ranks: &[u64], index: &Index, root: Bounds, p: Pair) -> u32
+pub fn verdict(
+    words: &[u64],
+    n: usize,
+    ranks: &[u64],
+    index: &Index,
+    root: Bounds,
+    p: Pair,
+) -> Judgement
     requires { (n * 8 ≤ length words.now) × (length ranks.now ≤ 64) × Chains words.now n index.now }
-    ensures { Judged words.now n ranks.now root p result }
+    ensures { Judged words.now n ranks.now root p (number_of result) }
 {
     if !verdict::is_answer(words, n, p) {
-        return 1;
+        return Judgement::NoAnswerSet;
     }
     if !unranked(words, n, ranks, p) {
-        return 2;
+        return Judgement::RankedWithin;
     }
     if !verdict::bodies(words, n, p) {
-        return 3;
+        return Judgement::BodyUnsatisfied;
     }
-    if masks::lines::lined(words, n) {
-        return lined::last_verdict(words, n, ranks, index, root, p);
+    if !undominated(words, n, ranks, index, root, p) {
+        return Judgement::Dominated;
     }
-    last_verdict(words, n, ranks, index, root, p)
+    if !minimal(words, n, ranks, index, root, p) {
+        return Judgement::NotMinimal;
+    }
+    Judgement::Resolution
 }

@@ -1,9 +1,8 @@
-// The last verdicts where the words have lines: what decides is not the set of exceptions alone.
+// The tests of the last verdicts where the words have lines: what decides is not the set of exceptions alone.
 ghost use Rattle.std.specs.Prelude.{◌+◌, ◌*◌, ◌≤◌, length};
 ghost use Rattle.logic.specs.Tests.{Decides};
 ghost use Rattle.queue.specs.Chains.{Chains};
 ghost use Rattle.admissible.specs.Admissible.{Stands, Unexceeded};
-ghost use Rattle.judge.specs.Judged.{JudgedView};
 
 use masks::Bounds;
 use queue::index::Index;
@@ -11,7 +10,14 @@ use sets::Pair;
 use standing::memory;
 
 // No view within root dominates the pair.
-fn undominated(words: &[u64], n: usize, ranks: &[u64], index: &Index, root: Bounds, p: Pair) -> bool
+pub fn undominated(
+    words: &[u64],
+    n: usize,
+    ranks: &[u64],
+    index: &Index,
+    root: Bounds,
+    p: Pair,
+) -> bool
     requires { ((n + 32) * 8 ≤ length words.now) × (length ranks.now ≤ 64) × Chains words.now n index.now }
     ensures { Decides result (Stands words.now n ranks.now root p) }
 {
@@ -21,32 +27,17 @@ fn undominated(words: &[u64], n: usize, ranks: &[u64], index: &Index, root: Boun
 
 // No undominated view within root has a proper subset of `taken`. The memory is a new one: what the test of domination remembers would
 // spare one search at most.
-fn minimal(words: &[u64], n: usize, ranks: &[u64], index: &Index, root: Bounds, taken: u64) -> bool
-    requires { ((n + 32) * 8 ≤ length words.now) × (length ranks.now ≤ 64) × Chains words.now n index.now }
-    ensures { Decides result (Unexceeded words.now n ranks.now root taken) }
-{
-    let mut memory = [0u64; memory::LENGTH];
-    standing::unexceeded(words, n, ranks, index, root, &mut memory, taken)
-}
-
-// The verdict on a view: 4, 5 or 0.
-pub fn last_verdict(
+pub fn minimal(
     words: &[u64],
     n: usize,
     ranks: &[u64],
     index: &Index,
     root: Bounds,
-    p: Pair,
-) -> u32
+    taken: u64,
+) -> bool
     requires { ((n + 32) * 8 ≤ length words.now) × (length ranks.now ≤ 64) × Chains words.now n index.now }
-    ensures { JudgedView words.now n ranks.now root p result }
+    ensures { Decides result (Unexceeded words.now n ranks.now root taken) }
 {
-    if !undominated(words, n, ranks, index, root, p) {
-        return 4;
-    }
-    let taken = p.taken;
-    if !minimal(words, n, ranks, index, root, taken) {
-        return 5;
-    }
-    0
+    let mut memory = [0u64; memory::LENGTH];
+    standing::unexceeded(words, n, ranks, index, root, &mut memory, taken)
 }

@@ -1,6 +1,6 @@
 -- Marks that are set word by word: each is the mark of a struck set, and no struck set is left out; and the exceptions that a set outranks,
 -- gathered word by word.
-use Rattle.std.proofs.Common.{◌≡◌, ℕ, suc, ◌+◌, ◌-◌, ◌*◌, ◌/◌, ◌%◌, ◌^◌, ◌<◌, ◌≤◌, true, eqb, ◌⊎◌, List, length, get_or, take, set, replicate, sym, refl, ap, ◌∙◌, inl, inr, ⊎_elim, le_trans, le_refl, mod-lt, arith, length-set, length-take, length-take-le, get_or-set_other, get_or-take, get_or-set_same, pow-add, eq-eqb, eqb-true}
+use Rattle.std.proofs.Common.{◌≡◌, ℕ, ◌+◌, ◌-◌, ◌*◌, ◌/◌, ◌%◌, ◌^◌, ◌<◌, ◌≤◌, true, eqb, ◌⊎◌, List, [], ◌∷◌, length, get_or, take, set, replicate, sym, refl, ap, ◌∙◌, inl, inr, ⊎_elim, le_trans, le_refl, mod-lt, arith, length-set, length-take, length-take-le, get_or-set_other, get_or-take, get_or-set_same, pow-add, eq-eqb, eqb-true}
 use lib.Bits.{bit_and, bit_or}
 use lib.ListN.{get_or-replicate, get_or-eq_default, length-replicate}
 use Rattle.logic.specs.Tests.{Decides}
@@ -8,11 +8,11 @@ use Rattle.logic.proofs.Decide.{decided, reworded, holds-or-not, decides_eq}
 use Rattle.logic.proofs.Tests.{all, all-at}
 use Rattle.sets.specs.Sets.{bit_of, Within, Apart, without}
 use Rattle.sets.proofs.Digits.{bit-and, bit-or, bit-without, bit-single, bit-lt, bit-zero, shifted, lt-or-le}
-use Rattle.sets.proofs.Words.{minus-off, and_none, none-and, off-is, off-sub, or_l, or_r, and_r, sub-or, sub-le, zero_minus, none-off}
+use Rattle.sets.proofs.Words.{and_none, none-and, off-is, off-sub, or_l, or_r, and_r, sub-or, sub-le, zero_minus, none-off}
 use Rattle.meaning.specs.Books.{Book}
 use Rattle.marking.specs.declared.Strike.{Strike}
 use Rattle.marking.specs.Marks.{marks_in, IsMarked, shut_out, bit_on, InRange, Struck, shares, between, Marked, Digit, DigitBetween, Selected, Pattern, Spans, Next, all_ones, Clear, NoneAt, RightMarks, Outranked, WithRank}
-use Rattle.marking.proofs.Steps.{outside, outside-lt, outside-parts, room, later, next-in, bit-number, words-within, within-words, ones-at}
+use Rattle.marking.proofs.Steps.{outside, outside-lt, outside-off, outside-parts, room, later, next-in, bit-number, words-within, within-words, ones-at}
 
 -- ---- one look
 module _ (m : List ℕ) (t : ℕ) where
@@ -52,23 +52,24 @@ words-full x h =
     let p : 2 ^ x ≡ 64 * 2 ^ (x - 6) = ap (λ (m : ℕ). 2 ^ m) e ∙ pow-add 2 6 (x - 6) in
     omega arith
 
-module _ (x k : ℕ) (h : 6 ≤ x) (l : 2 ^ x ≤ 64 * k) (n : ℕ) (e : n ≡ 2 ^ x / 64 + 1) where
-  pub words-in : n ≤ k + 1
-  words-in = omega arith
+-- A part of words of zeros has its length.
+pub zeros-long : (n k : ℕ) → n ≤ k → length (zeros n k) ≡ n
+zeros-long n k h = length-take-le n (replicate k 0) (rw (length-replicate {A = ℕ} k 0) h)
 
-  words_long : length (zeros n (k + 1)) ≡ n
-  words_long = length-take-le n (replicate (k + 1) 0) (rw (length-replicate {A = ℕ} (k + 1) 0) words-in)
-
-  pub words_count : n ≡ length (zeros n (k + 1))
-  words_count = sym words_long
-
-  pub words-enough : 2 ^ x ≤ marks_in (zeros n (k + 1))
-  words-enough = rw words_long (let f = words-full x h in omega arith)
+pub words-in : (x k : ℕ) → 6 ≤ x → 2 ^ x ≤ 64 * k → (n : ℕ) → n ≡ 2 ^ x / 64 + 1 → n ≤ k + 1
+words-in x k h l n e = omega arith
 
 -- ---- the numbers of a word
 -- A word of numbers with a digit, found by looking at all 64.
 pub digit-is : (i d : ℕ) → all (λ k. eqb (bit_of d k) (bit_of k i)) 64 ≡ true → Digit i d
 digit-is i d e = record { is = λ k h. eqb-true _ _ (all-at (λ k. eqb (bit_of d k) (bit_of k i)) 64 k e h) }
+
+-- The words of all six digits.
+abbrev pub digits : List ℕ
+digits = 0xaaaa_aaaa_aaaa_aaaa ∷ 0xcccc_cccc_cccc_cccc ∷ 0xf0f0_f0f0_f0f0_f0f0 ∷ 0xff00_ff00_ff00_ff00 ∷ 0xffff_0000_ffff_0000 ∷ 0xffff_ffff_0000_0000 ∷ []
+
+pub digit-at : (i : ℕ) → i < 6 → Digit i (get_or digits i 0)
+digit-at i h = digit-is i (get_or digits i 0) (all-at (λ i. all (λ k. eqb (bit_of (get_or digits i 0) k) (bit_of k i)) 64) 6 i refl h)
 
 module _ (p i d lo hi : ℕ) (g : Digit i d) (sub : Within lo hi) where
   -- lo has the digit; hi has it not; it may be either.
@@ -94,7 +95,7 @@ module _ (lo hi : ℕ) where
   pub pattern-none : Pattern 0 lo hi all_ones
   pattern-none = record { from = λ k h x i l. absurd (omega arith); all = λ k h f. ones-at k h }
 
-  pub pattern-more : (m p r : ℕ) → Pattern m lo hi p → Selected p (λ k. DigitBetween lo hi k m) r → Pattern (suc m) lo hi r
+  pub pattern-more : (m p r : ℕ) → Pattern m lo hi p → Selected p (λ k. DigitBetween lo hi k m) r → Pattern (m + 1) lo hi r
   pattern-more m p r f c = record {
     from = λ k h x i l. ⊎_elim (λ a. f.from k h (c.from k h x).0 i a) (λ a. let e : i ≡ m = omega arith in rw e (c.from k h x).1) (lt-or-le i m);
     all = λ k h g. c.all k h (f.all k h (λ i l. g i (omega arith))) (g m (omega arith));
@@ -211,19 +212,19 @@ module _ (lo hi : ℕ) where
   pub next-none : (w end : ℕ) → w ≡ hi → Next lo hi (w + 1) end end
   next-none w end e = record { least = λ v h l s. let x = sub-le v hi s.below in absurd (omega arith); stands = λ l. absurd (omega arith) }
 
-  module _ (w : ℕ) (s : Spans lo hi w) where
+  module _ (w : ℕ) (s : Spans lo hi w) (fits : hi < 2 ^ 64) where
     -- What is within hi of the sum that is carried over the rest.
     abbrev carried : ℕ
     carried = bit_and (bit_or w (outside hi) + 1) hi
 
     off : Apart (outside hi) hi
-    off = minus-off all_ones hi
+    off = outside-off hi fits
 
-    pub next_fits : hi < 2 ^ 64 → (w ≡ hi → ⊥) → bit_or w (outside hi) + 1 < 2 ^ 64
-    next_fits h n = room hi (outside hi) off w (outside-lt hi) h s.below n
+    pub next_fits : (w ≡ hi → ⊥) → bit_or w (outside hi) + 1 < 2 ^ 64
+    next_fits n = room hi (outside hi) off w (outside-lt hi) fits s.below n
 
-    pub next-later : hi < 2 ^ 64 → (w ≡ hi → ⊥) → w < bit_or carried lo
-    next-later h n = later hi (outside hi) off w lo s.below (outside-parts hi (bit_or w (outside hi) + 1) (next_fits h n))
+    pub next-later : (w ≡ hi → ⊥) → w < bit_or carried lo
+    next-later n = later hi (outside hi) off w lo s.below (outside-parts hi fits (bit_or w (outside hi) + 1) (next_fits n))
 
     pub next-there : (end : ℕ) → Next lo hi (w + 1) end (bit_or carried lo)
     next-there end = record {

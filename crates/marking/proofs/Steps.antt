@@ -1,11 +1,11 @@
 -- The words from lo to hi in the order of numbers: which one comes after a word; and digits of words of 64 sets.
 use Rattle.std.proofs.Common.{◌≡◌, ℕ, zero, suc, ◌+◌, ◌-◌, ◌/◌, ◌%◌, ◌^◌, ◌<◌, ◌≤◌, ap, ◌∙◌, ⊎_elim, le_refl, mod-eq_of_lt, arith, shr-shr}
 use lib.Pow.{pow-lt}
-use lib.Bits.{bit_and, bit_or, bit_xor, or_step, and_step, or_add_and, or_disjoint, or_lt, and_le_r, and_mask, xor_self}
+use lib.Bits.{bit_and, bit_or, bit_xor, xor_add_and, and_comm, or_step, and_step, or_add_and, or_disjoint, or_lt, and_le_r, and_mask, xor_self}
 use Rattle.sets.specs.Sets.{bit_of, Within, Apart, without}
 use Rattle.sets.proofs.Digits.{bit-and, bit-or, bit-without, bit-mod, bit-lt, lt-or-le}
 use Rattle.sets.proofs.Lowest.{bit-half}
-use Rattle.sets.proofs.Words.{sub-or, sub-le, minus-sub, minus-zero, none-and, single-has}
+use Rattle.sets.proofs.Words.{sub-or, sub-le, minus-off, minus-zero, none-and, single-has}
 use Rattle.marking.specs.Marks.{all_ones}
 
 -- ---- halves
@@ -85,16 +85,6 @@ module _ (hi gap : ℕ) (off : Apart gap hi) where
       let k = and_le_r (bit_and (bit_or t gap + 1) hi) lo in
       omega arith
 
--- What is outside of hi.
-abbrev pub outside : ℕ → ℕ
-outside hi = without all_ones hi
-
-a_word : (a : ℕ) → a ≤ all_ones → a < 2 ^ 64
-a_word a h = omega arith
-
-pub outside-lt : (hi : ℕ) → outside hi < 2 ^ 64
-outside-lt hi = a_word (outside hi) (sub-le (outside hi) all_ones (minus-sub all_ones hi))
-
 -- Every set of w numbers is within the set of all of them, and every word within the word of all ones.
 pub within_all : (w t : ℕ) → t < 2 ^ w → Within t (2 ^ w - 1)
 within_all w t h = minus-zero t (2 ^ w - 1) (ap (bit_xor t) (and_mask t w ∙ mod-eq_of_lt h) ∙ xor_self t)
@@ -102,16 +92,33 @@ within_all w t h = minus-zero t (2 ^ w - 1) (ap (bit_xor t) (and_mask t w ∙ mo
 pub all-within : (t : ℕ) → t < 2 ^ 64 → Within t all_ones
 all-within t h = within_all 64 t h
 
--- A word is within what it shares with hi and what is outside of hi.
-pub outside-parts : (hi u : ℕ) → u < 2 ^ 64 → Within u (bit_or (bit_and u hi) (outside hi))
-outside-parts hi u h i =
-    let a = all-within u h i in
-    let b = bit-without all_ones hi i in
-    let c = bit-and u hi i in
-    let d = bit-or (bit_and u hi) (outside hi) i in
-    let p = bit-lt hi i in
-    let q = bit-lt all_ones i in
-    omega arith
+-- What is outside of hi: the word hi turned over.
+abbrev pub outside : ℕ → ℕ
+outside hi = all_ones - hi
+
+pub outside-lt : (hi : ℕ) → outside hi < 2 ^ 64
+outside-lt hi = omega arith
+
+module _ (hi : ℕ) (fits : hi < 2 ^ 64) where
+  outside-is : without all_ones hi ≡ outside hi
+  outside-is =
+      let e : bit_and all_ones hi ≡ hi = and_comm all_ones hi ∙ and_mask hi 64 ∙ mod-eq_of_lt fits in
+      let x = xor_add_and all_ones hi in
+      rw e (omega arith)
+
+  pub outside-off : Apart (outside hi) hi
+  outside-off = rw (← outside-is) (minus-off all_ones hi)
+
+  -- A word is within what it shares with hi and what is outside of hi.
+  pub outside-parts : (u : ℕ) → u < 2 ^ 64 → Within u (bit_or (bit_and u hi) (outside hi))
+  outside-parts u h i =
+      let a = all-within u h i in
+      let b = bit-without all_ones hi i in
+      let c = bit-and u hi i in
+      let d = rw (← outside-is) at (bit-or (bit_and u hi) (outside hi) i) in
+      let p = bit-lt hi i in
+      let q = bit-lt all_ones i in
+      rw (← outside-is) (omega arith)
 
 -- ---- words of 64 sets
 -- The digits of a set past the sixth are those of its word; the first six are those of its number there.

@@ -17,7 +17,7 @@ pub struct Strike {
 }
 
 // The word of all ones: every set is within it.
-const ALL: u64 = 0xffff_ffff_ffff_ffff;
+const ALL: u64 = u64::MAX;
 
 // The set t is marked.
 pub fn is_marked(marks: &[u64], t: u64) -> bool
@@ -44,17 +44,26 @@ pub fn with_digit(p: u64, i: u64, digit: u64, lo: u64, hi: u64) -> u64
     p
 }
 
+// For each of the six digits, the numbers below 64 that have it.
+const DIGITS: [u64; 6] = [
+    0xaaaa_aaaa_aaaa_aaaa,
+    0xcccc_cccc_cccc_cccc,
+    0xf0f0_f0f0_f0f0_f0f0,
+    0xff00_ff00_ff00_ff00,
+    0xffff_0000_ffff_0000,
+    0xffff_ffff_0000_0000,
+];
+
 // The numbers below 64 whose six digits lie from those of lo to those of hi.
 pub fn pattern(lo: u64, hi: u64) -> u64
     requires { Within lo hi }
     ensures { Pattern 6 lo hi result }
 {
-    let a = with_digit(ALL, 0, 0xaaaa_aaaa_aaaa_aaaa, lo, hi);
-    let b = with_digit(a, 1, 0xcccc_cccc_cccc_cccc, lo, hi);
-    let c = with_digit(b, 2, 0xf0f0_f0f0_f0f0_f0f0, lo, hi);
-    let d = with_digit(c, 3, 0xff00_ff00_ff00_ff00, lo, hi);
-    let e = with_digit(d, 4, 0xffff_0000_ffff_0000, lo, hi);
-    with_digit(e, 5, 0xffff_ffff_0000_0000, lo, hi)
+    let mut p = ALL;
+    for (i, &digit) in DIGITS.iter().enumerate() {
+        p = with_digit(p, i as u64, digit, lo, hi);
+    }
+    p
 }
 
 // Of the sets of word w that p has, all but the one left out.
@@ -86,8 +95,7 @@ pub fn next_word(lo: usize, hi: usize, w: usize, end: usize) -> usize
     if w == hi {
         return end;
     }
-    let all = 0xffff_ffff_ffff_ffff;
-    let u = (w | (all ^ (all & hi))) + 1;
+    let u = (w | !hi) + 1;
     (u & hi) | lo
 }
 
@@ -116,10 +124,10 @@ pub fn mark(marks: &mut [u64], s: Strike) -> u64
     ensures { Marked marks.old (Struck s) marks.new }
 {
     mark_word(marks, 0, s.any);
-    if s.lo ^ (s.lo & s.hi) != 0 {
-        return 0;
+    if sets::subset(s.lo, s.hi) {
+        return mark_range(marks, s);
     }
-    mark_range(marks, s)
+    0
 }
 
 // The set b with those of `rank`, if the exception at place a is taken.
@@ -139,10 +147,8 @@ pub fn outranked(ranks: &[u64], taken: u64) -> u64
     ensures { Outranked ranks.now taken result }
 {
     let mut b = 0;
-    let mut a = 0;
-    while a < ranks.len() {
-        b = with_rank(ranks[a], a as u64, taken, b);
-        a += 1;
+    for (a, &rank) in ranks.iter().enumerate() {
+        b = with_rank(rank, a as u64, taken, b);
     }
     b
 }

@@ -1,6 +1,6 @@
 -- Which sets of exceptions a resolution can have: one that no view has, that lies above a view's set, or that a view's set outranks, it cannot;
 -- and the views of an admissible set are resolutions.
-use Rattle.std.proofs.Common.{◌≡◌, ℕ, ◌+◌, ◌^◌, ◌<◌, ◌≤◌, Bool, true, false, List, length, sym, refl, ◌∙◌, ⊎_elim, le_trans, le_refl, arith}
+use Rattle.std.proofs.Common.{◌≡◌, ℕ, ◌+◌, ◌^◌, ◌<◌, ◌≤◌, Bool, true, false, List, None, Some, length, sym, refl, ◌∙◌, ⊎_elim, le_trans, le_refl, arith}
 use Rattle.logic.specs.Tests.{Decides}
 use Rattle.logic.proofs.Decide.{clash, holds-or-not, decides_eq}
 use Rattle.sets.specs.declared.Pair.{Pair}
@@ -25,7 +25,7 @@ use Rattle.ranges.specs.declared.Range.{Range}
 use Rattle.resolution.specs.Rooted.{Rooted}
 use Rattle.resolution.proofs.Resolutions.{stands_same, resolution-stands, outranked-dominated, resolution-same}
 use Rattle.ranges.specs.Ranges.{NoView, Wider}
-use Rattle.one_set.specs.declared.Gathering.{Gathering}
+use Rattle.one_set.specs.declared.Views.{Views}
 use Rattle.one_set.specs.Plans.{HasView, Told, Full, MarksRight, Gathered, Admits}
 use Rattle.marking.proofs.Steps.{all-within}
 use Rattle.marking.proofs.Marks.{right-more}
@@ -204,12 +204,18 @@ module _ (ws : List ℕ) (n : ℕ) (ranks : List ℕ) (root : Bounds) (u : Lined
 -- ---- what gathering answers
 module _ (ws : List ℕ) (n : ℕ) (ranks : List ℕ) (root : Bounds) (t cap : ℕ) (m : List ℕ) where
   -- No view has the set.
-  pub gathered_none : (m' store : List ℕ) (r : Gathering) → r.ok ≡ false → NoView ws n ranks root t t → MarksRight ws n ranks root m m' → Gathered ws n ranks root t cap m m' store r
-  gathered_none m' store r e f k = record { marks = k; none = λ d. f; some = λ d. absurd (clash (sym e ∙ d)); bounds = λ d. absurd (clash (sym e ∙ d)); collected = λ d. absurd (clash (sym e ∙ d)) }
+  pub gathered_none : (m' store : List ℕ) → NoView ws n ranks root t t → MarksRight ws n ranks root m m' → Gathered ws n ranks root t cap m m' store None
+  gathered_none m' store f k = record { marks = k; none = λ d. f; some = λ g d. cc; bounds = λ g d. cc; collected = λ g d. cc }
 
-  pub gathered-some : (store : List ℕ) (r : Gathering) → r.ok ≡ true → HasView ws n ranks root t → Propagated ws n ranks (with_sets root t t) r.rest.bounds → Collected ws n ranks r.rest.bounds cap store r.count
-      → Gathered ws n ranks root t cap m m store r
-  gathered-some store r e h p c = record { marks = marks-same ws n ranks root m; none = λ d. absurd (clash (sym d ∙ e)); some = λ d. h; bounds = λ d. p; collected = λ d. c }
+  pub gathered-some : (store : List ℕ) (g : Views) → HasView ws n ranks root t → Propagated ws n ranks (with_sets root t t) g.rest.bounds → Collected ws n ranks g.rest.bounds cap store g.count
+      → Gathered ws n ranks root t cap m m store (Some g)
+  gathered-some store g h p c = record {
+    marks = marks-same ws n ranks root m;
+    none = λ d. cc;
+    some = λ f d. h;
+    bounds = λ f d. let e : g ≡ f = cc in rw e at p;
+    collected = λ f d. let e : g ≡ f = cc in rw e at c;
+  }
 
 -- ---- the bounds of a set
 module _ (ws : List ℕ) (n : ℕ) (ranks : List ℕ) (root : Bounds) (t : ℕ) (o : Bounds) (f : Propagated ws n ranks (with_sets root t t) o) where

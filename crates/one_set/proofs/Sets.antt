@@ -1,5 +1,5 @@
 -- One set of exceptions: what is put on the page of the resolutions that have it, and what its marks and the memory say afterwards.
-use Rattle.std.proofs.Common.{◌≡◌, ℕ, zero, suc, ◌+◌, ◌-◌, ◌^◌, ◌<◌, ◌≤◌, Bool, true, false, not, ◌⊎◌, ◌↔◌, List, [], ◌∷◌, ◌++◌, length, take, sym, refl, ◌∙◌, ⊎_elim, le_refl, arith}
+use Rattle.std.proofs.Common.{◌≡◌, ℕ, zero, suc, ◌+◌, ◌-◌, ◌^◌, ◌<◌, ◌≤◌, Bool, true, false, not, ◌⊎◌, ◌↔◌, List, [], ◌∷◌, Option, None, Some, length, take, sym, refl, ◌∙◌, ⊎_elim, le_refl, arith}
 use borrow.Author.Tests.{not-true, not-false}
 use Rattle.logic.specs.Lists.{Among}
 use Rattle.logic.specs.Tests.{Decides}
@@ -11,6 +11,7 @@ use Rattle.masks.specs.Views.{Lined, MaskView}
 use Rattle.bounds.specs.Sound.{In, Propagated, with_sets}
 use Rattle.bounds.proofs.Ranges.{in-root, one_set}
 use Rattle.admissible.specs.Admissible.{Stands, Unexceeded}
+use Rattle.queue.specs.declared.Rest.{Rest}
 use Rattle.page.specs.declared.Task.{Task}
 use Rattle.page.specs.Orders.{bare, list_from, PartOf, Begins}
 use Rattle.page.specs.Pages.{Page, Listed}
@@ -30,8 +31,7 @@ use Rattle.marking.specs.Marks.{IsMarked, Struck, Marked, NoneAt, RightMarks, al
 use Rattle.ranges.specs.Ranges.{NoView}
 use Rattle.standing.specs.Standing.{Right, StandingView}
 use Rattle.sifting.specs.Sifted.{Serves, Asked, AllSifted}
-use Rattle.one_set.specs.declared.Gathering.{Gathering}
-use Rattle.one_set.specs.declared.Sighting.{Sighting}
+use Rattle.one_set.specs.declared.Views.{Views}
 use Rattle.one_set.specs.Plans.{HasView, Told, Full, MarksRight, Rests, Gathered, Admits, NoneStands, Looked, NoneBelow, SetListed, OpenListed}
 use Rattle.one_set.proofs.Plans.{none_within, free-standing, surpassed-full, surpassed-told, surpassed-right, told_none, marks-same, marks-more, exceeded-above, exceeded-full, exceeded-marks, set-lawful, in_bounds, bounds-in}
 
@@ -58,8 +58,8 @@ module _ (ws ranks : List ℕ) (root : Bounds) (q : Task) (t : ℕ) (after known
       (λ b s r x. none_within b ws q.rules ranks root s.rooted t t n t (λ i. le_refl _) (λ i. le_refl _))
 
 -- ---- in a book without Q lines
-module _ (ws ranks : List ℕ) (root : Bounds) (q : Task) (u : Lined ws q.rules → ⊥) (t : ℕ) (after known : Bool) (k : ℕ) (m m₁ m' : List ℕ) (cap : ℕ) (store : List ℕ) (g : Gathering)
-    (c : Gathered ws q.rules ranks root t cap m m₁ store g) (ok : g.ok ≡ true) (z : Bool) (a : Admits ws q.rules ranks root t known m₁ m' z) (o : List ℕ) (w : List ℕ) where
+module _ (ws ranks : List ℕ) (root : Bounds) (q : Task) (u : Lined ws q.rules → ⊥) (t : ℕ) (after known : Bool) (k : ℕ) (m m₁ m' : List ℕ) (cap : ℕ) (store : List ℕ) (r₁ : Option Views) (g : Views)
+    (c : Gathered ws q.rules ranks root t cap m m₁ store r₁) (ok : r₁ ≡ Some g) (z : Bool) (a : Admits ws q.rules ranks root t known m₁ m' z) (o : List ℕ) (w : List ℕ) where
   abbrev H : Type 0
   H = Rests ws q.rules ranks root t known m
 
@@ -82,10 +82,10 @@ module _ (ws ranks : List ℕ) (root : Bounds) (q : Task) (u : Lined ws q.rules 
     test p i d = reworded (decides-view b p) (same p i).1 (same p i).0
 
     bound : t < 2 ^ length b.exceptions
-    bound = set-lawful ws q.rules ranks root t (c.some ok) b s.rooted
+    bound = set-lawful ws q.rules ranks root t (c.some g ok) b s.rooted
 
     inside : (p : Pair) → Lawful b p → p.taken ≡ t → MaskView ws q.rules ranks p → In within p
-    inside p i d x = in_bounds ws q.rules ranks root t within (c.bounds ok) p x (s.rooted.holds p ((same p i).0 x)).1 d
+    inside p i d x = in_bounds ws q.rules ranks root t within (c.bounds g ok) p x (s.rooted.holds p ((same p i).0 x)).1 d
 
     by_order : Listed (MaskView ws q.rules ranks) q t within after k o o' r → (xs : List Pair) × Page q.room k o o' xs r × PartOf b from t (MaskView ws q.rules ranks) xs
     by_order x = all_listed b from t bound (MaskView ws q.rules ranks) q s.statements after y (view b) test within inside k r o o' x
@@ -94,10 +94,10 @@ module _ (ws ranks : List ℕ) (root : Bounds) (q : Task) (u : Lined ws q.rules 
     by-store f l x =
         let xs : List Pair = list_from (view b) b.statements q.point b.statements after (bare t) in
         let p = list-is-part b from t bound after q.point y (MaskView ws q.rules ranks) (view b) test in
-        let wide : (v : Pair) → In within v → In (with_sets root t t) v = λ v i. bounds-in ws q.rules ranks root t within (c.bounds ok) v i in
+        let wide : (v : Pair) → In within v → In (with_sets root t t) v = λ v i. bounds-in ws q.rules ranks root t within (c.bounds g ok) v i in
         let set : (v : Pair) → In within v → v.taken ≡ t = λ v i. one_set root t v (wide v i) in (
           xs,
-          x.page ((c.collected ok).whole l) (record { same = λ v w i j. set v i ∙ sym (set w j) }) xs p.ascending
+          x.page ((c.collected g ok).whole l) (record { same = λ v w i j. set v i ∙ sym (set w j) }) xs p.ascending
               (record {
                 only = λ v i. let d = every-at (λ p. Lawful b p × (p.taken ≡ t) × Later from p × MaskView ws q.rules ranks p) v xs p.only i in (d.3, inside v d.0 d.1 d.3);
                 all = λ v y₁ i. p.all v (s.rooted.only v y₁ (in-root root t t v (wide v i))).lawful (set v i) (y.before f v (set v i)) y₁;
@@ -253,12 +253,12 @@ module _ (ws ranks : List ℕ) (root : Bounds) (q : Task) (t : ℕ) (after known
       set-none ws ranks root q t after known Known k m m₁ o h w w' a y (λ b s r e g. record { above = λ v x i z d. absurd ((f r).none v x i d z) })
       (λ b s r g. record { none = λ p x d. let i = s.rooted.holds p x.view in (f r).none p i.0 i.1 d ((resolution-stands b ws q.rules ranks root s.rooted p).1 x).1 })
 
-  module _ (m₁ w₀ : List ℕ) (g : Sighting) (c : Looked ws q.rules ranks root t m m₁ w w₀ g) where
+  module _ (m₁ w₀ : List ℕ) (g : Option Rest) (c : Looked ws q.rules ranks root t m m₁ w w₀ g) where
     -- No such view was seen.
-    pub lined-unseen : not g.ok ≡ true → SetListed ws ranks root q t after known Known k m m₁ w w₀ o o k
-    lined-unseen e = lined-none w₀ m₁ c.marks c.memory (λ r. c.none r (not-true g.ok e))
+    pub lined-unseen : g ≡ None → SetListed ws ranks root q t after known Known k m m₁ w w₀ o o k
+    lined-unseen e = lined-none w₀ m₁ c.marks c.memory (λ r. c.none r e)
 
-    module _ (ok : g.ok ≡ true) (w₁ : List ℕ) (z : Bool) (x : NoneBelow ws q.rules ranks root t known w₀ w₁ z) where
+    module _ (rest : Rest) (ok : g ≡ Some rest) (w₁ : List ℕ) (z : Bool) (x : NoneBelow ws q.rules ranks root t known w₀ w₁ z) where
       -- A view that stands has a proper subset.
       pub lined-exceeded : not z ≡ true → (m' : List ℕ) → Marked m₁ (Struck (record { lo = t; hi = all_ones; but = 0; any = 0 })) m' → SetListed ws ranks root q t after known Known k m m' w w₁ o o k
       lined-exceeded e m' y = record {
@@ -279,7 +279,7 @@ module _ (ws ranks : List ℕ) (root : Bounds) (q : Task) (t : ℕ) (after known
           fails r = (x.test (c.memory r) unknown).no (not-true z e)
 
       -- The views that stand are put on the page.
-      pub lined-open : not z ≡ false → (IsMarked m t → ⊥) → (m' w' o' : List ℕ) (r : ℕ) → OpenListed ws ranks root q t g.rest.bounds after k m₁ m' w₁ w' o o' r
+      pub lined-open : not z ≡ false → (IsMarked m t → ⊥) → (m' w' o' : List ℕ) (r : ℕ) → OpenListed ws ranks root q t rest.bounds after k m₁ m' w₁ w' o o' r
           → SetListed ws ranks root q t after known Known k m m' w w' o o' r
       lined-open e n m' w' o' r l = record {
         most = l.most;
@@ -296,7 +296,7 @@ module _ (ws ranks : List ℕ) (root : Bounds) (q : Task) (t : ℕ) (after known
           still i = x.memory (c.memory i)
 
           listed : Right ws q.rules ranks root w → SetListed ws ranks root q t after true (Unexceeded ws q.rules ranks root t) k m₁ m' w₁ w' o o' r
-          listed i = l.listed (c.some i ok) (c.bounds ok)
+          listed i = l.listed (c.some rest i ok) (c.bounds rest ok)
 
           below : Right ws q.rules ranks root w → Known → Unexceeded ws q.rules ranks root t
           below i f = ⊎_elim (λ d. f d n) (λ d. (x.test (c.memory i) d).yes (not-false z e)) (either_way known)

@@ -1,12 +1,13 @@
 -- What the walk knows of the book whose words it reads, and what it says of one set of exceptions.
-use Rattle.std.specs.Prelude.{◌≡◌, ℕ, ◌^◌, ◌<◌, ◌≤◌, Bool, true, false, List, length, ◌≢◌}
+use Rattle.std.specs.Prelude.{◌≡◌, ℕ, ◌^◌, ◌<◌, ◌≤◌, Bool, true, false, List, length, ◌≢◌, Option, None, Some}
 use Rattle.logic.specs.Tests.{Decides}
 use Rattle.sets.specs.declared.Pair.{Pair}
 use Rattle.sets.specs.Sets.{Within}
 use Rattle.masks.specs.declared.Bounds.{Bounds}
-use Rattle.masks.specs.Views.{Lined, MaskView}
+use Rattle.masks.specs.Views.{MaskView}
 use Rattle.bounds.specs.Sound.{In, Propagated, with_sets}
 use Rattle.admissible.specs.Admissible.{Undominated, Stands, Unexceeded}
+use Rattle.queue.specs.declared.Rest.{Rest}
 use Rattle.page.specs.declared.Task.{Task}
 use Rattle.page.specs.Orders.{Begins}
 use Rattle.page.specs.Pages.{Page}
@@ -19,8 +20,7 @@ use Rattle.marking.specs.Marks.{marks_in, IsMarked, NoneAt, RightMarks}
 use Rattle.ranges.specs.Ranges.{NoView}
 use Rattle.standing.specs.Standing.{Right}
 use Rattle.sifting.specs.Sifted.{Serves}
-use Rattle.one_set.specs.declared.Gathering.{Gathering}
-use Rattle.one_set.specs.declared.Sighting.{Sighting}
+use Rattle.one_set.specs.declared.Views.{Views}
 
 -- A view within root has the set t.
 pub record HasView (ws : List ℕ) (n : ℕ) (ranks : List ℕ) (root : Bounds) (t : ℕ) : Type 0 where
@@ -47,12 +47,12 @@ abbrev pub Rests : List ℕ → ℕ → List ℕ → Bounds → ℕ → Bool →
 Rests ws n ranks root t known marks = known ≡ true → (IsMarked marks t → ⊥) → Unexceeded ws n ranks root t
 
 -- The views with the set t: there is none, or there is one, all are within the bounds at rest, and the store has them up to `cap`. The marks stay right.
-pub record Gathered (ws : List ℕ) (n : ℕ) (ranks : List ℕ) (root : Bounds) (t cap : ℕ) (before after store : List ℕ) (r : Gathering) : Type 0 where
+pub record Gathered (ws : List ℕ) (n : ℕ) (ranks : List ℕ) (root : Bounds) (t cap : ℕ) (before after store : List ℕ) (r : Option Views) : Type 0 where
   pub marks : MarksRight ws n ranks root before after
-  pub none : r.ok ≡ false → NoView ws n ranks root t t
-  pub some : r.ok ≡ true → HasView ws n ranks root t
-  pub bounds : r.ok ≡ true → Propagated ws n ranks (with_sets root t t) r.rest.bounds
-  pub collected : r.ok ≡ true → Collected ws n ranks r.rest.bounds cap store r.count
+  pub none : r ≡ None → NoView ws n ranks root t t
+  pub some : (g : Views) → r ≡ Some g → HasView ws n ranks root t
+  pub bounds : (g : Views) → r ≡ Some g → Propagated ws n ranks (with_sets root t t) g.rest.bounds
+  pub collected : (g : Views) → r ≡ Some g → Collected ws n ranks g.rest.bounds cap store g.count
 
 -- In a book without Q lines: whether a resolution can have the set t. If not, none has it; if so, no view dominates it, and none that stands has a proper
 -- subset. The marks stay right, and tell of t afterwards.
@@ -69,12 +69,12 @@ pub record NoneStands (ws : List ℕ) (n : ℕ) (ranks : List ℕ) (root : Bound
 
 -- In a book with Q lines: whether a view with the set t stands, if what is remembered is right; where one does, all views with the set are within the bounds
 -- at rest. Marks and memory stay right.
-pub record Looked (ws : List ℕ) (n : ℕ) (ranks : List ℕ) (root : Bounds) (t : ℕ) (m m' w w' : List ℕ) (r : Sighting) : Type 0 where
+pub record Looked (ws : List ℕ) (n : ℕ) (ranks : List ℕ) (root : Bounds) (t : ℕ) (m m' w w' : List ℕ) (r : Option Rest) : Type 0 where
   pub marks : MarksRight ws n ranks root m m'
   pub memory : Right ws n ranks root w → Right ws n ranks root w'
-  pub none : Right ws n ranks root w → r.ok ≡ false → NoneStands ws n ranks root t
-  pub some : Right ws n ranks root w → r.ok ≡ true → HasView ws n ranks root t
-  pub bounds : r.ok ≡ true → Propagated ws n ranks (with_sets root t t) r.rest.bounds
+  pub none : Right ws n ranks root w → r ≡ None → NoneStands ws n ranks root t
+  pub some : (c : Rest) → Right ws n ranks root w → r ≡ Some c → HasView ws n ranks root t
+  pub bounds : (c : Rest) → r ≡ Some c → Propagated ws n ranks (with_sets root t t) c.bounds
 
 -- In a book with Q lines: whether no view that stands has a proper subset of t, as far as that is not known.
 pub record NoneBelow (ws : List ℕ) (n : ℕ) (ranks : List ℕ) (root : Bounds) (t : ℕ) (known : Bool) (w w' : List ℕ) (r : Bool) : Type 0 where

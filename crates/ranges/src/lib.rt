@@ -1,7 +1,7 @@
 // Ranges of sets of exceptions that have no view.
 #![tactic(auto)]
 
-ghost use Rattle.std.specs.Prelude.{◌≡◌, true, ◌*◌, ◌<◌, ◌≤◌, length};
+ghost use Rattle.std.specs.Prelude.{◌≡◌, true, ◌*◌, ◌<◌, ◌≤◌, length, IfSome};
 ghost use Rattle.bounds.specs.Sound.{Propagated, with_sets};
 ghost use Rattle.queue.specs.Chains.{Chains};
 ghost use Rattle.ranges.specs.Ranges.{NoView, Wider};
@@ -53,6 +53,14 @@ pub struct Range {
     pub hi: u64,
 }
 
+impl Range {
+    // All sets.
+    pub const ALL: Range = Range {
+        lo: 0,
+        hi: u64::MAX,
+    };
+}
+
 // The range s where the exception at place e is decided as t has it: taken, or not taken.
 pub fn fixed(s: Range, t: u64, e: u64) -> Range
     requires { e < 64 }
@@ -101,7 +109,15 @@ pub fn contrary(b: Bounds, t: u64) -> u64 {
     (b.lo.taken ^ (b.lo.taken & t)) | (t ^ (t & b.hi.taken))
 }
 
-// A decision that is in conflict with those at the places before `before`. The place is 64 if there is none.
+// The first exception that the bounds decide otherwise than t.
+pub fn first_contrary(b: Bounds, t: u64) -> Option<u64>
+    ensures { IfSome result (λ e. e < 64) }
+{
+    let e = sets::low(contrary(b, t));
+    if e < 64 { Some(e) } else { None }
+}
+
+// A decision that is in conflict with those at the places before `before`.
 #[derive(Clone, Copy)]
 pub struct Conflict {
     pub place: u64,
@@ -117,27 +133,23 @@ pub fn first_conflict(
     rest: Rest,
     t: u64,
     end: usize,
-) -> Conflict
+) -> Option<Conflict>
     requires { (n * 8 ≤ length words.now) × (length ranks.now ≤ 64) × (end ≤ 64) × Chains words.now n index.now }
-    ensures { result.before ≤ end }
+    ensures { IfSome result (λ c. (c.place < 64) × (c.before ≤ end)) }
 {
     let mut r = rest;
-    let mut e = 0;
-    while e < end {
-        let x = contrary(r.bounds, t);
-        if x != 0 {
-            let place = sets::low(x);
-            return Conflict { place, before: e };
+    for before in 0..end {
+        if let Some(place) = first_contrary(r.bounds, t) {
+            return Some(Conflict { place, before });
         }
-        let place = e as u64;
+        let place = before as u64;
         r = settled(words, n, ranks, index, r, t, place);
         if !sets::within(r.bounds.lo, r.bounds.hi) {
-            return Conflict { place, before: e };
+            return Some(Conflict { place, before });
         }
-        e += 1;
     }
-    let place = sets::low(contrary(r.bounds, t));
-    Conflict { place, before: e }
+    let place = first_contrary(r.bounds, t)?;
+    Some(Conflict { place, before: end })
 }
 
 // A range around t from a core: a few of t's decisions that are in conflict already. Each round adds one to the core: one that is in
@@ -152,28 +164,22 @@ pub fn core_around(
 ) -> Range
     requires { (n * 8 ≤ length words.now) × (length ranks.now ≤ 64) × Chains words.now n index.now }
 {
-    let mut s = Range {
-        lo: 0,
-        hi: 0xffff_ffff_ffff_ffff,
-    };
+    let mut s = Range::ALL;
     let mut rest = Rest {
         bounds: root,
         live: waiting::everything(),
     };
     let mut end = ranks.len();
-    let mut k = 0;
-    while k < ranks.len() {
-        let c = first_conflict(words, n, ranks, index, rest, t, end);
-        if 64 <= c.place {
+    for _ in ranks {
+        let Some(c) = first_conflict(words, n, ranks, index, rest, t, end) else {
             return Range { lo: t, hi: t };
-        }
+        };
         s = fixed(s, t, c.place);
         rest = settled(words, n, ranks, index, rest, t, c.place);
         if !sets::within(rest.bounds.lo, rest.bounds.hi) {
             return s;
         }
         end = c.before;
-        k += 1;
     }
     s
 }
@@ -238,10 +244,8 @@ pub fn all_freed(
     ensures { Wider words.now n ranks.now root s result }
 {
     let mut r = s;
-    let mut e = 0;
-    while e < ranks.len() {
+    for e in 0..ranks.len() {
         r = freed(words, n, ranks, index, root, r, e as u64);
-        e += 1;
     }
     r
 }
@@ -252,12 +256,8 @@ pub fn shaven(words: &[u64], n: usize, ranks: &[u64], index: &Index, root: Bound
     requires { (n * 8 ≤ length words.now) × (length ranks.now ≤ 64) × Chains words.now n index.now }
     ensures { Wider words.now n ranks.now root (record { lo = t; hi = t }) result }
 {
-    let all = Range {
-        lo: 0,
-        hi: 0xffff_ffff_ffff_ffff,
-    };
-    if barren(words, n, ranks, index, root, all) {
-        return all;
+    if barren(words, n, ranks, index, root, Range::ALL) {
+        return Range::ALL;
     }
     let own = Range { lo: t, hi: t };
     if !barren(words, n, ranks, index, root, own) {

@@ -1,14 +1,17 @@
 -- The tests are exact: each is true of what it tests and of nothing else.
--- Each `return` decides its proposition from what the tests before it decided; the loops keep what holds of the rules below k.
+-- Each `return` decides its proposition from what the tests before it decided; `all` over the numbers of the rules answers for every rule.
 use mathlib.Core.Path.{◌≡◌}
 use mathlib.Core.Bool.{Bool, true, false, not}
 use mathlib.Core.List.{List}
 use mathlib.Core.Logic.{⊎_elim}
-use Prim.Native.Nat.{ℕ, ◌+◌, ◌<◌, ◌≤◌}
+use Prim.Native.Nat.{ℕ, ◌<◌}
 use native.Mathlib.Omega.{arith}
 use lib.Bits.{bit_and}
 use lib.Dec.{eqb}
-use borrow.Author.Count.{below_more}
+use lib.ListN.{length, get_or}
+use Rattle.std.specs.Bool.{MatchBool}
+use Rattle.std.specs.List.{AllWithin, HoldsAt, range_with_len}
+use Rattle.std.proofs.lemmas.List.FromFn.{length-range_with_len, get_or-range_with_len}
 use Rattle.logic.specs.Tests.{Decides}
 use Rattle.logic.proofs.Decide.{decides_not, holds-or-not, reworded}
 use Rattle.sets.specs.declared.Pair.{Pair}
@@ -40,16 +43,17 @@ module _ (r : Masks) (v : Pair) (w : Bool) (d : Decides w (Fires r v v)) where
       (λ f. ⊎_elim (λ o. o) (λ t. absurd (d.no e (f.met t))) (holds-or-not (off-is r.need.taken v.taken)))
 
 -- ---- all rules
-module _ (P : Masks → Type 0) (ws : List ℕ) (k : ℕ) where
-  module _ (r : Masks) (w : Bool) (e : r ≡ masks_at ws k) (d : Decides w (P r)) where
-    pub all-turn : OfAll P ws k → not w ≡ false → OfAll P ws (k + 1)
-    all-turn f q = below_more _ k f (rw e at (granted d q))
+-- Number k of those below n is k.
+nth : (n k : ℕ) → k < n → get_or (range_with_len 0 n) k 0 ≡ k
+nth n k h = let e = get_or-range_with_len 0 n k 0 h in omega arith
 
-    pub all-lost : (n : ℕ) → k < n → not w ≡ true → Decides false (OfAll P ws n)
-    all-lost n h q = decides-false (λ f. refused d q (rw e (f k h)))
-
-  pub all-won : (n : ℕ) → n ≤ k → OfAll P ws k → Decides true (OfAll P ws n)
-  all-won n h f = decides-true (λ j l. f j (omega arith))
+-- What `all` over the numbers below n answers.
+pub all-decides : (P : Masks → Type 0) (ws : List ℕ) (n : ℕ) (r : Bool)
+    → MatchBool r (AllWithin (λ k. P (masks_at ws k)) (range_with_len 0 n) 0 (length (range_with_len 0 n)))
+    ((k : ℕ) × (k < length (range_with_len 0 n)) × HoldsAt (λ k. P (masks_at ws k) → ⊥) (range_with_len 0 n) k) → Decides r (OfAll P ws n)
+all-decides P ws n true m = decides-true (λ k h. rw (nth n k h) at (m k 0 (omega arith) (rw (length-range_with_len 0 n) h)))
+all-decides P ws n false m =
+    decides-false (λ f. let h = rw (length-range_with_len 0 n) at m.1 in (rw (nth n m.0 h) at (m.2 0)) (f m.0 h))
 
 -- ---- the answer set
 module _ (ws : List ℕ) (n : ℕ) (v : Pair) where

@@ -23,14 +23,7 @@ fn obeys_all(words: &[u64], n: usize, v: Pair) -> bool
     requires { n * 8 ≤ length words.now }
     ensures { Decides result (OfAll (Obeys v) words.now n) }
 {
-    let mut k = 0;
-    while k < n {
-        if !obeys(masks::masks_at(words, k), v) {
-            return false;
-        }
-        k += 1;
-    }
-    true
+    (0..n).all(|k| obeys(masks::masks_at(words, k), v))
 }
 
 // The pair's S is an answer set of the plain rules with those of its T added; where it is not, the verdict is 1.
@@ -64,12 +57,5 @@ pub fn bodies(words: &[u64], n: usize, v: Pair) -> bool
     requires { n * 8 ≤ length words.now }
     ensures { Decides result (MaskBodies words.now n v) }
 {
-    let mut k = 0;
-    while k < n {
-        if !satisfies(masks::masks_at(words, k), v) {
-            return false;
-        }
-        k += 1;
-    }
-    true
+    (0..n).all(|k| satisfies(masks::masks_at(words, k), v))
 }

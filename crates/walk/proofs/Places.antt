@@ -3,6 +3,7 @@
 use mathlib.Core.Path.{◌≡◌, sym, ap}
 use mathlib.Core.List.{List, [], ◌++◌}
 use mathlib.Core.Logic.{◌⊎◌, inl, inr, ⊎_elim}
+use Rattle.std.proofs.Common.{None, Some}
 use Prim.Native.Nat.{ℕ, zero, suc, ◌+◌, ◌-◌, ◌*◌, ◌%◌, ◌^◌, ◌<◌, ◌≤◌}
 use native.Mathlib.Omega.{arith}
 use native.Mathlib.Nat.{lt_of_lt_of_le, le_refl, le_trans, mod-lt}
@@ -26,7 +27,7 @@ use Rattle.meaning.specs.Order as order
 use Rattle.meaning.specs.Order.{Before, Point, LawfulPoint, AllLater}
 use Rattle.meaning.proofs.Parts.{Part, part_none, part_join, part-all, part-there}
 use Rattle.walk.specs.declared.Position.{Position}
-use Rattle.walk.specs.Walks.{Passed, AtPlace, Spanned, Skipped, RuledOut}
+use Rattle.walk.specs.Walks.{Passed, AtPlace, Spanned, Stops, Skipped, RuledOut}
 use Rattle.marking.proofs.Steps.{within_all}
 
 -- A set comes earlier than one that contains it.
@@ -76,8 +77,17 @@ module _ (x : ℕ) (small : x ≤ exceptions) where
         ruled_out = λ i a b. ⊎_elim (λ l. s.ruled_out i a l) (λ l. let e : i ≡ r.place = omega arith in rw (e, ← s.stands.is h) f) (lt-or-le i r.place);
       }
 
-      pub skipped : (past : ℕ) → (r.place < past → RuledOut root marks r.set → ⊥) → Skipped x past root marks p r
-      skipped past o = record { from = s.from; stands = s.stands; ruled_out = s.ruled_out; undecided = o }
+      pub stopped : (past : ℕ) → r.place < past → (RuledOut root marks r.set → ⊥) → Skipped x past root marks p (Some r)
+      stopped past l o = record {
+        some = λ u e. let f : r ≡ u = cc in rw f at here;
+        none = λ e. cc;
+      }
+        where
+          here : Stops x past root marks p r
+          here = record { from = s.from; to = l; stands = s.stands; ruled_out = s.ruled_out; undecided = o }
+
+      pub skipped_all : (past : ℕ) → past ≤ r.place → Skipped x past root marks p None
+      skipped_all past l = record { some = λ u e. cc; none = λ e i a b. s.ruled_out i a (omega arith) }
 
   -- ---- the places passed
   -- A set at an earlier place.

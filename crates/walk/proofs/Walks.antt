@@ -2,21 +2,20 @@
 use mathlib.Core.Path.{◌≡◌, refl, sym, ◌∙◌}
 use mathlib.Core.Bool.{Bool, true, false, not}
 use mathlib.Core.List.{List, [], ◌++◌}
-use mathlib.Core.Logic.{◌⊎◌, inr, ⊎_elim}
-use Prim.Native.Nat.{ℕ, zero, suc, ◌+◌, ◌-◌, ◌^◌, ◌<◌, ◌≤◌}
+use mathlib.Core.Logic.{inr, ⊎_elim}
+use Rattle.std.proofs.Common.{Option, None, Some}
+use Prim.Native.Nat.{ℕ, zero, suc, ◌+◌, ◌-◌, ◌^◌, ◌<◌, ◌≤◌, max}
 use native.Mathlib.Nat.{le_refl, le_trans, lt_of_lt_of_le}
 use native.Mathlib.Numerals.{add-one}
 use native.Mathlib.Omega.{arith}
-use lib.Dec.{eqb}
-use borrow.Author.Tests.{eqb-true, eqb-false, not-true, not-false}
 use lib.Pow.{pow_mono}
 use lib.ListN.{length}
 use Rattle.logic.specs.Tests.{Decides}
-use Rattle.logic.proofs.Decide.{clash, holds-or-not, decides_eq}
+use Rattle.logic.proofs.Decide.{clash, holds-or-not, decides_eq, decides_not, reworded}
 use Rattle.sets.specs.declared.Pair.{Pair}
-use Rattle.sets.specs.Sets.{without}
+use Rattle.sets.specs.Sets.{Contained}
 use Rattle.sets.proofs.Digits.{lt-or-le}
-use Rattle.sets.proofs.Words.{zero_minus}
+use Rattle.sets.proofs.Words.{zero_minus, minus-zero, contained-within, within-contained}
 use Rattle.book.specs.Limits.{exceptions}
 use Rattle.order.specs.Formula.{set_at}
 use Rattle.order.proofs.Rule.{order-rule}
@@ -39,7 +38,7 @@ use Rattle.marking.specs.Marks.{marks_in, IsMarked, Clear, RightMarks}
 use Rattle.one_set.specs.Plans.{Told, Full, Rests, SetListed}
 use Rattle.one_set.proofs.Plans.{marks-same, told-kept, told_none}
 use Rattle.one_set.proofs.Sets.{set-none, set-viewless}
-use Rattle.walk.specs.Walks.{Passed, RuledOut, marked, beyond, short, Spanned, Skipped, Beyond, Ready, Walked, beginning, Paged}
+use Rattle.walk.specs.Walks.{Passed, RuledOut, marked, beyond, short, AtPlace, Spanned, Stops, Skipped, Beyond, Ready, Walked, beginning, Paged}
 use Rattle.walk.proofs.Places.{at-or-past, subset-place, none_yet, one_more, all-places, cut_short}
 
 -- ---- what a look tells
@@ -47,16 +46,16 @@ module _ (root : Bounds) (t : ℕ) (m : List ℕ) where
   pub out-marked : IsMarked m t → Decides true (RuledOut root m t)
   out-marked k = record { yes = λ e. marked k; no = λ e. absurd (clash (sym e)) }
 
-  pub out-beyond : (without t root.hi.taken ≡ 0 → ⊥) → Decides true (RuledOut root m t)
-  out-beyond k = record { yes = λ e. beyond k; no = λ e. absurd (clash (sym e)) }
+  pub out-beyond : (Contained t root.hi.taken → ⊥) → Decides true (RuledOut root m t)
+  out-beyond k = record { yes = λ e. beyond (λ z. k (within-contained _ _ (minus-zero _ _ z))); no = λ e. absurd (clash (sym e)) }
 
-  pub out-short : (IsMarked m t → ⊥) → without t root.hi.taken ≡ 0 → Decides (not (eqb (without root.lo.taken t) 0)) (RuledOut root m t)
-  out-short a b = record { yes = λ e. short (eqb-false _ _ (not-true _ e)); no = λ e o. none (eqb-true _ _ (not-false _ e)) o }
+  pub out-short : (IsMarked m t → ⊥) → Contained t root.hi.taken → (z : Bool) → Decides z (Contained root.lo.taken t) → Decides (not z) (RuledOut root m t)
+  out-short a b z d = reworded (decides_not d) (λ f. short (λ y. f (within-contained _ _ (minus-zero _ _ y)))) none
     where
-      none : without root.lo.taken t ≡ 0 → RuledOut root m t → ⊥
-      none c (marked k) = a k
-      none c (beyond k) = k b
-      none c (short k) = k c
+      none : RuledOut root m t → Contained root.lo.taken t → ⊥
+      none (marked k) f = a k
+      none (beyond k) f = k (zero_minus _ _ (contained-within _ _ b))
+      none (short k) f = k (zero_minus _ _ (contained-within _ _ f))
 
 -- No resolution has such a set.
 module _ (ws ranks : List ℕ) (root : Bounds) (q : Task) (t : ℕ) (after known : Bool) (H : Type 0) (k : ℕ) (m w o : List ℕ) (h : k ≤ q.room) where
@@ -121,6 +120,11 @@ pub record Going (ws ranks : List ℕ) (root : Bounds) (q : Task) (wide first : 
       → (known ≡ true → Ready ws q.rules ranks root wide first m) → LawfulPoint b from → Beyond wide from first
       → (start : List ℕ) (xs : List Pair) → Part b from (Passed wide first) xs → Page q.room 0 start o xs at
       → (ys : List Pair) × Part b from (Passed wide j) ys × Page q.room 0 start p ys k
+
+-- The walk between the root's sets, of which those before `past` are still to be looked at: at the next place, or at the end.
+pub record Walking (ws ranks : List ℕ) (root : Bounds) (q : Task) (wide first : ℕ) (known : Bool) (at : ℕ) (m w o : List ℕ) (past : ℕ) (next : Option Position) (k : ℕ) (n v p : List ℕ) : Type 0 where
+  pub some : (r : Position) → next ≡ Some r → Going ws ranks root q wide first known at m w o r.place k n v p × AtPlace wide r × (r.place < past)
+  pub none : next ≡ None → (j : ℕ) × (past ≤ j) × Going ws ranks root q wide first known at m w o j k n v p
 
 plus_none : (j : ℕ) → j + 0 ≡ j
 plus_none j = omega arith
@@ -214,17 +218,28 @@ module _ (ws ranks : List ℕ) (root : Bounds) (q : Task) (wide : ℕ) (small : 
       going-at (j + 1 + d) (j + suc d) k n v p (sym (plus_one j d))
       (going-over d (j + 1) k n v p (rw (plus_one j d) at h) (going-past j k n v p g (below j d (2 ^ wide) h) (f j (le_refl j) (above j d))) (λ i a b. f i (inner j i a) (rw (← plus_one j d) at b)))
 
-  pub going_on : (j k past : ℕ) (n v p : List ℕ) → Going ws ranks root q wide first known at m w o j k n v p → (s r : Position) → s.place ≡ j → Skipped wide past root n s r
+  -- To the next place at which a look is not enough.
+  going_on : (j k past : ℕ) (n v p : List ℕ) → Going ws ranks root q wide first known at m w o j k n v p → (s r : Position) → s.place ≡ j → Stops wide past root n s r → past ≤ 2 ^ wide
       → Going ws ranks root q wide first known at m w o r.place k n v p
-  going_on j k past n v p g s r e x =
+  going_on j k past n v p g s r e x l =
       let f : j + (r.place - j) ≡ r.place = omega (arith, x.from) in
-      rw f at (going-over (r.place - j) j k n v p (omega (arith, x.stands.to, f)) g (λ i a b. x.ruled_out i (omega arith) (omega (arith, f))))
+      rw f at (going-over (r.place - j) j k n v p (omega (arith, x.to, f)) g (λ i a b. x.ruled_out i (omega arith) (omega (arith, f))))
+
+  pub walking-on : (j k past : ℕ) (n v p : List ℕ) → Going ws ranks root q wide first known at m w o j k n v p → (s : Position) → s.place ≡ j → (next : Option Position) → Skipped wide past root n s next
+      → past ≤ 2 ^ wide → Walking ws ranks root q wide first known at m w o past next k n v p
+  walking-on j k past n v p g s e next x l = record {
+    some = λ r f. let y = x.some r f in (going_on j k past n v p g s r e y l, y.stands, y.to);
+    none = λ f. ⊎_elim
+        (λ (a : j < past). let h : j + (past - j) ≡ past = omega arith in
+        (past, le_refl past, rw h at (going-over (past - j) j k n v p (omega arith) g (λ i c d. x.none f i (omega arith) (omega arith)))))
+        (λ (a : past ≤ j). (j, a, g)) (lt-or-le j past);
+  }
 
   -- To the first place between the root's sets.
-  pub going-in : (s : Span) → Spanned wide root s → Fits ws ranks o q at → first ≤ 2 ^ wide → (j : ℕ) → first ≤ j → j ≤ 2 ^ wide → (j ≡ first) ⊎ (j ≡ s.first) → Going ws ranks root q wide first known at m w o j at m w o
-  going-in s x f h j a b c =
+  pub going-in : (s : Span) → Spanned wide root s → Fits ws ranks o q at → first ≤ 2 ^ wide → (j : ℕ) → j ≡ max first s.first → j ≤ 2 ^ wide → Going ws ranks root q wide first known at m w o j at m w o
+  going-in s x f h j a b =
       let e : first + (j - first) ≡ j = omega arith in
-      rw e at (going-over (j - first) first at m w o (omega arith) (going-first f h) (λ i l k. short (x.before i (⊎_elim (λ d. absurd (omega arith)) (λ d. omega arith) c) (omega arith))))
+      rw e at (going-over (j - first) first at m w o (omega arith) (going-first f h) (λ i l k. short (x.before i (omega arith) (omega arith))))
 
   -- All places between the root's sets have been passed.
   pub walked-past : (s : Span) → Spanned wide root s → (j k : ℕ) (n v p : List ℕ) → Going ws ranks root q wide first known at m w o j k n v p → s.past ≤ j → Walked ws ranks root q wide first known at m w o p k
@@ -233,12 +248,12 @@ module _ (ws ranks : List ℕ) (root : Bounds) (q : Task) (wide : ℕ) (small : 
       walked_all (j + (2 ^ wide - j)) k n v p (going-over (2 ^ wide - j) j k n v p (omega arith) g (λ i a b. beyond (x.after i (omega arith) (omega arith)))) (omega arith)
 
   -- There are no such places from the first one on.
-  pub walked_none : (s : Span) → Spanned wide root s → Fits ws ranks o q at → first ≤ 2 ^ wide → (j : ℕ) → (j ≡ first) ⊎ (j ≡ s.first) → s.past ≤ j → Walked ws ranks root q wide first known at m w o o at
+  pub walked_none : (s : Span) → Spanned wide root s → Fits ws ranks o q at → first ≤ 2 ^ wide → (j : ℕ) → j ≡ max first s.first → s.past ≤ j → Walked ws ranks root q wide first known at m w o o at
   walked_none s x f h j c l =
       let e : first + (2 ^ wide - first) ≡ 2 ^ wide = omega arith in
       walked_all (first + (2 ^ wide - first)) at m w o
       (going-over (2 ^ wide - first) first at m w o (omega arith) (going-first f h)
-      (λ i a b. ⊎_elim (λ k. short (x.before i (⊎_elim (λ d. absurd (omega arith)) (λ d. omega arith) c) (omega arith))) (λ k. beyond (x.after i (omega arith) (omega arith))) (lt-or-le i j)))
+      (λ i a b. ⊎_elim (λ k. short (x.before i (omega arith) (omega arith))) (λ k. beyond (x.after i (omega arith) (omega arith))) (lt-or-le i j)))
       (omega arith)
 
 -- ---- whole pages
@@ -274,3 +289,12 @@ module _ (ws ranks : List ℕ) (root : Bounds) (q : Task) (wide : ℕ) (small : 
     after-past f o' r x =
         after-walked m w o o' 0 r
         (set-ruled-out ws ranks root q q.point.taken true false (Rests ws q.rules ranks root q.point.taken false m) 0 m w o (omega arith) f) x
+
+-- How many places may still be looked at, and one more; nothing at the end.
+abbrev pub left : ℕ → Option Position → ℕ
+left e None = 0
+left e (Some r) = suc (e - r.place)
+
+pub left-less : (x past e : ℕ) (root : Bounds) (marks : List ℕ) (s r : Position) (next : Option Position) → s.place ≡ r.place + 1 → Skipped x past root marks s next → r.place < e → left e next < suc (e - r.place)
+left-less x past e root marks s r None f k l = omega arith
+left-less x past e root marks s r (Some u) f k l = let y = (k.some u refl).from in omega arith

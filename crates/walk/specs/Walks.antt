@@ -1,5 +1,5 @@
 -- The walk over the sets of exceptions: what has been passed, and the page that it leaves.
-use Rattle.std.specs.Prelude.{ℕ, zero, suc, ◌^◌, ◌<◌, ◌≤◌, ◌≡◌, Bool, true, false, List, ◌⊎◌, length}
+use Rattle.std.specs.Prelude.{ℕ, zero, suc, ◌^◌, ◌<◌, ◌≤◌, ◌≡◌, Bool, true, false, List, ◌⊎◌, Option, None, Some, length}
 use Rattle.sets.specs.declared.Pair.{Pair}
 use Rattle.sets.specs.Sets.{without}
 use Rattle.order.specs.Formula.{set_at}
@@ -39,12 +39,18 @@ pub record Spanned (x : ℕ) (root : Bounds) (s : Span) : Type 0 where
   pub after : (i : ℕ) → s.past ≤ i → i < 2 ^ x → without (set_at x i) root.hi.taken ≡ 0 → ⊥
   pub to : s.past ≤ 2 ^ x
 
--- The place r is the first from p on at which a look is not enough, or one from `past` on.
-pub record Skipped (x past : ℕ) (root : Bounds) (marks : List ℕ) (p r : Position) : Type 0 where
+-- The place r is the first from p on at which a look is not enough, and one before `past`.
+pub record Stops (x past : ℕ) (root : Bounds) (marks : List ℕ) (p r : Position) : Type 0 where
   pub from : p.place ≤ r.place
+  pub to : r.place < past
   pub stands : AtPlace x r
   pub ruled_out : (i : ℕ) → p.place ≤ i → i < r.place → RuledOut root marks (set_at x i)
-  pub undecided : r.place < past → RuledOut root marks r.set → ⊥
+  pub undecided : RuledOut root marks r.set → ⊥
+
+-- That place is r, or there is none from p on before `past`.
+pub record Skipped (x past : ℕ) (root : Bounds) (marks : List ℕ) (p : Position) (r : Option Position) : Type 0 where
+  pub some : (s : Position) → r ≡ Some s → Stops x past root marks p s
+  pub none : r ≡ None → (i : ℕ) → p.place ≤ i → i < past → RuledOut root marks (set_at x i)
 
 -- From place j on every pair is later than the point.
 pub record Beyond (x : ℕ) (from : Point) (j : ℕ) : Type 0 where

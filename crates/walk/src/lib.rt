@@ -1,7 +1,7 @@
 // The walk over all sets of exceptions in their order: which of them a resolution can have.
 #![tactic(auto)]
 
-ghost use Rattle.std.specs.Prelude.{◌≡◌, true, false, ◌⊎◌, ◌+◌, ◌*◌, ◌/◌, ◌^◌, ◌<◌, ◌≤◌, length};
+ghost use Rattle.std.specs.Prelude.{◌≡◌, true, false, ◌+◌, ◌-◌, ◌*◌, ◌/◌, ◌^◌, ◌<◌, ◌≤◌, length};
 ghost use Rattle.logic.specs.Tests.{Decides};
 ghost use Rattle.book.specs.Limits.{exceptions};
 ghost use Rattle.marking.specs.Marks.{marks_in, Clear};
@@ -13,7 +13,7 @@ ghost use Rattle.walk.specs.Walks.{RuledOut, AtPlace, Spanned, Skipped, Walked, 
 
 use book::Book;
 use masks::Bounds;
-use one_set::Filled;
+use one_set::Effort;
 use page::Task;
 use queue::index::Index;
 use standing::memory;
@@ -27,10 +27,10 @@ pub fn ruled_out(root: Bounds, marks: &[u64], t: u64) -> bool
     if marking::is_marked(marks, t) {
         return true;
     }
-    if t ^ (t & root.hi.taken) != 0 {
+    if !sets::subset(t, root.hi.taken) {
         return true;
     }
-    root.lo.taken ^ (root.lo.taken & t) != 0
+    !sets::subset(root.lo.taken, t)
 }
 
 // A place of the order of the sets, and the set there.
@@ -59,31 +59,25 @@ pub fn spanned(x: usize, root: Bounds) -> Span
     }
 }
 
-// The first place from p on at which a look is not enough, or one from `past` on, in the order of the sets of x exceptions.
-pub fn past_ruled_out(x: usize, past: usize, root: Bounds, marks: &[u64], p: Position) -> Position
+// The first place from p on and before `past` at which a look is not enough, in the order of the sets of x exceptions.
+pub fn past_ruled_out(
+    x: usize,
+    past: usize,
+    root: Bounds,
+    marks: &[u64],
+    p: Position,
+) -> Option<Position>
     requires { (x ≤ exceptions) × (past ≤ 2 ^ x) × (2 ^ x ≤ marks_in marks.now) × AtPlace x p }
     ensures { Skipped x past root marks.now p result }
 {
-    let mut place = p.place;
     let mut set = p.set;
-    while place < past {
+    for place in p.place..past {
         if !ruled_out(root, marks, set) {
-            return Position { place, set };
+            return Some(Position { place, set });
         }
         set = order::next(x, set);
-        place += 1;
     }
-    Position { place, set }
-}
-
-// The later of two places.
-fn later(a: usize, b: usize) -> usize
-    ensures { (a ≤ result) × (b ≤ result) × ((result ≡ a) ⊎ (result ≡ b)) }
-{
-    if a < b {
-        return b;
-    }
-    a
+    None
 }
 
 // Puts the resolutions with the sets of x exceptions from place `from` on on the page, until it is full. Where `known` is true, the sets before that
@@ -97,38 +91,40 @@ pub fn walk(
     x: usize,
     from: usize,
     known: bool,
-    filled: Filled,
+    at: usize,
+    effort: &mut Effort,
     marks: &mut [u64],
     memory: &mut Memory,
     store: &mut [u64],
     out: &mut [u64],
 ) -> usize
-    requires { Fits words.now ranks.now out.old task filled.at × (x ≤ exceptions) × (from ≤ 2 ^ x) × (2 ^ x ≤ marks_in marks.old) × Chains words.now task.rules index.now × (most * 3 ≤ length store.old) }
-    ensures { Walked words.now ranks.now root task x from known filled.at marks.old memory.old out.old out.new result }
+    requires { Fits words.now ranks.now out.old task at × (x ≤ exceptions) × (from ≤ 2 ^ x) × (2 ^ x ≤ marks_in marks.old) × Chains words.now task.rules index.now × (most * 3 ≤ length store.old) }
+    ensures { Walked words.now ranks.now root task x from known at marks.old memory.old out.old out.new result }
 {
-    if task.room <= filled.at {
-        return filled.at;
+    if task.room <= at {
+        return at;
     }
     let s = spanned(x, root);
-    let first = later(from, s.first);
+    let first = from.max(s.first);
     if s.past <= first {
-        return filled.at;
+        return at;
     }
     let set = order::set_at(x, first);
-    let mut p = past_ruled_out(x, s.past, root, marks, Position { place: first, set });
-    let mut f = filled;
-    while p.place < s.past {
-        f = one_set::list_set(
-            words, ranks, index, root, task, p.set, false, known, f, marks, memory, store, out,
+    let mut next = past_ruled_out(x, s.past, root, marks, Position { place: first, set });
+    let mut r = at;
+    while let Some(p) = next {
+        r = one_set::list_set(
+            words, ranks, index, root, task, p.set, false, known, r, effort, marks, memory, store,
+            out,
         );
-        if task.room <= f.at {
-            return f.at;
+        if task.room <= r {
+            return r;
         }
         let place = p.place + 1;
         let set = order::next(x, p.set);
-        p = past_ruled_out(x, s.past, root, marks, Position { place, set });
+        next = past_ruled_out(x, s.past, root, marks, Position { place, set });
     }
-    f.at
+    r
 }
 
 // The page of the first resolutions later than the task's point, in a book of at most x exceptions whose views are within root: those with the point's own
@@ -140,27 +136,27 @@ pub fn after_with(
     root: Bounds,
     x: usize,
     task: Task,
-    filled: Filled,
+    effort: &mut Effort,
     marks: &mut [u64],
     memory: &mut Memory,
     store: &mut [u64],
     out: &mut [u64],
 ) -> usize
-    requires { Fits words.now ranks.now out.old task filled.at × (x ≤ exceptions) × (task.point.taken < 2 ^ x) × (2 ^ x ≤ marks_in marks.old) × Clear marks.old × Chains words.now task.rules index.now × (most * 3 ≤ length store.old) × (filled.at ≡ 0) × Right words.now task.rules ranks.now root memory.old }
+    requires { Fits words.now ranks.now out.old task 0 × (x ≤ exceptions) × (task.point.taken < 2 ^ x) × (2 ^ x ≤ marks_in marks.old) × Clear marks.old × Chains words.now task.rules index.now × (most * 3 ≤ length store.old) × Right words.now task.rules ranks.now root memory.old }
     ensures { Paged words.now ranks.now root task x true out.old out.new result }
 {
     let t = task.point.taken;
     let next = order::place_of(x, t) + 1;
     if ruled_out(root, marks, t) {
         return walk(
-            words, ranks, index, root, task, x, next, false, filled, marks, memory, store, out,
+            words, ranks, index, root, task, x, next, false, 0, effort, marks, memory, store, out,
         );
     }
-    let f = one_set::list_set(
-        words, ranks, index, root, task, t, true, false, filled, marks, memory, store, out,
+    let at = one_set::list_set(
+        words, ranks, index, root, task, t, true, false, 0, effort, marks, memory, store, out,
     );
     walk(
-        words, ranks, index, root, task, x, next, false, f, marks, memory, store, out,
+        words, ranks, index, root, task, x, next, false, at, effort, marks, memory, store, out,
     )
 }
 
@@ -181,11 +177,7 @@ pub fn page_with(
 {
     let mut memory = [0u64; memory::LENGTH];
     let mut store = [0u64; few::MOST * 3];
-    let filled = Filled {
-        at: 0,
-        credit: one_set::CREDIT,
-        doubt: 0,
-    };
+    let mut effort = Effort::fresh();
     if after {
         return after_with(
             words,
@@ -194,7 +186,7 @@ pub fn page_with(
             root,
             x,
             task,
-            filled,
+            &mut effort,
             marks,
             &mut memory,
             &mut store,
@@ -210,7 +202,8 @@ pub fn page_with(
         x,
         0,
         true,
-        filled,
+        0,
+        &mut effort,
         marks,
         &mut memory,
         &mut store,
@@ -223,6 +216,13 @@ const FEW: usize = 6;
 
 const MANY: usize = 12;
 
+// The words of marks for the sets of so many, and of as many as there may be.
+const FEW_WORDS: usize = (1 << FEW) / 64 + 1;
+
+const MANY_WORDS: usize = (1 << MANY) / 64 + 1;
+
+const ALL_WORDS: usize = Book::SETS / 64 + 1;
+
 // The words of marks for the sets of x exceptions, and the one before them.
 fn words_for(x: usize) -> usize
     requires { (6 ≤ x) × (x ≤ exceptions) }
@@ -231,7 +231,36 @@ fn words_for(x: usize) -> usize
     (1 << x) / 64 + 1
 }
 
-// The page, with marks for the book's own sets. They are cut from one of three arrays, of which the smallest that has them all is cleared.
+// The page, with marks in the first words of an array of W, which is cleared.
+fn page_of<const W: usize>(
+    words: &[u64],
+    ranks: &[u64],
+    index: &Index,
+    root: Bounds,
+    x: usize,
+    task: Task,
+    after: bool,
+    used: usize,
+    out: &mut [u64],
+) -> usize
+    requires { Fits words.now ranks.now out.old task 0 × (x ≤ exceptions) × (task.point.taken < 2 ^ x) × Chains words.now task.rules index.now × (used ≤ W) × (W ≤ 1025) × (2 ^ x ≤ 64 * (used - 1)) }
+    ensures { Paged words.now ranks.now root task x after out.old out.new result }
+{
+    let mut marks = [0u64; W];
+    page_with(
+        words,
+        ranks,
+        index,
+        root,
+        x,
+        task,
+        after,
+        &mut marks[..used],
+        out,
+    )
+}
+
+// The page, with marks for the book's own sets: in one of three arrays, the smallest that has them all.
 pub fn page(
     words: &[u64],
     ranks: &[u64],
@@ -246,44 +275,11 @@ pub fn page(
     ensures { Paged words.now ranks.now root task x after out.old out.new result }
 {
     if x <= FEW {
-        let mut marks = [0u64; (1 << FEW) / 64 + 1];
-        return page_with(
-            words,
-            ranks,
-            index,
-            root,
-            x,
-            task,
-            after,
-            &mut marks[..2],
-            out,
-        );
+        return page_of::<FEW_WORDS>(words, ranks, index, root, x, task, after, FEW_WORDS, out);
     }
-    let k = words_for(x);
+    let used = words_for(x);
     if x <= MANY {
-        let mut marks = [0u64; (1 << MANY) / 64 + 1];
-        return page_with(
-            words,
-            ranks,
-            index,
-            root,
-            x,
-            task,
-            after,
-            &mut marks[..k],
-            out,
-        );
+        return page_of::<MANY_WORDS>(words, ranks, index, root, x, task, after, used, out);
     }
-    let mut marks = [0u64; Book::SETS / 64 + 1];
-    page_with(
-        words,
-        ranks,
-        index,
-        root,
-        x,
-        task,
-        after,
-        &mut marks[..k],
-        out,
-    )
+    page_of::<ALL_WORDS>(words, ranks, index, root, x, task, after, used, out)
 }

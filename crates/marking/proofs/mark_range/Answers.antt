@@ -1,4 +1,4 @@
-use Rattle.std.proofs.Common.{◌-◌, ◌/◌, ◌<◌, arith, rules}
+use Rattle.std.proofs.Common.{arith, rules}
 use Rattle.marking.proofs.Marks.{range-begins, range_none, range-more, range_all}
 use Rattle.marking.proofs.mark_range.Goals as goal
 

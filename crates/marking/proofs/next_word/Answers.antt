@@ -9,4 +9,4 @@ pub overflow_add-u : goal.overflow_add-u
 overflow_add-u c = record { fits = next_fits _ _ _ c.requires.1 (omega arith) (search rules) }
 
 pub returns : goal.returns
-returns c = (next-later _ _ _ c.requires.1 (omega arith) (search rules), next-there _ _ _ c.requires.1 _)
+returns c = (next-later _ _ _ c.requires.1 (omega arith) (search rules), next-there _ _ _ c.requires.1 (omega arith) _)

@@ -1,18 +1,12 @@
-use borrow.Author.Rules.{rules}
-use Prim.Native.Nat.{◌-◌, ◌≤◌}
-use native.Mathlib.Omega.{arith}
+use Rattle.std.proofs.Common.{rules, arith, refl}
+use Rattle.std.proofs.lemmas.Iterator.{cases_from_all, YieldsList-from_range}
+use Rattle.masks.specs.Views.{masks_at}
 use Rattle.bridge.specs.Answers.{Satisfies}
-use Rattle.verdict.proofs.Tests.{all-turn, all-lost, all-won}
+use Rattle.verdict.proofs.Tests.{all-decides}
 use Rattle.verdict.proofs.bodies.Goals as goal
 
-pub loop-k-init : goal.loop-k-init
-loop-k-init c = (omega arith, λ j h. absurd (omega arith))
-
-pub returns-then-not-satisfies : goal.returns-then-not-satisfies
-returns-then-not-satisfies c = all-lost (Satisfies _) _ c.loop-k.k _ _ c.masks_at.ensures c.satisfies.ensures _ (omega arith) (search rules)
-
-pub loop-k-preserved : goal.loop-k-preserved
-loop-k-preserved c = (omega arith, all-turn (Satisfies _) _ c.loop-k.k _ _ c.masks_at.ensures c.satisfies.ensures c.loop-k.invariant.1 (search rules))
-
 pub returns : goal.returns
-returns c = all-won (Satisfies _) _ c.loop-k.k _ (search rules) c.loop-k.invariant.1
+returns c =
+    all-decides (Satisfies _) _ _ _
+    (cases_from_all _ _ _ (λ k. Satisfies c.args.v (masks_at c.args.words.now k)) (λ k. Satisfies c.args.v (masks_at c.args.words.now k) → ⊥) c.all.ensures.ran
+    (YieldsList-from_range 0 c.args.n c.args.n refl (omega arith)) (λ x q k. search rules) (λ x q k. search rules))

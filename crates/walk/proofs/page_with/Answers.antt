@@ -6,7 +6,7 @@ use borrow.Author.Rules.{rules}
 use Rattle.walk.proofs.page_with.Goals as goal
 
 pub after_with-requires : goal.after_with-requires
-after_with-requires c = let p = c.requires in (p.0, p.1, p.2, p.3, p.4, p.5, search rules, search rules, nothing_yet _ _ _ _ 82)
+after_with-requires c = let p = c.requires in (p.0, p.1, p.2, p.3, p.4, p.5, search rules, nothing_yet _ _ _ _ 82)
 
 pub returns-then-after : goal.returns-then-after
 returns-then-after c = let e : c.args.after ≡ true = search rules in rw e c.after_with.ensures

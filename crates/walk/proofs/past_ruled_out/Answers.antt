@@ -1,10 +1,8 @@
 use borrow.Author.Rules.{rules}
-use Prim.Native.Nat.{◌-◌}
 use native.Mathlib.Nat.{lt_of_lt_of_le}
 use native.Mathlib.Omega.{arith}
-use lib.Pow.{pow_mono}
 use borrow.Author.Tests.{not-true, not-false}
-use Rattle.walk.proofs.Places.{set-inside, skipping-none, skipping-more, skipped}
+use Rattle.walk.proofs.Places.{set-inside, skipping-none, skipping-more, stopped, skipped_all}
 use Rattle.walk.proofs.past_ruled_out.Goals as goal
 
 pub loop-place-init : goal.loop-place-init
@@ -14,19 +12,13 @@ pub ruled_out-requires : goal.ruled_out-requires
 ruled_out-requires c = lt_of_lt_of_le (set-inside _ c.requires.0 _ c.loop-place.invariant.stands (omega (arith, c.loop-place-test, c.requires.1))) c.requires.2
 
 pub returns-then-not-ruled_out : goal.returns-then-not-ruled_out
-returns-then-not-ruled_out c = skipped _ c.requires.0 _ _ _ _ c.loop-place.invariant _ (λ h. c.ruled_out.ensures.no (not-true _ (search rules)))
+returns-then-not-ruled_out c = stopped _ c.requires.0 _ _ _ _ c.loop-place.invariant _ (omega (arith, c.loop-place-test)) (c.ruled_out.ensures.no (not-true _ (search rules)))
 
 pub next-set-requires : goal.next-set-requires
 next-set-requires c = (omega (arith, c.requires.0), set-inside _ c.requires.0 _ c.loop-place.invariant.stands (omega (arith, c.loop-place-test, c.requires.1)))
-
-pub overflow_add-place : goal.overflow_add-place
-overflow_add-place c = record { fits = (let h = pow_mono c.requires.0 in omega (arith, h, c.loop-place-test, c.requires.1)) }
-
-pub loop-place-smaller : goal.loop-place-smaller
-loop-place-smaller c = omega (arith, c.loop-place-test)
 
 pub loop-place-preserved : goal.loop-place-preserved
 loop-place-preserved c = skipping-more _ c.requires.0 _ _ _ _ c.loop-place.invariant (omega (arith, c.loop-place-test, c.requires.1)) (c.ruled_out.ensures.yes (not-false _ (search rules))) _ c.next-set.ensures
 
 pub returns : goal.returns
-returns c = skipped _ c.requires.0 _ _ _ _ c.loop-place.invariant _ (λ h. absurd (omega (arith, c.loop-place-test)))
+returns c = skipped_all _ c.requires.0 _ _ _ _ c.loop-place.invariant _ (omega (arith, c.loop-place-test))
