@@ -10,9 +10,8 @@ use lib.ListN.{length}
 use borrow.Author.Tests.{ne_eqb}
 use Rattle.logic.specs.Tests.{pick}
 use Rattle.sets.specs.declared.Pair.{Pair}
-use Rattle.book.specs.declared.Shape.{Shape}
 use Rattle.text.specs.declared.Refusal.{Refusal}
-use Rattle.std.specs.Prelude.{Result, Ok, Err, ⊤, Option as Maybe, Some, None}
+use Rattle.std.specs.Prelude.{Result, Ok, Err, ⊤, Option as Maybe, Some}
 use Rattle.answers.specs.Operations.{Told, told, turned, answer_of}
 use Rattle.answers.specs.Means.{Means, Judges}
 use Rattle.answers.proofs.Refused.{means-numbered}
@@ -27,12 +26,13 @@ use Rattle.points.proofs.Means.{told_back}
 use Rattle.across.specs.declared.Done.{Done}
 use Rattle.across.specs.declared.PairAnswer.{PairAnswer}
 use Rattle.across.specs.declared.VerdictAnswer.{VerdictAnswer}
-use Rattle.across.specs.Across.{book_in, amount_in, verdict_in, answer_in, done_of, gone_of, verdict_from, answer_from, gone_from, PointStruct, done, gone, struct_to, point_from, StoreBack}
+use Rattle.across.specs.Across.{verdict_in, answer_in, done_of, gone_of, verdict_from, answer_from, gone_from, PointStruct, done, gone, struct_to, point_from, StoreBack}
 
 -- Of Go: what First and After would answer.
-pub gone-is : (w : Result Pair Refusal) (f : Result (Maybe Pair) Refusal) (r : PairAnswer) → MatchResult w (λ p. IsOkAnd f (λ m. m ≡ Some p)) (λ q. f ≡ Err q) → r ≡ answer_in (answer_of f) → r ≡ gone_of w
+pub gone-is : (w : Result Pair Refusal) (f : Result (Maybe Pair) Refusal) (r : PairAnswer) → ((p : Pair) → w ≡ Ok p → f ≡ Ok (Some p)) → ((q : Refusal) → w ≡ Err q → f ≡ Err q) → r ≡ answer_in (answer_of f) → r ≡ gone_of w
 unfolding gone_of answer_of
-gone-is w f r e d = ?
+gone-is (Ok p) f r g h e = rw (g p refl) at e
+gone-is (Err q) f r g h e = rw (h q refl) at e
 
 -- ---- the way back
 -- An answer that is a pair, End, or a refusal whose number is not 0.
