@@ -7,6 +7,3 @@ loop-a-init c = keeps_same _
 
 pub loop-a-preserved : goal.loop-a-preserved
 loop-a-preserved c = levels-turn _ c.loop-a.a _ _ _ (omega arith) c.loop-a.invariant c.level_step-o.ensures
-
-pub returns : goal.returns
-returns c = c.loop-a.invariant

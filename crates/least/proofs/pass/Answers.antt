@@ -8,6 +8,3 @@ loop-k-init c = keeps_same _
 
 pub loop-k-preserved : goal.loop-k-preserved
 loop-k-preserved c = keeps_then c.loop-k.invariant (by_row c.loop-k.k _ (omega arith) c.row_at.ensures c.step-y.ensures)
-
-pub returns : goal.returns
-returns c = c.loop-k.invariant

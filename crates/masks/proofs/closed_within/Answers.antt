@@ -12,9 +12,6 @@ returns-then-d-v c = λ e. absurd (clash e)
 pub returns-then-not-within : goal.returns-then-not-within
 returns-then-not-within c = λ e. absurd (clash e)
 
-pub loop-k-init : goal.loop-k-init
-loop-k-init c = λ k l. absurd (omega arith)
-
 pub returns-then-not-closed_at : goal.returns-then-not-closed_at
 returns-then-not-closed_at c = λ e. absurd (clash e)
 

@@ -1,14 +1,5 @@
 use Rattle.masks.proofs.Closures.{beneath-again}
 use Rattle.masks.proofs.grow.Goals as goal
 
-pub loop-k-init : goal.loop-k-init
-loop-k-init c = c.requires.1
-
-pub add_within-e-requires : goal.add_within-e-requires
-add_within-e-requires c = c.fires-f.ensures
-
 pub loop-k-preserved : goal.loop-k-preserved
 loop-k-preserved c = beneath-again _ _ c.loop-k.k _ _ _ _ c.loop-k-test.true c.loop-k.invariant c.masks_at-r.ensures c.add_within-e.ensures
-
-pub returns : goal.returns
-returns c = c.loop-k.invariant

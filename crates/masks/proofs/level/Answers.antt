@@ -3,9 +3,6 @@ use borrow.Author.Rules.{rules}
 use Rattle.masks.proofs.Tests.{level-turn, level-lost, level-won}
 use Rattle.masks.proofs.level.Goals as goal
 
-pub loop-a-init : goal.loop-a-init
-loop-a-init c = λ j h. absurd (omega arith)
-
 pub returns-then-not-level_at : goal.returns-then-not-level_at
 returns-then-not-level_at c = level-lost c.args.ranks.now c.loop-a.a _ _ c.level_at.ensures (omega arith) (search rules)
 

@@ -7,12 +7,6 @@ use Rattle.masks.proofs.sweep.Goals as goal
 pub loop-k-init : goal.loop-k-init
 loop-k-init c = (λ j h. absurd (omega arith), rw c.of_exceptions-d.ensures (beneath-start _ _))
 
-pub add_within-e-requires : goal.add_within-e-requires
-add_within-e-requires c = c.fires-f.ensures
-
-pub meets-requires : goal.meets-requires
-meets-requires c = c.fires-f.ensures
-
 pub returns-then-not-meets : goal.returns-then-not-meets
 returns-then-not-meets c = rules-lost _ c.loop-k.k _ _ _ c.masks_at-r.ensures c.meets.ensures _ (omega arith) (search rules)
 

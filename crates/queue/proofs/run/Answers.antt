@@ -4,14 +4,8 @@ use Rattle.queue.proofs.run.Goals as goal
 pub loop-init : goal.loop-init
 loop-init c = keeps_same _
 
-pub returns-then-idle : goal.returns-then-idle
-returns-then-idle c = c.loop.invariant
-
 pub returns-then-not-within : goal.returns-then-not-within
 returns-then-not-within c = keeps_then c.loop.invariant (keeps_then c.turn.ensures (by-coherence c.moved-q.ensures))
 
 pub loop-preserved : goal.loop-preserved
 loop-preserved c = keeps_then c.loop.invariant (keeps_then c.turn.ensures (by-coherence c.moved-q.ensures))
-
-pub returns : goal.returns
-returns c = c.loop.invariant

@@ -5,9 +5,6 @@ use Rattle.queue.proofs.stepped.Goals as goal
 pub returns-then-j-n : goal.returns-then-j-n
 returns-then-j-n c = keeps_same _
 
-pub said-requires : goal.said-requires
-said-requires c = c.fires-alive.ensures
-
 pub returns-then-not-quiet : goal.returns-then-not-quiet
 returns-then-not-quiet c = by-rule _ _ (search rules) c.masks_at-r.ensures c.said.ensures
 

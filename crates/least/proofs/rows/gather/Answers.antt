@@ -8,12 +8,6 @@ use Rattle.least.proofs.rows.gather.Goals.{then-can_ask, else-can_ask}
 pub loop-k-init : goal.loop-k-init
 loop-k-init c = (refl, gathered_none _ _ _)
 
-pub put-requires : goal.put-requires
-put-requires c = let f = c.loop-k.invariant.1.few in let l = c.loop-k.invariant.0 in let p = c.requires.1 in omega arith
-
-pub overflow_add-m : goal.overflow_add-m
-overflow_add-m c = let f = c.loop-k.invariant.1.few in omega arith
-
 pub loop-k-preserved : goal.loop-k-preserved
 loop-k-preserved c =
     let f = c.loop-k.invariant.1.few in let l = c.loop-k.invariant.0 in let p = c.requires.1 in
@@ -24,9 +18,6 @@ loop-k-preserved c =
       )
       | else-can_ask w ↦ rw (w.rows-is, w.m-is) (l, gathered-mute _ c.loop-k.k _ _ _ c.loop-k.invariant.1 _ c.masks_at-r.ensures _ c.can_ask.ensures w.if-can_ask.false)
     ]
-
-pub shape_of-rows : goal.shape_of-rows
-shape_of-rows c = c.loop-k.invariant.0
 
 pub returns : goal.returns
 returns c = gathered-done _ c.loop-k.k _ _ _ _ (search rules) (search rules) c.loop-k.invariant.1

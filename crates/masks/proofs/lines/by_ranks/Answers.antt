@@ -6,15 +6,6 @@ use Rattle.masks.proofs.lines.by_ranks.Goals as goal
 pub loop-a-init : goal.loop-a-init
 loop-a-init c = ranks-start _ _ _
 
-pub overflow_shl-a : goal.overflow_shl-a
-overflow_shl-a c = omega arith
-
-pub offset_bounds-ranks-a : goal.offset_bounds-ranks-a
-offset_bounds-ranks-a c = omega arith
-
-pub bounds-ranks-a : goal.bounds-ranks-a
-bounds-ranks-a c = omega arith
-
 pub loop-a-preserved : goal.loop-a-preserved
 loop-a-preserved c = ranks-shifted _ _ _ _ _ _ (search rules) (search rules) c.loop-a.invariant c.through-p.ensures
 

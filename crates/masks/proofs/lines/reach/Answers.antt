@@ -9,8 +9,5 @@ loop-o-init c = nothing_yet _ _ _ _ _
 pub loop-o-smaller : goal.loop-o-smaller
 loop-o-smaller c = let l = larger _ _ _ _ _ _ _ c.pass-p.ensures (search rules) in omega (arith, c.pass-p.type_inv)
 
-pub loop-o-preserved : goal.loop-o-preserved
-loop-o-preserved c = c.pass-p.ensures.keeps c.loop-o.invariant
-
 pub returns : goal.returns
 returns c = reached _ _ _ _ _ _ _ c.loop-o.invariant c.pass-p.ensures (search rules)

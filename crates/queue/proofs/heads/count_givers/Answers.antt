@@ -19,9 +19,6 @@ returns-then-not-within c = seen-several _ _ _ _ _ _ refl
 pub returns-in-Several : goal.returns-in-Several
 returns-in-Several c = seen-several _ _ _ _ _ _ (search rules)
 
-pub bounds-index-k : goal.bounds-index-k
-bounds-index-k c = omega (arith, c.requires.1)
-
 pub loop-preserved : goal.loop-preserved
 loop-preserved c = let ch = c.loop.invariant.1 in (seen_next _ _ _ _ _ _ _ _ _ c.loop.invariant.0 (search rules) c.masks_at-r.ensures c.with_rule-g.ensures (λ k l h y. ch.next _ _ _ k c.requires.3 c.requires.4 (omega arith) l h (gives-is _ _ _ _ _ _ _ c.one-m.ensures c.masks_at-r.ensures c.within.ensures (search rules)) y), ch)
 

@@ -1,10 +1,6 @@
-use native.Mathlib.Omega.{arith}
 use Rattle.queue.proofs.Turns.{support-none, support-one}
 use borrow.Author.Rules.{rules}
 use Rattle.queue.proofs.heads.support.Goals as goal
-
-pub masks_at-requires : goal.masks_at-requires
-masks_at-requires c = let h = c.all_givers-g.ensures.rule _ c.in-One.is in omega (arith, h, c.requires.0)
 
 pub returns-in-Nobody : goal.returns-in-Nobody
 returns-in-Nobody c = support-none _ _ _ _ c.requires.2 _ _ c.all_givers-g.ensures _ _ (search rules) c.one-m.ensures c.out.ensures

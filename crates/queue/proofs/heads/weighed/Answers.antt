@@ -1,5 +1,4 @@
 use borrow.Author.Rules.{rules}
-use Rattle.queue.specs.Chains.{counted}
 use Rattle.queue.proofs.Chains.{weighed-without, weighed-sure}
 use Rattle.queue.proofs.heads.weighed.Goals as goal
 
@@ -8,6 +7,3 @@ returns-then-not-within c = weighed-without _ _ _ _ _ _ c.within.ensures (search
 
 pub returns-then-not-apart : goal.returns-then-not-apart
 returns-then-not-apart c = weighed-sure _ _ _ _ _ _ _ c.minus.ensures c.apart.ensures (search rules)
-
-pub returns : goal.returns
-returns c = counted c.with_rule.ensures

@@ -1,14 +1,6 @@
-use mathlib.Core.Path.{refl}
-use Rattle.queue.specs.Chains.{sole, more}
 use Rattle.queue.proofs.Chains.{counted-idle}
 use borrow.Author.Rules.{rules}
 use Rattle.queue.proofs.heads.with_rule.Goals as goal
 
 pub returns-then-not-fires : goal.returns-then-not-fires
 returns-then-not-fires c = counted-idle _ _ _ _ _ c.fires.ensures (search rules)
-
-pub returns-in-Nobody : goal.returns-in-Nobody
-returns-in-Nobody c = sole (search rules) refl
-
-pub returns-in_default : goal.returns-in_default
-returns-in_default c = more refl
