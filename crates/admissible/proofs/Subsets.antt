@@ -4,7 +4,7 @@ use mathlib.Core.Path.{◌≡◌, refl, sym}
 use mathlib.Core.Bool.{Bool, true, false, not}
 use mathlib.Core.List.{List}
 use mathlib.Core.Logic.{⊎_elim}
-use Prim.Native.Nat.{ℕ, zero, suc, ◌+◌, ◌*◌, ◌^◌, ◌%◌, ◌<◌, ◌≤◌}
+use Prim.Native.Nat.{ℕ, zero, suc, ◌+◌, ◌^◌, ◌<◌, ◌≤◌}
 use native.Mathlib.Nat.{le_refl, le_trans}
 use native.Mathlib.Omega.{arith}
 use borrow.Author.Count.{below_more}
@@ -12,13 +12,13 @@ use Rattle.logic.specs.Tests.{Decides}
 use Rattle.logic.proofs.Decide.{clash, reworded}
 use Rattle.sets.specs.declared.Pair.{Pair}
 use Rattle.sets.specs.Sets.{bit_of, Within, Apart, without}
-use Rattle.sets.proofs.Digits.{shifted, bit-lt, bit-over, bit-without, lt-or-le}
+use Rattle.sets.proofs.Digits.{bit-lt, bit-over, bit-without, lt-or-le}
 use Rattle.sets.proofs.Words as N
 use Rattle.sets.proofs.Words.{single, single-has}
 use Rattle.sets.proofs.Pairs.{sub_trans}
 use Rattle.masks.specs.declared.Bounds.{Bounds}
 use Rattle.masks.specs.Views.{MaskView}
-use Rattle.masks.proofs.Booleans.{refused, granted, decides-true, decides-false}
+use Rattle.masks.proofs.Booleans.{granted, decides-true, decides-false}
 use Rattle.bounds.specs.Sound.{In, Propagated, with_sets}
 use Rattle.bounds.proofs.Ranges.{in-sets, in-root, set_below}
 use Rattle.std.specs.Prelude.{Option, Some, None, is_some}
@@ -29,13 +29,6 @@ lacks : (v e : ℕ) → bit_of v e ≡ 0 → Apart v (2 ^ e)
 lacks v e z = ⊎_elim (λ f. absurd (let q = single-has e v f in omega arith)) (λ f i. let q = f i in omega arith) (single e v)
 
 module _ (ws : List ℕ) (n : ℕ) (ranks : List ℕ) (root : Bounds) (taken e : ℕ) where
-  pub minimal-absent : bit_of taken e ≡ 0 → Decides true (MinimalAt ws n ranks root taken e)
-  minimal-absent z = decides-true (record { has = λ v w x f. omega arith })
-
-  -- Every view within root has e.
-  pub minimal-sure : bit_of root.lo.taken e ≡ 1 → Decides true (MinimalAt ws n ranks root taken e)
-  minimal-sure z = decides-true (record { has = λ v w x f. omega (arith, x.lo.taken e, bit-lt taken e) })
-
   module _ (x : ℕ) (ex : x ≡ without taken (2 ^ e)) (b : Bounds) (eb : b ≡ with_sets root 0 x) (a : Option Pair) (p : Probed ws n ranks b a) where
     lacking : b ≡ with_sets root 0 (without taken (2 ^ e))
     lacking = rw ex at eb
@@ -71,9 +64,6 @@ MinimalTo ws n ranks root taken k = (e : ℕ) → e < k → MinimalAt ws n ranks
 
 module _ (ws : List ℕ) (n : ℕ) (ranks : List ℕ) (root : Bounds) (taken e : ℕ) where
   module _ (b : Bool) (d : Decides b (MinimalAt ws n ranks root taken e)) where
-    pub minimal-lost : not b ≡ true → Decides false (Minimal ws n ranks root taken)
-    minimal-lost q = decides-false (λ m. refused d q (record { has = λ v w x f. m.has v w x f e }))
-
     pub minimal-turn : MinimalTo ws n ranks root taken e → not b ≡ false → MinimalTo ws n ranks root taken (e + 1)
     minimal-turn f q = below_more _ e f (granted d q)
 

@@ -3,25 +3,23 @@
 use mathlib.Core.Path.{◌≡◌, refl, sym}
 use mathlib.Core.Bool.{Bool, true, false, not}
 use mathlib.Core.List.{List}
-use Prim.Native.Nat.{ℕ, ◌+◌, ◌<◌, ◌≤◌}
-use native.Mathlib.Omega.{arith}
+use Prim.Native.Nat.{ℕ, ◌<◌}
 use lib.Bits.{bit_and}
-use lib.ListN.{length, get_or}
-use borrow.Author.Count.{below_more}
+use lib.ListN.{get_or}
 use Rattle.logic.specs.Tests.{Decides}
-use Rattle.logic.proofs.Decide.{clash, reworded}
+use Rattle.logic.proofs.Decide.{clash}
 use Rattle.sets.specs.declared.Pair.{Pair}
 use Rattle.sets.proofs.Words.{and_none, none-and, none-sub, single-has}
 use Rattle.sets.proofs.Pairs.{sub_trans, join-l, join-r}
 use Rattle.masks.specs.declared.Bounds.{Bounds}
-use Rattle.masks.proofs.Booleans.{refused, granted, decides-true, decides-false}
+use Rattle.masks.proofs.Booleans.{decides-true, decides-false}
 use Rattle.bounds.specs.Singles.{one_of}
 use Rattle.bounds.specs.Sound.{into_of}
 use Rattle.bounds.proofs.Singles.{has-place}
 use Rattle.bounds.proofs.Steps.{in-into}
 use Rattle.std.specs.Prelude.{Option, Some, None, is_some}
 use Rattle.probe.specs.Probes.{Probed}
-use Rattle.admissible.specs.Admissible.{Minimal, Undominated, UndominatedAt, Admissible}
+use Rattle.admissible.specs.Admissible.{UndominatedAt}
 
 module _ (ws : List ℕ) (n : ℕ) (ranks : List ℕ) (root : Bounds) (taken rank a : ℕ) where
   pub free-apart : bit_and rank taken ≡ 0 → Decides true (UndominatedAt ws n ranks root taken rank a)
@@ -54,21 +52,4 @@ module _ (ws : List ℕ) (n : ℕ) (ranks : List ℕ) (root : Bounds) (taken ran
 abbrev pub UndominatedTo : List ℕ → ℕ → List ℕ → Bounds → ℕ → ℕ → Type 0
 UndominatedTo ws n ranks root taken k = (a : ℕ) → a < k → UndominatedAt ws n ranks root taken (get_or ranks a 0) a
 
-module _ (ws : List ℕ) (n : ℕ) (ranks : List ℕ) (root : Bounds) (taken k : ℕ) where
-  module _ (b : Bool) (d : Decides b (UndominatedAt ws n ranks root taken (get_or ranks k 0) k)) where
-    pub undominated-turn : UndominatedTo ws n ranks root taken k → not b ≡ false → UndominatedTo ws n ranks root taken (k + 1)
-    undominated-turn f q = below_more _ k f (granted d q)
-
-    pub undominated-lost : k < length ranks → not b ≡ true → Decides false (Undominated ws n ranks root taken)
-    undominated-lost h q = decides-false (λ m. refused d q (record { free = m.free k h }))
-
-  pub undominated-won : length ranks ≤ k → UndominatedTo ws n ranks root taken k → Decides true (Undominated ws n ranks root taken)
-  undominated-won h f = decides-true (record { free = λ a l. (f a (omega arith)).free })
-
 -- ---- both
-module _ (ws : List ℕ) (n : ℕ) (ranks : List ℕ) (root : Bounds) (taken : ℕ) (b : Bool) (d : Decides b (Minimal ws n ranks root taken)) where
-  pub admissible-no : not b ≡ true → Decides false (Admissible ws n ranks root taken)
-  admissible-no e = decides-false (λ a. refused d e a.minimal)
-
-  pub admissible-rest : (o : Bool) → not b ≡ false → Decides o (Undominated ws n ranks root taken) → Decides o (Admissible ws n ranks root taken)
-  admissible-rest o e u = reworded u (λ x. record { minimal = granted d e; undominated = x }) (λ a. a.undominated)

@@ -92,7 +92,3 @@ module _ (a b : Pair) where
               inr (⊎_elim (λ (v : value b (i + 1) ≡ value a (i + 1)). absurd (value-disagree i (l.member g) x y (rw (add-one i) at (sym v))))
               (λ v. differs (sym t) (i + 1) (omega arith) (λ j z h. sym (below j z h)) v) (eq-or-lt_of_le (ltb-false _ _ (sym e ∙ f))));
         }
-
--- The same of pairs that are read.
-pub sooner-of : (p q a b : Pair) (r : Bool) → a ≡ p → b ≡ q → Sooner a b r → Sooner p q r
-sooner-of p q a b r ea eb s = rw (ea, eb) at s

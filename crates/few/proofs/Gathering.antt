@@ -3,7 +3,6 @@ use mathlib.Core.Path.{◌≡◌}
 use mathlib.Core.List.{List, [], ◌∷◌, ◌++◌}
 use mathlib.Core.Logic.{inl, ⊎_elim}
 use Prim.Native.Nat.{ℕ, ◌+◌, ◌-◌, ◌*◌, ◌<◌, ◌≤◌}
-use native.Mathlib.Nat.{le_refl}
 use native.Mathlib.Omega.{arith}
 use lib.Seq.{sets}
 use Rattle.logic.proofs.Members.{among-left, among-right, among-either}
@@ -34,13 +33,6 @@ pub store-for : (cap l l' : ℕ) → cap ≤ most → most * 3 ≤ l → l' ≡ 
 store-for cap l l' g h e = omega arith
 
 -- A full store promises nothing, and where the fuel is used up neither.
-module _ (ws : List ℕ) (n : ℕ) (ranks : List ℕ) (b : Bounds) (cap : ℕ) (o : List ℕ) (q : Place) (h : q.at ≤ cap) where
-  pub gathered-full : cap ≤ q.at → Gathered ws n ranks b cap q.at q.fuel o o q
-  gathered-full l = record { few = h; less = le_refl _; some = λ e. absurd (omega arith); whole = λ f e. absurd (omega arith) }
-
-  pub gathered-dry : q.fuel ≡ 0 → Gathered ws n ranks b cap q.at q.fuel o o q
-  gathered-dry z = record { few = h; less = le_refl _; some = λ e. absurd (omega arith); whole = λ f e. absurd (omega arith) }
-
 module _ (ws : List ℕ) (n : ℕ) (ranks : List ℕ) (b : Bounds) (cap k f : ℕ) (o : List ℕ) where
   module _ (x : Node) (w : Opened ws n ranks b x) where
     pub gathered-view : k < cap → (v : Pair) → x ≡ View v → (o' : List ℕ) → o' ≡ sets o (k * 3) (flat (v ∷ [])) → Gathered ws n ranks b cap k f o o' (record { at = k + 1; fuel = f - 1 })

@@ -17,7 +17,7 @@ use Rattle.bounds.specs.Sound.{In}
 use Rattle.page.specs.declared.Task.{Task}
 use Rattle.page.specs.Pages.{pair_at, pairs_in, Page}
 use Rattle.page.proofs.Pages.{flat-length, pairs-front}
-use Rattle.std.specs.Prelude.{Option, Some, None}
+use Rattle.std.specs.Prelude.{Option, None}
 use Rattle.probe.specs.Probes.{Probed}
 use Rattle.few.specs.declared.Place.{Place}
 use Rattle.few.specs.Few.{Stock, Gathered, Collected, PutSorted, AllListed}
@@ -60,9 +60,6 @@ module _ (ws : List ℕ) (n : ℕ) (ranks : List ℕ) (b : Bounds) (cap : ℕ) (
   collected-full h = record { few = le_refl cap; some = λ l. g.some (omega arith); whole = λ l. absurd (omega arith) }
 
 module _ {ws : List ℕ} {n : ℕ} {ranks : List ℕ} {b : Bounds} {a : Option Pair} (q : Probed ws n ranks b a) (cap : ℕ) (s : List ℕ) where
-  pub collected-found : (v : Pair) → a ≡ Some v → Collected ws n ranks b cap s cap
-  collected-found v e = record { few = le_refl cap; some = λ l. let f = q.found v e in (v, f.0, f.1); whole = λ l. absurd (omega arith) }
-
   pub collected-nothing : a ≡ None → Collected ws n ranks b cap s 0
   unfolding pairs_in
   collected-nothing e = record { few = omega arith; some = λ l. absurd (omega arith); whole = λ l. record { only = λ v m. absurd m; all = λ v y i. q.none e v y i } }

@@ -1,16 +1,13 @@
 -- The first of those that are later, again and again, is the store in order: each step hands out the head of what is left of the sorted list.
 use Rattle.std.specs.Prelude.{Option, Some, None, IfSome, MatchOption}
 use mathlib.Core.Path.{◌≡◌, refl, sym, ◌∙◌}
-use mathlib.Core.Bool.{Bool, true, false, not}
+use mathlib.Core.Bool.{Bool, true}
 use mathlib.Core.List.{List, [], ◌∷◌, ◌++◌, append-nil, append_assoc}
 use mathlib.Core.Logic.{◌⊎◌, inl, inr, ⊎_elim}
 use Prim.Native.Nat.{ℕ, ◌+◌, ◌*◌, ◌<◌, ◌≤◌}
-use native.Mathlib.Nat.{le_refl}
 use native.Mathlib.Omega.{arith}
 use lib.Seq.{sets}
-use borrow.Author.Tests.{not-true, not-false}
 use Rattle.logic.specs.Lists.{Among, Every}
-use Rattle.logic.proofs.Decide.{clash}
 use Rattle.logic.proofs.Members.{every-at, among-either}
 use Rattle.sets.specs.declared.Pair.{Pair}
 use Rattle.sets.specs.Pairs.{flat}
@@ -48,9 +45,6 @@ module _ (store : List ℕ) (k : ℕ) (last : Option ℕ) where
         → Alike store k → (j : ℕ) → j < i + 1 → After store k last j → NoLater store k r j
     one_more r f g a j l x = ⊎_elim (λ m. f a j m x) (λ m. let q : j ≡ i = omega arith in rw q (g a (rw q at x))) (lt-or-le j i)
 
-    pub better-not : (r : Bool) → Follows store k last i r → r ≡ false → FirstOf store k last i best → FirstOf store k last (i + 1) best
-    better-not r w e s = record { upto = s.upto; later = s.later; first = one_more best s.first (λ a x. absurd (w.no a e x)) }
-
     module _ (z : Bool) (d : Leads store k i best z) where
       -- The pair at place i comes before whatever the best so far comes before.
       leads-on : (b : Option ℕ) (j : ℕ) → Ahead store k i b → NoLater store k b j → Before (pair_at store i) (pair_at store j)
@@ -63,9 +57,6 @@ module _ (store : List ℕ) (k : ℕ) (last : Option ℕ) where
         later = λ a. w.yes a e;
         first = one_more (Some i) (λ a j m x. (h, inr (leads-on best j (d.yes a ez) (s.first a j m x)))) (λ a x. (h, inl refl));
       }
-
-      pub better-same : z ≡ false → FirstOf store k last i best → FirstOf store k last (i + 1) best
-      better-same ez s = record { upto = s.upto; later = s.later; first = one_more best s.first (λ a x. d.no a ez) }
 
   -- All pairs have been looked at.
   pub first-all : (best : Option ℕ) (i : ℕ) → FirstOf store k last i best → k ≤ i → FirstOf store k last k best

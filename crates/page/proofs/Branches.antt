@@ -17,7 +17,7 @@ use Rattle.meaning.specs.Twins.Tables.{differs_from}
 use Rattle.queue.specs.declared.waiting.Waiting.{Waiting}
 use Rattle.page.specs.declared.Task.{Task}
 use Rattle.page.specs.declared.Node.{Node}
-use Rattle.std.specs.Prelude.{Option, Some, None}
+use Rattle.std.specs.Prelude.{Some, None}
 use Rattle.page.specs.Orders.{given, all_from, passes, list_from}
 use Rattle.page.specs.Pages.{ViewGiving, Barren, Picks, Covers, Covered, branch_from, BranchReady, Branched}
 use Rattle.page.proofs.Orders.{all-value, among-tried}
@@ -125,7 +125,3 @@ module _ (ws ranks : List ℕ) (q : Task) (left w : ℕ) (d : Node) (rd : Branch
         where
           child : (c : Node) → Some (record { equal = e; pair = p; bounds = b; live = live; hint = hint }) ≡ Some c → record { equal = e; pair = p; bounds = b; live = live; hint = hint } ≡ c
           child c y = cc
-
--- What is found is not nothing.
-pub found-not : (v : Pair) {P : Type 0} → Some v ≡ None → P
-found-not v e = absurd (let x : ◌≡◌ {A = ℕ} 0 1 = cc in omega arith)

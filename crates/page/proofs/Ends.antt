@@ -1,6 +1,6 @@
 -- What the bounds of a node have settled of the statements ahead.
 -- One statement at a time: a pair within the bounds has the one value that they leave, so the pairs with another value do not pass.
-use Rattle.std.proofs.Common.{◌≡◌, ℕ, zero, suc, ◌+◌, ◌-◌, ◌/◌, ◌%◌, ◌^◌, ◌<◌, ◌≤◌, Bool, true, false, List, [], ◌∷◌, ◌++◌, sym, refl, ap, ◌∙◌, le_refl, sub-one, arith}
+use Rattle.std.proofs.Common.{◌≡◌, ℕ, zero, suc, ◌+◌, ◌-◌, ◌/◌, ◌%◌, ◌^◌, ◌<◌, ◌≤◌, Bool, true, false, List, [], ◌∷◌, ◌++◌, sym, refl, ap, ◌∙◌, sub-one, arith}
 use lib.Bits.{bit_or}
 use Rattle.logic.specs.Lists.{Among}
 use Rattle.logic.specs.Tests.{both, pick, keep}
@@ -84,9 +84,6 @@ module _ (n l : ℕ) (p : Pair) (g : Pair → Bool) (h : l < n) where
 among_next : (n l : ℕ) (p u : Pair) (w : ℕ) → w ≤ 2 → Among u (all_from n l (given p (n - l) w)) → Among u (all_from n (suc l) p)
 unfolding all_from
 among_next n l p u w h m = among-tried (λ r. all_from n l r) p (n - l) w u h m
-
-pub gone-start : (n left : ℕ) (d : Node) (r : Stretch) → r.pair ≡ d.pair → r.left ≡ left → GoneOn n left d r
-gone-start n left d r ep el = rw (ep, el) (record { fewer = le_refl left; own = λ e. (refl, refl); among = λ u m. m; kept = λ g c. refl })
 
 gone_one : (n left : ℕ) (d : Node) (pair : Pair) (l : ℕ) → d.equal ≡ false → left ≤ n → 0 < l → (x : Pair) → x ≡ minus_of d.bounds.hi d.bounds.lo
     → bit_of (bit_or x.held x.denied) (n - (l - 1) - 1) ≡ 0 → GoneOn n left d (record { pair = pair; left = l })

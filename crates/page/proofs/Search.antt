@@ -13,11 +13,11 @@ use Rattle.queue.specs.declared.waiting.Waiting.{Waiting}
 use Rattle.page.specs.declared.Task.{Task}
 use Rattle.page.specs.declared.Node.{Node}
 use Rattle.std.specs.Prelude.{Option, Some, None}
-use Rattle.page.specs.Orders.{bare, given, tried, all_from, passes, list_from}
+use Rattle.page.specs.Orders.{given, tried, all_from, passes, list_from}
 use Rattle.sets.specs.Pairs.{Sub, flat}
 use Rattle.sets.proofs.Pairs.{sub_trans}
 use Rattle.bounds.specs.Sound.{Keeps}
-use Rattle.page.specs.Pages.{Tests, Picks, Covers, Covered, Fits, Ready, Settled, passing, tried_from, Tried, branch_from, TriedOne, BranchReady, Child, Branched, Started, Listed}
+use Rattle.page.specs.Pages.{Tests, Picks, Covers, Covered, Fits, Settled, passing, tried_from, Tried, branch_from, TriedOne, Child, Branched, Started, Listed}
 use Rattle.page.proofs.Pages.{page-none, page-full, page-append, page-one}
 use Rattle.page.proofs.General.{both_false, keep-none, keep_append}
 
@@ -66,21 +66,6 @@ settle-last P q left d at o o' r e w = rw e w
 
 fits-again : (ws ranks o o' : List ℕ) (q : Task) (at r : ℕ) → Fits ws ranks o q at → length o' ≡ length o → r ≤ q.room → Fits ws ranks o' q r
 fits-again ws ranks o o' q at r f e h = record { suits = f.suits; place = h; long = rw e f.long }
-
--- The slice changed and the place moved on.
-pub ready-again : (ws ranks o o' : List ℕ) (q : Task) (left at r : ℕ) → Ready ws ranks o q left at → length o' ≡ length o → r ≤ q.room → Ready ws ranks o' q left r
-ready-again ws ranks o o' q left at r rd e h = record { fits = fits-again ws ranks o o' q at r rd.fits e h; unsettled = rd.unsettled }
-
--- Fewer statements are left.
-pub ready-fewer : (ws ranks o : List ℕ) (q : Task) (left at fewer : ℕ) → Ready ws ranks o q left at → fewer ≤ left → Ready ws ranks o q fewer at
-ready-fewer ws ranks o q left at fewer rd h = record { fits = rd.fits; unsettled = omega (arith, rd.unsettled) }
-
--- What a value of the first statement left needs, and what the search from there needs.
-pub branch-ready : (ws ranks o : List ℕ) (q : Task) (left at : ℕ) → Ready ws ranks o q left at → 0 < left → (w : ℕ) → w ≤ 2 → BranchReady ws ranks q (left - 1) w
-branch-ready ws ranks o q left at rd pos w h = record { suits = rd.fits.suits; unsettled = omega (arith, rd.unsettled); value = h }
-
-pub child-ready : (ws ranks o : List ℕ) (q : Task) (left at : ℕ) → Ready ws ranks o q left at → Ready ws ranks o q (left - 1) at
-child-ready ws ranks o q left at rd = record { fits = rd.fits; unsettled = omega (arith, rd.unsettled) }
 
 -- The last v values are the first of them and the others.
 tried-first : (f : Pair → List Pair) (p : Pair) (i v : ℕ) → (v ≡ 0 → ⊥) → tried f p i v ≡ f (given p i (3 - v)) ++ tried f p i (v - 1)

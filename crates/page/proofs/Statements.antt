@@ -1,6 +1,6 @@
 -- What the functions on one statement make, and that bounds narrowed to a value of a statement keep every view that has the value.
 -- The view has the conclusion that the value stands for, and of the two conclusions about the statement no other.
-use Rattle.std.proofs.Common.{nat_lt, ◌≤◌, [], ◌∷◌, get_or, ◌≡◌, ℕ, zero, suc, ◌-◌, ◌*◌, ◌%◌, ◌^◌, ◌<◌, Bool, true, false, List, refl, arith}
+use Rattle.std.proofs.Common.{nat_lt, [], ◌∷◌, get_or, ◌≡◌, ℕ, zero, suc, ◌-◌, ◌*◌, ◌%◌, ◌^◌, ◌<◌, Bool, true, false, List, refl, arith}
 use Rattle.sets.specs.declared.Pair.{Pair}
 use Rattle.sets.specs.Sets.{member, Apart, without}
 use Rattle.sets.specs.Pairs.{Sub, Off, join_of, minus_of}
@@ -33,12 +33,6 @@ module _ (p : Pair) (i : ℕ) (x y : Bool) (ex : x ≡ member i p.held) where
   pub value-absent : y ≡ member i p.denied → x ≡ false → y ≡ false → 0 ≡ value p i
   unfolding value value_of
   value-absent ey e f = rw (← ex, ← ey, e, f)
-
--- The values have the numbers 0, 1 and 2.
-pub number-most : (v : Value) → number v ≤ 2
-number-most Absent = omega arith
-number-most Held = omega arith
-number-most Denied = omega arith
 
 pub number-at : (k : ℕ) → k < 3 → (v : Value) → number (get_or (Absent ∷ Held ∷ Denied ∷ []) k v) ≡ k
 number-at zero h v = refl

@@ -14,10 +14,10 @@ use Rattle.queue.specs.declared.waiting.Waiting.{Waiting}
 use Rattle.admissible.specs.Admissible.{Stands}
 use Rattle.page.specs.declared.Task.{Task}
 use Rattle.page.specs.declared.Node.{Node}
-use Rattle.page.specs.Orders.{bare, PartOf}
+use Rattle.page.specs.Orders.{PartOf}
 use Rattle.page.specs.Pages.{Page, Settled, Tried, TriedOne, Branched, Started, Listed}
 use Rattle.page.proofs.Listed.{all_listed}
-use Rattle.page.proofs.Search.{finish-equal, finish-not, finish-put, settle-open, settle-last, one-full, one-cut, one-void, one-narrower, Trying, trying-none, trying-next, trying-all, list_full, list-settled}
+use Rattle.page.proofs.Search.{finish-equal, finish-not, finish-put, settle-open, settle-last, one-full, one-cut, one-void, one-narrower, Trying, trying-next, trying-all, list_full, list-settled}
 use Rattle.meaning.specs.Books.{Book, Lawful}
 use Rattle.meaning.specs.Order.{Point}
 use Rattle.meaning.specs.Twins.Verdicts.{view, views, dominated_by}
@@ -98,9 +98,6 @@ module _ (ws ranks : List ℕ) (root : Bounds) (q : Task) where
     -- After k of the values: what is put on the page for the others completes the page for all.
     abbrev pub Sifting : ℕ → ℕ → List ℕ → Memory → Type 0
     Sifting k r o' w' = Sifts ws ranks root q w w' r (Trying Wanted q left d at o k r o')
-
-    pub sifting-none : at ≤ q.room → Sifting 0 at o w
-    sifting-none h = alone w at _ h (trying-none Wanted q left d at o h)
 
     pub sifting-next : (k r : ℕ) (o' : List ℕ) (w' : Memory) → k < 3 → Sifting k r o' w' → (z : ℕ) → z ≡ k → (r' : ℕ) (o'' : List ℕ) (w'' : Memory)
         → Sifts ws ranks root q w' w'' r' (TriedOne Wanted q left z d r o' o'' r') → Sifting (k + 1) r' o'' w''

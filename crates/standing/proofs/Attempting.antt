@@ -49,9 +49,6 @@ module _ (ws : List ℕ) (n : ℕ) (ranks : List ℕ) (root b : Bounds) (mem : M
   Tried mem' c r = Right ws n ranks root mem → Right ws n ranks root mem' × AttemptedIn ws n ranks root c r
 
   module _ (v : Pair) (e : x ≡ View v) (mem' : Memory) (r : Bool) (f : Right ws n ranks root mem → Right ws n ranks root mem' × Decides r (Stands ws n ranks root v)) where
-    pub tried-view : r ≡ true → Tried mem' b (Has v)
-    tried-view d q = let g = f q in let y = o.view v e in (g.0, has-only ws n ranks root b v (y.0, y.1, g.1.yes d))
-
     pub tried-fallen : r ≡ false → (left : ℕ) → Tried mem' b (Lacks left)
     tried-fallen d left q = let g = f q in (g.0, lacks-all ws n ranks root b left (λ u z i s. g.1.no d (rw (o.alone v e u z i) s)))
 
@@ -90,13 +87,6 @@ module _ (ws : List ℕ) (n : ℕ) (ranks : List ℕ) (root b : Bounds) (mem : M
 module _ (ws : List ℕ) (n : ℕ) (ranks : List ℕ) (root b : Bounds) (mem mem' : Memory) (a : Outcome) (f : Right ws n ranks root mem → Right ws n ranks root mem' × AttemptedIn ws n ranks root b a) where
   pub stands-has : (v : Pair) → a ≡ Has v → Right ws n ranks root mem → Right ws n ranks root mem' × StandingIn ws n ranks root b true
   stands-has v e q = let g = f q in let k = g.1.found v e in (g.0, record { found = λ z. (v, k.0, k.1, k.2); none = λ z. absurd (clash (sym z)) })
-
-  pub stands-lacks : (left : ℕ) → a ≡ Lacks left → Right ws n ranks root mem → Right ws n ranks root mem' × StandingIn ws n ranks root b false
-  stands-lacks left e q = let g = f q in (g.0, record { found = λ z. absurd (clash z); none = λ z. g.1.none left e })
-
-  pub stands-anew : (mem₂ : Memory) (r : Bool) → (Right ws n ranks root mem' → Right ws n ranks root mem₂ × StandingIn ws n ranks root b r)
-      → Right ws n ranks root mem → Right ws n ranks root mem₂ × StandingIn ws n ranks root b r
-  stands-anew mem₂ r g q = g (f q).0
 
 -- A search within what propagation leaves is one within the bounds themselves.
 pub stands-within : {ws : List ℕ} {n : ℕ} {ranks : List ℕ} {root b c d : Bounds} {mem mem' : Memory} {r : Bool} → Propagated ws n ranks b c → Propagated ws n ranks c d

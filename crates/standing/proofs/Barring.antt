@@ -1,25 +1,21 @@
 -- Why a ban may narrow bounds: a pair within them that takes what sure lines of the ban lead to is barred, and so is one in which a line leads on
 -- from there to what is surely taken.
 use mathlib.Core.Path.{◌≡◌, refl}
-use mathlib.Core.Bool.{Bool, true, not}
 use mathlib.Core.List.{List}
-use mathlib.Core.Logic.{◌⊎◌, ⊎_elim}
+use mathlib.Core.Logic.{⊎_elim}
 use Prim.Native.Nat.{ℕ, ◌+◌, ◌^◌, ◌<◌, ◌≤◌}
 use native.Mathlib.Omega.{arith}
 use lib.Bits.{bit_and, bit_or}
-use lib.ListN.{get_or}
-use Rattle.logic.specs.Tests.{Decides}
 use Rattle.sets.specs.declared.Pair.{Pair}
 use Rattle.sets.specs.Sets.{bit_of, Apart, without}
-use Rattle.sets.specs.Pairs.{Sub, Off}
+use Rattle.sets.specs.Pairs.{Off}
 use Rattle.sets.proofs.Digits.{bit-lt, bit-zero, bit-without, by_digits}
 use Rattle.sets.proofs.Words.{none-off}
-use Rattle.sets.proofs.Pairs.{sub_trans, join-l, join-sub, meet-l, meet-sub}
+use Rattle.sets.proofs.Pairs.{join-l, join-sub, meet-l, meet-sub}
 use Rattle.masks.specs.declared.Masks.{Masks}
 use Rattle.masks.specs.declared.Bounds.{Bounds}
-use Rattle.masks.specs.Views.{masks_at, Counts, from_at, to_at, Step, step, line, Leads, MaskView}
+use Rattle.masks.specs.Views.{masks_at, Counts, from_at, to_at, Step, step, line, Leads}
 use Rattle.masks.specs.Steps.{Of, Reached, Counting}
-use Rattle.masks.proofs.Booleans.{refused}
 use Rattle.masks.proofs.Steps.{common, has, here_of, leads-more, longer}
 use Rattle.bounds.specs.Sound.{In, Keeps, Idle, Propagated, out_of, narrow_of}
 use Rattle.bounds.proofs.Steps.{in-out, keeps_then, keeps-less}
@@ -111,9 +107,6 @@ module _ (ws : List ℕ) (n : ℕ) (ranks : List ℕ) (mem : Memory) (b : Bounds
   abbrev pub Spares : Bounds → Type 0
   Spares o = (root : Bounds) → Right ws n ranks root mem → Keeps (StandingView ws n ranks root) b o
 
-  pub spares-all : Spares b
-  spares-all root r = record { kept = λ v k i. i }
-
   pub spares-turn : (o p q : Bounds) → Spares o → Leaves ws n ranks mem o p → Propagated ws n ranks p q → Spares q
   spares-turn o p q f g h root r = record { kept = λ v k i. h.keeps.kept v k.view ((g root r).kept v k.stands ((f root r).kept v k i)) }
 
@@ -124,7 +117,3 @@ module _ (ws : List ℕ) (n : ℕ) (ranks : List ℕ) (mem : Memory) (b : Bounds
     lo = join-l _ _;
     hi = meet-l _ _;
   })
-
-  pub barred-is : (o : Bounds) → Unbanned ws n ranks mem b o → (w : Bool) → Decides w (Sub o.lo o.hi) → (root : Bounds) → Right ws n ranks root mem → not w ≡ true
-      → (v : Pair) → MaskView ws n ranks v → In b v → Stands ws n ranks root v → ⊥
-  barred-is o u w d root r e v y i s = let q = (u.keeps root r).kept v (record { view = y; stands = s }) i in refused d e (sub_trans q.lo q.hi)

@@ -3,7 +3,7 @@ use mathlib.Core.Path.{◌≡◌, refl}
 use mathlib.Core.Bool.{Bool, true, false, not}
 use mathlib.Core.List.{List}
 use mathlib.Core.Logic.{⊎_elim}
-use Prim.Native.Nat.{ℕ, zero, suc, ◌+◌, ◌*◌, ◌^◌, ◌%◌, ◌<◌, ◌≤◌}
+use Prim.Native.Nat.{ℕ, zero, suc, ◌+◌, ◌^◌, ◌<◌, ◌≤◌}
 use native.Mathlib.Nat.{le_refl, le_trans}
 use native.Mathlib.Omega.{arith}
 use borrow.Author.Count.{below_more}
@@ -11,7 +11,7 @@ use Rattle.logic.specs.Tests.{Decides}
 use Rattle.logic.proofs.Decide.{reworded}
 use Rattle.sets.specs.declared.Pair.{Pair}
 use Rattle.sets.specs.Sets.{bit_of, Within, Apart, without}
-use Rattle.sets.proofs.Digits.{shifted, bit-lt, bit-over, bit-without, lt-or-le}
+use Rattle.sets.proofs.Digits.{bit-lt, bit-over, bit-without, lt-or-le}
 use Rattle.sets.proofs.Words as N
 use Rattle.sets.proofs.Words.{single, single-has}
 use Rattle.sets.proofs.Pairs.{sub_trans}
@@ -69,9 +69,6 @@ module _ (ws : List ℕ) (n : ℕ) (ranks : List ℕ) (root b : Bounds) (mem : M
   -- So far: the memory is right, and each of the first k members is needed.
   abbrev pub SoFar : ℕ → Memory → Type 0
   SoFar k mem' = Right ws n ranks root mem → Right ws n ranks root mem' × ((e : ℕ) → e < k → UnexceededAt ws n ranks root b taken e)
-
-  pub so-far-none : SoFar 0 mem
-  so-far-none q = (q, λ e h. absurd (omega arith))
 
   module _ (k : ℕ) (mem₁ : Memory) (s : SoFar k mem₁) where
     module _ (mem₂ : Memory) (r : Bool) (f : Right ws n ranks root mem₁ → Right ws n ranks root mem₂ × Decides r (UnexceededAt ws n ranks root b taken k)) where

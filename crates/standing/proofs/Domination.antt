@@ -2,8 +2,8 @@
 use mathlib.Core.Path.{◌≡◌, refl, sym, ap}
 use mathlib.Core.Bool.{Bool, true, false, not}
 use mathlib.Core.List.{List}
-use mathlib.Core.Logic.{◌⊎◌, inl, ⊎_elim}
-use Prim.Native.Nat.{ℕ, ◌+◌, ◌^◌, ◌<◌, ◌≤◌}
+use mathlib.Core.Logic.{inl, ⊎_elim}
+use Prim.Native.Nat.{ℕ, ◌^◌, ◌<◌, ◌≤◌}
 use native.Mathlib.Omega.{arith}
 use lib.Bits.{bit_and}
 use lib.Dec.{eqb}
@@ -135,18 +135,11 @@ nothing_yet ws n ranks root b f x y = nothing-remembered ws n ranks root _ (same
 
 -- ---- what is reached from a ban
 module _ (ws : List ℕ) (n : ℕ) (ranks : List ℕ) (m t s : ℕ) where
-  pub crosses-none : t ≡ 0 → Decides false (Crosses ws n ranks m t s)
-  crosses-none e = decides-false (λ c. let q : bit_of 0 c.led.begin ≡ 1 = rw e at c.led.member in let y = bit-zero c.led.begin in omega arith)
-
   pub crosses-is : (r : ℕ) → r < 2 ^ 64 → Reached ws n ranks m t r → Decides (not (eqb (bit_and r s) 0)) (Crosses ws n ranks m t s)
   crosses-is r h f =
       reworded (decides_not (decides_eq (bit_and r s) 0))
       (λ k. let c = common r s k h in record { lower = c.0; member = c.2; led = f.only c.0 c.1 })
       (λ k z. let y = f.all k.lower k.led in let q = and_none r s z k.lower in let o = k.member in omega arith)
-
-pub some-ban : (ws : List ℕ) (n : ℕ) (ranks : List ℕ) (mem : Memory) (m s k : ℕ) → k < 32 → (r : Bool) → Decides r (Crosses ws n ranks (bit_and m (ban_at mem k).lines) (ban_at mem k).taken s) → r ≡ true
-    → KnownBarred ws n ranks mem m s
-some-ban ws n ranks mem m s k h r d e = record { row = k; small = h; has = d.yes e }
 
 -- ---- a search, and the memory after it
 module _ (ws : List ℕ) (n : ℕ) (ranks : List ℕ) (root : Bounds) (t u : ℕ) (mem : Memory) (x : Option Pair) (p : Superior ws n ranks root t u u x) (mem' : Memory) where

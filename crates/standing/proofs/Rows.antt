@@ -4,16 +4,14 @@ use mathlib.Core.Bool.{Bool, true}
 use mathlib.Core.List.{List}
 use mathlib.Core.Logic.{⊎_elim}
 use Prim.Native.Nat.{ℕ, ◌<◌}
-use native.Mathlib.Omega.{arith}
-use lib.ListN.{length, get_or, set}
+use lib.ListN.{get_or}
 use lib.Seq.{get_or-set_same, get_or-set_other}
 use Rattle.logic.specs.Tests.{Decides}
 use Rattle.logic.proofs.Decide.{holds-or-not, decides_eq}
 use Rattle.sets.specs.Sets.{Contained}
 use Rattle.sets.proofs.Words.{contained-within}
 use Rattle.standing.specs.declared.memory.Row.{Row}
-use Rattle.standing.specs.declared.memory.Memory.{Memory}
-use Rattle.standing.specs.Standing.{RightBan, RightFree, Put, Banned, Freed, FreeRow, KnownFree}
+use Rattle.standing.specs.Standing.{RightFree, Put, Freed, FreeRow}
 
 -- ---- the rows that are written
 -- What holds of the new row and of all that were there holds of all that are.
@@ -22,12 +20,6 @@ kept P rows rows' row none p r m f k h =
     ⊎_elim (λ (q : k ≡ p.place). rw (p.is, q, get_or-set_same rows p.place row none p.within) r)
     (λ (q : k ≡ p.place → ⊥). rw (p.is, get_or-set_other rows p.place k row none q) (f k h))
     (holds-or-not (decides_eq k p.place))
-
-pub ban-put : (bans free bans' : List Row) (x y x' : ℕ) (t m : ℕ) → Put bans bans' (record { taken = t; lines = m })
-    → Banned (record { bans = bans; free = free; next_ban = x; next_free = y }) (record { bans = bans'; free = free; next_ban = x'; next_free = y }) t m
-ban-put bans free bans' x y x' t m p = record {
-  right = λ ws n ranks root r b. record { bans = kept (λ w. RightBan ws n ranks root w.taken w.lines) bans bans' _ _ p b 32 r.bans; free = r.free };
-}
 
 pub free-put : (bans free free' : List Row) (x y y' : ℕ) (t m : ℕ) → Put free free' (record { taken = t; lines = m })
     → Freed (record { bans = bans; free = free; next_ban = x; next_free = y }) (record { bans = bans; free = free'; next_ban = x; next_free = y' }) t m

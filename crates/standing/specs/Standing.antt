@@ -1,5 +1,5 @@
 -- Which pairs stand, and what is remembered while that is asked of many: dominating views that were found, and sets that stand.
-use Rattle.std.specs.Prelude.{ℕ, ◌+◌, ◌*◌, ◌<◌, ◌≤◌, ◌≡◌, Bool, true, false, List, get_or, length, slice_set}
+use Rattle.std.specs.Prelude.{ℕ, ◌<◌, ◌≤◌, ◌≡◌, Bool, true, false, List, get_or, length, slice_set}
 use Rattle.std.specs.Int.Bits.{bit_and}
 use Rattle.sets.specs.declared.Pair.{Pair}
 use Rattle.sets.specs.Sets.{bit_of, Within}

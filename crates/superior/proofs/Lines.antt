@@ -1,17 +1,17 @@
 -- Why the search by lines is right. A line that counts in a view within bounds may count within them, and one that surely counts counts in it;
 -- a view that satisfies a line's body is within the bounds where it surely counts, and one that does not leads by the other lines.
 use mathlib.Core.Path.{◌≡◌, refl, sym, ◌∙◌}
-use mathlib.Core.Bool.{Bool, true, false, not}
+use mathlib.Core.Bool.{Bool, true, not}
 use mathlib.Core.List.{List}
 use mathlib.Core.Logic.{◌⊎◌, inl, inr, ⊎_elim}
-use Prim.Native.Nat.{ℕ, ◌+◌, ◌-◌, ◌*◌, ◌%◌, ◌^◌, ◌<◌, ◌≤◌}
+use Prim.Native.Nat.{ℕ, ◌+◌, ◌*◌, ◌%◌, ◌^◌, ◌<◌, ◌≤◌}
 use native.Mathlib.Nat.{eq-or-lt_of_le}
 use lib.Dec.{eqb}
 use borrow.Author.Tests.{eqb-true, eq-eqb}
 use native.Mathlib.Omega.{arith}
 use lib.Bits.{bit_and, bit_or, and_le_l}
 use Rattle.logic.specs.Tests.{Decides}
-use Rattle.logic.proofs.Decide.{clash, decides_eq, decides_not, holds-or-not, reworded}
+use Rattle.logic.proofs.Decide.{decides_eq, decides_not, holds-or-not, reworded}
 use Rattle.sets.specs.declared.Pair.{Pair}
 use Rattle.sets.specs.Sets.{bit_of, Apart, without, Lowest}
 use Rattle.sets.specs.Pairs.{Sub, join_of, minus_of}
@@ -29,10 +29,9 @@ use Rattle.bounds.proofs.Singles.{has-place}
 use Rattle.bounds.proofs.Steps.{in-into, in-out}
 use Rattle.masks.specs.Steps.{Of, Reached, Chosen, Counting}
 use Rattle.masks.proofs.Facts.{fires-or-not}
-use Rattle.masks.proofs.Booleans.{decides-false}
 use Rattle.masks.proofs.Steps.{common, has, leads-more}
 use Rattle.probe.specs.Probes.{Probed}
-use Rattle.std.specs.Prelude.{Option, Some, None, is_some}
+use Rattle.std.specs.Prelude.{Option, Some, None}
 use Rattle.superior.specs.Superiors.{ToMember, Used, Usable, Superior, Source, Taking, TakingAt, Left, Without, Hopeless, Picks}
 
 -- ---- bodies
@@ -66,10 +65,6 @@ to-more : (ws : List ℕ) (n : ℕ) (ranks : List ℕ) (L K : ℕ → Type 0) (t
 to-more ws n ranks L K t a f h = record { lower = h.lower; member = h.member; leads = leads-more ws n ranks L K f h.leads }
 
 module _ (ws : List ℕ) (n : ℕ) (ranks : List ℕ) (b : Bounds) (t usable free : ℕ) where
-  -- Bounds with nothing in them have no view.
-  pub none-void : (Sub b.lo b.hi → ⊥) → Superior ws n ranks b t usable free None
-  none-void f = record { found = λ w e. absurd (let z : ◌≡◌ {A = ℕ} 0 1 = cc in omega arith); none = λ e w v i a g x h. f (sub_trans i.lo i.hi) }
-
   module _ (s0 m0 : ℕ) (cs : Counting ws n b.hi b.lo s0) (cm : Counting ws n b.lo b.hi m0) where
     abbrev sure : ℕ
     sure = bit_and s0 usable
@@ -189,9 +184,6 @@ module _ (ws : List ℕ) (n : ℕ) (ranks : List ℕ) (b : Bounds) (t usable fre
 
 -- ---- sources
 module _ (ws : List ℕ) (n : ℕ) (ranks : List ℕ) (m among t : ℕ) where
-  pub source-outside : (a : ℕ) → bit_of among a ≡ 0 → Decides false (Source ws n ranks m among t a)
-  source-outside a z = decides-false (λ s. let k = s.0 in omega arith)
-
   pub source-decides : (a r : ℕ) → a < 64 → (bit_of among a ≡ 0 → ⊥) → r < 2 ^ 64 → Reached ws n ranks m (1 * 2 ^ a % 2 ^ 64) r → Decides (not (eqb (bit_and r t) 0)) (Source ws n ranks m among t a)
   source-decides a r l z h f =
       reworded (decides_not (decides_eq (bit_and r t) 0))
@@ -213,9 +205,6 @@ module _ (ws : List ℕ) (n : ℕ) (ranks : List ℕ) (m among t : ℕ) where
 
 -- ---- views that take a source
 module _ (ws : List ℕ) (n : ℕ) (ranks : List ℕ) (b : Bounds) (s : ℕ) where
-  pub taking-off : (a : ℕ) → bit_of s a ≡ 0 → TakingAt ws n ranks b s a None
-  taking-off a z = record { found = λ w e. absurd (let z : ◌≡◌ {A = ℕ} 0 1 = cc in omega arith); none = λ e w v i x y. absurd (omega arith) }
-
   pub taking-probed : (a : ℕ) (m : Pair) → m ≡ one_of 2 a → (c : Bounds) → c ≡ into_of b m → (r : Option Pair) → Probed ws n ranks c r → (bit_of s a ≡ 0 → ⊥) → TakingAt ws n ranks b s a r
   unfolding into_of one_of
   taking-probed a m em c ec r p z = record {
@@ -244,9 +233,6 @@ module _ (ws : List ℕ) (n : ℕ) (ranks : List ℕ) (b : Bounds) (s : ℕ) whe
     none = λ q. absurd (let z : ◌≡◌ {A = ℕ} 0 1 = cc in omega arith);
   }
 
-  pub taking-none : (k : ℕ) → 64 ≤ k → NoneTo k → Taking ws n ranks b s 64 None
-  taking-none k h f = record { found = λ w e. absurd (let z : ◌≡◌ {A = ℕ} 0 1 = cc in omega arith); none = λ e w v i a l. f w v i a (omega arith) }
-
 -- ---- the halves
 pub left_is : (ws : List ℕ) (n : ℕ) (ranks : List ℕ) (b : Bounds) (s : ℕ) (c o : Bounds) → c ≡ out_of b (record { taken = s; held = 0; denied = 0 }) → Propagated ws n ranks c o → Left ws n ranks b s o
 unfolding out_of
@@ -261,9 +247,6 @@ left_is ws n ranks b s c o e p = record {
 
     apart : (x y : ℕ) → ((a : ℕ) → bit_of x a ≡ 1 → bit_of y a ≡ 1 → ⊥) → Apart x y
     apart x y f a = by_digits (λ u v. (u ≡ 1 → v ≡ 1 → ⊥) → u + v ≤ 1) (λ g. omega arith) (λ g. omega arith) (λ g. omega arith) (λ g. absurd (g refl refl)) (bit_of x a) (bit_of y a) (bit-lt x a) (bit-lt y a) (f a)
-
-pub assumed-made : (ws : List ℕ) (n j : ℕ) (b : Bounds) (l : Masks) → l ≡ masks_at ws (n + j) → (c : Bounds) → c ≡ out_of b l.bar → {d : Bounds} → d ≡ into_of c l.need → d ≡ into_of (out_of b (masks_at ws (n + j)).bar) (masks_at ws (n + j)).need
-assumed-made ws n j b l e c f {d} g = g ∙ rw (f, e)
 
 -- The set without a member.
 pub without_is : (free j r : ℕ) → r ≡ without free (2 ^ j) → Without free j r
@@ -310,13 +293,3 @@ pub picks-near : (m e k : ℕ) → m < 2 ^ 64 → k ≤ 64 → (bit_and m e ≡ 
 picks-near m e k h g z l = record { member = λ y. (one-and m e k (low-member (bit_and m e) k (let w = and_le_l m e in omega arith) g l z)).0 }
 
 -- ---- no hope
-module _ (ws : List ℕ) (n : ℕ) (ranks : List ℕ) (b : Bounds) (m t : ℕ) where
-  pub hope-left : Hopeless ws n ranks b m t false
-  hope-left = record { none = λ e. absurd (clash e) }
-
-  pub no-hope : (s : ℕ) → Chosen (Source ws n ranks m b.hi.taken t) 64 s → (x : Option Pair) → Taking ws n ranks b s 64 x → (r : Bool) → is_some x ≡ not r → Hopeless ws n ranks b m t r
-  no-hope s so x ta r e = record { none = λ q w v i a g y h. ta.none (nil x r e q) w v i a g y (so.all a g (has w.taken b.hi.taken a i.hi.taken y, h)) }
-    where
-      nil : (x : Option Pair) (r : Bool) → is_some x ≡ not r → r ≡ true → x ≡ None
-      nil None r e q = refl
-      nil (Some w) r e q = absurd (clash (sym (rw q at e)))

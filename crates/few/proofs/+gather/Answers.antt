@@ -1,15 +1,8 @@
 use borrow.Author.Rules.{rules}
 use native.Mathlib.Omega.{arith}
 use Rattle.probe.proofs.Halves.{out-less, into_less}
-use Rattle.few.proofs.Gathering.{store-again, gathered-full, gathered-dry, gathered-view, gathered-empty, gathered-both}
-use Prim.Native.Nat.{◌<◌}
+use Rattle.few.proofs.Gathering.{store-again, gathered-view, gathered-empty, gathered-both}
 use Rattle.few.proofs.+gather.Goals as goal
-
-pub returns-then-cap-k : goal.returns-then-cap-k
-returns-then-cap-k t c = gathered-full _ _ _ _ _ _ _ (search rules) (search rules)
-
-pub returns-then-place-eq0 : goal.returns-then-place-eq0
-returns-then-place-eq0 t c = gathered-dry _ _ _ _ _ _ _ (search rules) (search rules)
 
 pub gather-j-requires : goal.gather-j-requires
 gather-j-requires t c = let h = out-less c.visit-x.ensures _ _ _ c.in-Open.is _ c.out-o.ensures in (omega (arith, c.decreases), (c.requires.0, c.requires.1, c.requires.2, c.requires.3, c.requires.4))

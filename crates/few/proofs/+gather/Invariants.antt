@@ -1,5 +1,4 @@
 use Rattle.bounds.proofs.Halves.{room}
-use Prim.Native.Nat.{◌<◌}
 use Rattle.few.proofs.+gather.Given as goal
 
 abbrev pub decreases-gather : goal.decreases-gather

@@ -1,4 +1,4 @@
-use Rattle.few.proofs.Listing.{collected-is, collected-full, collected-found, collected-nothing}
+use Rattle.few.proofs.Listing.{collected-is, collected-full, collected-nothing}
 use borrow.Author.Rules.{rules}
 use Rattle.few.proofs.collect.Goals as goal
 
@@ -7,9 +7,6 @@ returns-then-r-ne0 c = collected-is _ _ _ _ _ _ _ _ _ c.gather-r.ensures c.requi
 
 pub returns-then-r-ne0-2 : goal.returns-then-r-ne0-2
 returns-then-r-ne0-2 c = collected-full _ _ _ _ _ _ _ _ _ c.gather-r.ensures (search rules)
-
-pub returns-in-Some : goal.returns-in-Some
-returns-in-Some c = collected-found c.probe_shaved-a.ensures _ _ c.in-Some.field-0 c.in-Some.is
 
 pub returns-in-None : goal.returns-in-None
 returns-in-None c = collected-nothing c.probe_shaved-a.ensures _ _ (search rules)

@@ -1,4 +1,3 @@
-use Rattle.std.proofs.Common.{rules}
 use Rattle.few.proofs.Sorting.{putting-none, putting-next}
 use Rattle.few.proofs.put_sorted.Goals as goal
 

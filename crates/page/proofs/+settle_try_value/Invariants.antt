@@ -1,4 +1,4 @@
-use Rattle.std.proofs.Common.{◌+◌, ◌-◌, ◌*◌, ◌<◌}
+use Rattle.std.proofs.Common.{◌-◌, ◌*◌}
 use Rattle.masks.specs.Views.{MaskView}
 use Rattle.page.proofs.Search.{Trying}
 use Rattle.page.proofs.+settle_try_value.Given as goal

@@ -1,4 +1,4 @@
-use Rattle.std.proofs.Common.{◌≡◌, None, arith, rules}
+use Rattle.std.proofs.Common.{◌≡◌, None, rules}
 use Rattle.page.proofs.Branches.{branch-before, branch-barren, branch-clash, branch-open}
 use Rattle.page.proofs.branch_of.Goals as goal
 

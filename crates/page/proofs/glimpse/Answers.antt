@@ -1,4 +1,3 @@
-use Rattle.page.proofs.Branches.{found-not}
 use Rattle.page.proofs.glimpse.Goals as goal
 
 pub returns : goal.returns

@@ -1,4 +1,3 @@
-use Rattle.std.proofs.Common.{arith, length-set}
 use Rattle.page.proofs.Pages.{put_is}
 use Rattle.page.proofs.put.Goals as goal
 

@@ -1,4 +1,4 @@
-use Rattle.std.proofs.Common.{◌≡◌, Bool, ◌==◌, ◌∙◌, rules}
+use Rattle.std.proofs.Common.{◌≡◌, Bool, ◌==◌, ◌∙◌}
 use denote.Enum.Bare.{sameb}
 use Rattle.page.specs.contracts.Value.{the_type}
 use Rattle.page.specs.declared.Value.{Value}

@@ -1,25 +1,12 @@
 use mathlib.Core.Path.{refl}
 use native.Mathlib.Omega.{arith}
 use borrow.Author.Rules.{rules}
-use Rattle.standing.proofs.Attempting.{says_nothing, tried-view, tried-fallen, tried-empty, tried-void, tried-out, tried-into}
+use Rattle.standing.proofs.Attempting.{tried-fallen, tried-empty, tried-void, tried-out, tried-into}
 use Rattle.standing.proofs.Halving.{less-out, less-into, opened-anew}
-use Prim.Native.Nat.{◌<◌}
 use Rattle.standing.proofs.+attempt.Goals as goal
-
-pub returns-then-fuel-eq0 : goal.returns-then-fuel-eq0
-returns-then-fuel-eq0 t c = λ q. (q, says_nothing _ _ _ _ _)
-
-pub returns-then-stands : goal.returns-then-stands
-returns-then-stands t c = tried-view _ _ _ _ _ _ _ c.visit-x.ensures _ (search rules) _ _ c.stands.ensures (search rules)
 
 pub returns-then-not-within : goal.returns-then-not-within
 returns-then-not-within t c = tried-void _ _ _ _ _ _ _ c.visit-x.ensures _ _ _ c.in-Open.is _ c.unbanned-r.ensures _ c.within.ensures (search rules) _
-
-pub asked-m-requires : goal.asked-m-requires
-asked-m-requires t c = c.requires.0
-
-pub overflow_sub-fuel : goal.overflow_sub-fuel
-overflow_sub-fuel t c = let h = c.if-fuel-eq0.false in omega arith
 
 pub attempt-a-requires : goal.attempt-a-requires
 attempt-a-requires t c = let h = less-out _ _ _ c.args.root _ _ _ (opened-anew _ _ _ _ _ _ _ c.unbanned-r.ensures _ c.visit-x.ensures _ _ _ c.in-Open.is c.asked-m.ensures) _ _ _ refl _ c.unbanned-r.ensures _ c.out-o.ensures in (omega (arith, c.decreases), c.requires)
@@ -35,9 +22,6 @@ returns-in-Empty t c = tried-empty _ _ _ _ _ _ _ c.visit-x.ensures (search rules
 
 pub returns-in-Has : goal.returns-in-Has
 returns-in-Has t c = tried-out _ _ _ _ _ _ _ (opened-anew _ _ _ _ _ _ _ c.unbanned-r.ensures _ c.visit-x.ensures _ _ _ c.in-Open.is c.asked-m.ensures) _ _ _ refl _ c.unbanned-r.ensures _ c.out-o.ensures _ _ c.attempt-a.ensures _ (search rules)
-
-pub returns-in-Stopped : goal.returns-in-Stopped
-returns-in-Stopped t c = λ q. ((c.attempt-a.ensures q).0, says_nothing _ _ _ _ _)
 
 pub returns-in-Lacks : goal.returns-in-Lacks
 returns-in-Lacks t c = tried-into _ _ _ _ _ _ _ (opened-anew _ _ _ _ _ _ _ c.unbanned-r.ensures _ c.visit-x.ensures _ _ _ c.in-Open.is c.asked-m.ensures) _ _ _ refl _ c.unbanned-r.ensures _ c.out-o.ensures _ _ c.attempt-a.ensures _ c.in-Lacks.is _ c.into-p.ensures _ _ c.attempt.ensures

@@ -1,5 +1,4 @@
 use Rattle.bounds.proofs.Halves.{room}
-use Prim.Native.Nat.{◌<◌}
 use Rattle.standing.proofs.+attempt.Given as goal
 
 abbrev pub decreases-attempt : goal.decreases-attempt

@@ -2,14 +2,10 @@ use mathlib.Core.Path.{refl}
 use native.Mathlib.Omega.{arith}
 use borrow.Author.Rules.{rules}
 use Rattle.standing.proofs.Halving.{told-view, told-empty, told-void, told-out, told-into, less-out, less-into, opened-anew}
-use Prim.Native.Nat.{◌<◌}
 use Rattle.standing.proofs.+search.Goals as goal
 
 pub returns-then-not-within : goal.returns-then-not-within
 returns-then-not-within t c = told-void _ _ _ _ _ _ _ c.visit-x.ensures _ _ _ c.in-Open.is _ c.unbanned-r.ensures _ c.within.ensures (search rules)
-
-pub asked-m-requires : goal.asked-m-requires
-asked-m-requires t c = c.requires.0
 
 pub search-requires : goal.search-requires
 search-requires t c = let h = less-out _ _ _ c.args.root _ _ _ (opened-anew _ _ _ _ _ _ _ c.unbanned-r.ensures _ c.visit-x.ensures _ _ _ c.in-Open.is c.asked-m.ensures) _ _ _ refl _ c.unbanned-r.ensures _ c.out-o.ensures in (omega (arith, c.decreases), c.requires)

@@ -1,5 +1,4 @@
 use Rattle.bounds.proofs.Halves.{room}
-use Prim.Native.Nat.{◌<◌}
 use Rattle.standing.proofs.+search.Given as goal
 
 abbrev pub decreases-search : goal.decreases-search

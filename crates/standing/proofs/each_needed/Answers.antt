@@ -1,11 +1,6 @@
 use borrow.Author.Rules.{rules}
-use native.Mathlib.Omega.{arith}
-use Rattle.standing.proofs.Below.{so-far-none, so-far-turn, so-far-lost, so-far-all}
-use Prim.Native.Nat.{◌-◌, ◌≤◌}
+use Rattle.standing.proofs.Below.{so-far-turn, so-far-lost, so-far-all}
 use Rattle.standing.proofs.each_needed.Goals as goal
-
-pub loop-e-init : goal.loop-e-init
-loop-e-init c = so-far-none _ _ _ _ _ _ _
 
 pub returns-then-not-unexceeded_at : goal.returns-then-not-unexceeded_at
 returns-then-not-unexceeded_at c = so-far-lost _ _ _ _ _ _ _ _ _ c.loop-e.invariant _ _ c.unexceeded_at.ensures (search rules)

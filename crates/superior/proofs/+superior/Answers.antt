@@ -1,8 +1,6 @@
 use borrow.Author.Rules.{rules}
-use Rattle.masks.proofs.Booleans.{refused}
 use native.Mathlib.Omega.{arith}
-use Rattle.superior.proofs.Lines.{none-void, none-far, found-source, none-sure, none-hopeless, found-inner, both_halves, low-line, without_is}
-use Prim.Native.Nat.{◌<◌}
+use Rattle.superior.proofs.Lines.{none-far, found-source, none-sure, none-hopeless, found-inner, both_halves, low-line, without_is}
 use Rattle.superior.proofs.+superior.Goals as goal
 
 pub returns-then-far-t-eq0 : goal.returns-then-far-t-eq0

@@ -1,4 +1,3 @@
-use Prim.Native.Nat.{◌<◌}
 use Rattle.superior.proofs.+superior.Given as goal
 
 abbrev pub decreases-superior : goal.decreases-superior

@@ -1,11 +1,5 @@
-use Rattle.standing.proofs.Barring.{leaves_all, leaves-turn}
+use Rattle.standing.proofs.Barring.{leaves-turn}
 use Rattle.standing.proofs.bans.by_bans.Goals as goal
-
-pub returns-then-mem-eq0 : goal.returns-then-mem-eq0
-returns-then-mem-eq0 c = leaves_all _ _ _ _ _
-
-pub loop-ban-init : goal.loop-ban-init
-loop-ban-init c = leaves_all _ _ _ _ _
 
 pub returns-then-not-within : goal.returns-then-not-within
 returns-then-not-within c = leaves-turn _ _ _ _ _ _ _ c.lines_in-sure.ensures c.loop-ban-test.true _ _ c.loop-ban.invariant c.by_ban-o.ensures
