@@ -24,7 +24,7 @@ use Rattle.page.specs.Pages.{Page}
 use Rattle.page.proofs.Pages.{flat-length}
 use Rattle.meaning.specs.Books.{Book}
 use Rattle.meaning.specs.Meant.{book_of}
-use Rattle.meaning.specs.Order.{Point, start, at, LawfulPoint, AllLater}
+use Rattle.meaning.specs.Order.{Point, LawfulPoint, AllLater}
 use Rattle.meaning.specs.Twins.Next.{page_from}
 use Rattle.meaning.proofs.Meant.{exceptions-count}
 use Rattle.meaning.proofs.Pages.{page-is}
@@ -34,7 +34,7 @@ use Rattle.resolution.proofs.Resolutions.{rooted}
 use Rattle.judge.specs.Judged.{Judged}
 use Rattle.sifting.specs.Sifted.{Serves}
 use Rattle.walk.specs.Walks.{beginning, Paged}
-use Rattle.engine.specs.Loaded.{Loaded, RootIs, VerdictIs, PageIs}
+use Rattle.engine.specs.Loaded.{Loaded, RootIs, VerdictIs, PageIs, since}
 
 -- The ranks of the book's own exceptions are ranks of the book, so what is answered by them is answered by all.
 module _ (s : Shape) (ranks own : List ℕ) (e : own ≡ take s.exceptions ranks) (limits : InLimits s) (long : length ranks ≡ limit.exceptions) where
@@ -102,10 +102,7 @@ module _ (s : Shape) (ws ranks : List ℕ) (root : Bounds) (q : Task) (i : RootI
       filled = λ rows l p. let d = f.page (book_of s rows) (serves rows l) (few rows) p in page-filled (book_of s rows) (beginning a q) o o' r q.room em d.0 d.1 p d.2;
     }
 
-    pub first-is : Paged ws ranks root q s.exceptions false o o' r → PageIs s ws ranks start o o' r
+    pub page_is : (a : Bool) → Paged ws ranks root q s.exceptions a o o' r → PageIs s ws ranks (since a q.point) o o' r
     unfolding beginning
-    first-is f = pages-are false f
-
-    pub after_is : Paged ws ranks root q s.exceptions true o o' r → PageIs s ws ranks (at q.point) o o' r
-    unfolding beginning
-    after_is f = pages-are true f
+    page_is false f = pages-are false f
+    page_is true f = pages-are true f

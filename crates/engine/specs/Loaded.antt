@@ -1,5 +1,5 @@
 -- A book as it is prepared for the search, and what is answered of it.
-use Rattle.std.specs.Prelude.{ℕ, ◌/◌, ◌≡◌, List, ℤ, length}
+use Rattle.std.specs.Prelude.{ℕ, ◌/◌, ◌≡◌, Bool, true, false, List, ℤ, length}
 use Rattle.sets.specs.declared.Pair.{Pair}
 use Rattle.sets.specs.Pairs.{flat}
 use Rattle.book.specs.declared.Shape.{Shape}
@@ -7,7 +7,7 @@ use Rattle.book.specs.Counts.{InLimits}
 use Rattle.text.specs.Reading.{over}
 use Rattle.meaning.specs.Books.{Lawful}
 use Rattle.meaning.specs.Meant.{book_of}
-use Rattle.meaning.specs.Order.{Point, LawfulPoint}
+use Rattle.meaning.specs.Order.{Point, start, at, LawfulPoint}
 use Rattle.meaning.specs.Twins.Verdicts.{verdict}
 use Rattle.meaning.specs.Twins.Next.{page_from}
 use Rattle.masks.specs.declared.Bounds.{Bounds}
@@ -30,6 +30,11 @@ pub record VerdictIs (s : Shape) (ws ranks : List ℕ) (p : Pair) (r : ℕ) : Ty
 pub record PageIs (s : Shape) (ws ranks : List ℕ) (from : Point) (o o' : List ℕ) (r : ℕ) : Type 0 where
   pub count : (rows : List ℤ) → Loaded s rows ws ranks → LawfulPoint (book_of s rows) from → r ≡ length (page_from (book_of s rows) (length o / 3) from)
   pub filled : (rows : List ℤ) → Loaded s rows ws ranks → LawfulPoint (book_of s rows) from → o' ≡ over o (flat (page_from (book_of s rows) (length o / 3) from))
+
+-- Where a page begins: before the first pair, or after the point.
+abbrev pub since : Bool → Pair → Point
+since false p = start
+since true p = at p
 
 -- The bounds have the book's views.
 pub record RootIs (s : Shape) (ws ranks : List ℕ) (root : Bounds) : Type 0 where

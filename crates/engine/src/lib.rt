@@ -5,7 +5,8 @@ ghost use Rattle.std.specs.Prelude.{◌+◌, ◌^◌, ◌<◌, ◌≤◌, length
 ghost use Rattle.book.specs.Counts.{InLimits};
 ghost use Rattle.meaning.specs.Order.{start, at as at_pair};
 ghost use Rattle.queue.specs.Chains.{Chains};
-ghost use Rattle.engine.specs.Loaded.{RootIs, VerdictIs, PageIs};
+ghost use Rattle.bridge.specs.Rows.{rule_count};
+ghost use Rattle.engine.specs.Loaded.{RootIs, VerdictIs, PageIs, since};
 
 use book::{Book, Shape};
 use masks::Bounds;
@@ -28,15 +29,32 @@ fn own<'a>(ranks: &'a [u64], x: usize) -> &'a [u64]
     &ranks[..x]
 }
 
+// How many rules a book has.
+fn rules(s: Shape) -> usize
+    requires { InLimits s }
+    ensures { result ≡ rule_count s }
+{
+    s.plain + s.alternatives + s.exceptions
+}
+
 // The bounds of the book's views, where every search begins.
 pub fn root_of(words: &Words, ranks: &[u64], index: &Index, s: Shape) -> Bounds
-    requires { InLimits s × (length ranks.now ≤ 64) × Chains words.now (s.plain + s.alternatives + s.exceptions) index.now }
+    requires { InLimits s × (length ranks.now ≤ 64) × Chains words.now (rule_count s) index.now }
     ensures { RootIs s words.now ranks.now result }
 {
-    let n = s.plain + s.alternatives + s.exceptions;
     let b = prepare::root(s);
-    let rest = queue::propagate(words, n, ranks, index, waiting::all(), b);
+    let rest = queue::propagate(words, rules(s), ranks, index, waiting::all(), b);
     rest.bounds
+}
+
+// Those bounds, after the index of the book's rules was filled.
+fn begun(words: &Words, own: &[u64], s: Shape, index: &mut Index) -> Bounds
+    requires { InLimits s × (length own.now ≤ 64) }
+    ensures chains { Chains words.now (rule_count s) index.new }
+    ensures root { RootIs s words.now own.now result }
+{
+    index::fill(words, rules(s), index);
+    root_of(words, own, index, s)
 }
 
 // The verdict on a lawful pair of a prepared book.
@@ -44,12 +62,34 @@ pub fn verdict_in(words: &Words, ranks: &Ranks, s: Shape, p: Pair) -> u32
     requires { InLimits s }
     ensures { VerdictIs s words.now ranks.now p result }
 {
-    let n = s.plain + s.alternatives + s.exceptions;
-    let mut index = [0u64; index::LENGTH];
-    index::fill(words, n, &mut index);
     let own = own(ranks, s.exceptions);
-    let root = root_of(words, own, &index, s);
-    judge::verdict(words, n, own, &index, root, p)
+    let mut index = [0u64; index::LENGTH];
+    let root = begun(words, own, s, &mut index);
+    judge::verdict(words, rules(s), own, &index, root, p).number()
+}
+
+// The first resolutions of a prepared book; where `after` is true the first later than the point. As many as the lent slice has room for.
+fn page_in(
+    words: &Words,
+    ranks: &Ranks,
+    s: Shape,
+    point: Pair,
+    after: bool,
+    out: &mut [u64],
+) -> usize
+    requires { InLimits s × (point.taken < 2 ^ s.exceptions) }
+    ensures { PageIs s words.now ranks.now (since after point) out.old out.new result }
+{
+    let own = own(ranks, s.exceptions);
+    let mut index = [0u64; index::LENGTH];
+    let root = begun(words, own, s, &mut index);
+    let task = Task {
+        rules: rules(s),
+        statements: s.statements as u64,
+        room: out.len() / 3,
+        point,
+    };
+    walk::page(words, own, &index, root, s.exceptions, task, after, out)
 }
 
 // The first resolutions of a prepared book, as many as the lent slice has room for.
@@ -57,22 +97,7 @@ pub fn first_in(words: &Words, ranks: &Ranks, s: Shape, out: &mut [u64]) -> usiz
     requires { InLimits s }
     ensures { PageIs s words.now ranks.now start out.old out.new result }
 {
-    let rules = s.plain + s.alternatives + s.exceptions;
-    let mut index = [0u64; index::LENGTH];
-    index::fill(words, rules, &mut index);
-    let own = own(ranks, s.exceptions);
-    let root = root_of(words, own, &index, s);
-    let task = Task {
-        rules,
-        statements: s.statements as u64,
-        room: out.len() / 3,
-        point: Pair {
-            taken: 0,
-            held: 0,
-            denied: 0,
-        },
-    };
-    walk::page(words, own, &index, root, s.exceptions, task, false, out)
+    page_in(words, ranks, s, Pair::EMPTY, false, out)
 }
 
 // The first resolutions later than a pair that is lawful in the prepared book.
@@ -80,16 +105,5 @@ pub fn after_in(words: &Words, ranks: &Ranks, s: Shape, p: Pair, out: &mut [u64]
     requires { InLimits s × (p.taken < 2 ^ s.exceptions) }
     ensures { PageIs s words.now ranks.now (at_pair p) out.old out.new result }
 {
-    let rules = s.plain + s.alternatives + s.exceptions;
-    let mut index = [0u64; index::LENGTH];
-    index::fill(words, rules, &mut index);
-    let own = own(ranks, s.exceptions);
-    let root = root_of(words, own, &index, s);
-    let task = Task {
-        rules,
-        statements: s.statements as u64,
-        room: out.len() / 3,
-        point: p,
-    };
-    walk::page(words, own, &index, root, s.exceptions, task, true, out)
+    page_in(words, ranks, s, p, true, out)
 }

@@ -21,7 +21,7 @@ pub fn undominated(
     requires { ((n + 32) * 8 ≤ length words.now) × (length ranks.now ≤ 64) × Chains words.now n index.now }
     ensures { Decides result (Stands words.now n ranks.now root p) }
 {
-    let mut memory = [0u64; memory::LENGTH];
+    let mut memory = memory::nothing();
     standing::stands(words, n, ranks, index, root, &mut memory, p)
 }
 
@@ -38,6 +38,6 @@ pub fn minimal(
     requires { ((n + 32) * 8 ≤ length words.now) × (length ranks.now ≤ 64) × Chains words.now n index.now }
     ensures { Decides result (Unexceeded words.now n ranks.now root taken) }
 {
-    let mut memory = [0u64; memory::LENGTH];
+    let mut memory = memory::nothing();
     standing::unexceeded(words, n, ranks, index, root, &mut memory, taken)
 }

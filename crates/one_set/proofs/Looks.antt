@@ -10,13 +10,14 @@ use Rattle.admissible.specs.Admissible.{Stands}
 use Rattle.probe.specs.declared.Outcome.{Outcome}
 use Rattle.probe.specs.declared.Outcome.TheVariants.{Has, Lacks}
 use Rattle.ranges.specs.Ranges.{NoView}
+use Rattle.standing.specs.declared.memory.Memory.{Memory}
 use Rattle.standing.specs.Standing.{Right, StandingIn, AttemptedIn}
 use Rattle.one_set.specs.Plans.{MarksRight, NoneStands, Looked}
 use Rattle.one_set.proofs.Plans.{marks-same, in_bounds, propagated-in}
 
-module _ (ws : List ℕ) (n : ℕ) (ranks : List ℕ) (root : Bounds) (t : ℕ) (m w : List ℕ) where
+module _ (ws : List ℕ) (n : ℕ) (ranks : List ℕ) (root : Bounds) (t : ℕ) (m : List ℕ) (w : Memory) where
   -- Nothing was seen.
-  looked-none : (m' w' : List ℕ) → MarksRight ws n ranks root m m' → (Right ws n ranks root w → Right ws n ranks root w') → (Right ws n ranks root w → NoneStands ws n ranks root t)
+  looked-none : (m' : List ℕ) (w' : Memory) → MarksRight ws n ranks root m m' → (Right ws n ranks root w → Right ws n ranks root w') → (Right ws n ranks root w → NoneStands ws n ranks root t)
       → Looked ws n ranks root t m m' w w' None
   looked-none m' w' k f g = record { marks = k; memory = f; none = λ q d. g q; some = λ c q d. cc; bounds = λ c d. cc }
 
@@ -35,20 +36,20 @@ module _ (ws : List ℕ) (n : ℕ) (ranks : List ℕ) (root : Bounds) (t : ℕ) 
         → Looked ws n ranks root t m m w w None
     looked-barred z f ez = looked-none m w (marks-same ws n ranks root m) (λ q. q) (λ q. none_has (f q ez))
 
-    module _ (w' : List ℕ) (a : Outcome) (f : Right ws n ranks root w → Right ws n ranks root w' × AttemptedIn ws n ranks root o a) where
+    module _ (w' : Memory) (a : Outcome) (f : Right ws n ranks root w → Right ws n ranks root w' × AttemptedIn ws n ranks root o a) where
       pub looked-lacks : (left : ℕ) → a ≡ Lacks left → Looked ws n ranks root t m m w w' None
       looked-lacks left ea = looked-none m w' (marks-same ws n ranks root m) (λ q. (f q).0) (λ q. none_has ((f q).1.none left ea))
 
       -- The search stopped, and another look was taken.
-      pub looked-again : (m' w'' : List ℕ) (r : Option Rest) → Looked ws n ranks root t m m' w' w'' r → Looked ws n ranks root t m m' w w'' r
+      pub looked-again : (m' : List ℕ) (w'' : Memory) (r : Option Rest) → Looked ws n ranks root t m m' w' w'' r → Looked ws n ranks root t m m' w w'' r
       looked-again m' w'' r l = record { marks = l.marks; memory = λ q. l.memory (f q).0; none = λ q. l.none (f q).0; some = λ c q. l.some c (f q).0; bounds = l.bounds }
 
-    module _ (w' : List ℕ) (z : Bool) (f : Right ws n ranks root w → Right ws n ranks root w' × StandingIn ws n ranks root o z) where
+    module _ (w' : Memory) (z : Bool) (f : Right ws n ranks root w → Right ws n ranks root w' × StandingIn ws n ranks root o z) where
       pub looked-fallen : z ≡ false → Looked ws n ranks root t m m w w' None
       looked-fallen ez = looked-none m w' (marks-same ws n ranks root m) (λ q. (f q).0) (λ q. none_has ((f q).1.none ez))
 
   -- One was seen, within bounds o that are no wider than those at rest.
-  module _ (r : Rest) (p : Propagated ws n ranks (with_sets root t t) r.bounds) (w' : List ℕ) where
+  module _ (r : Rest) (p : Propagated ws n ranks (with_sets root t t) r.bounds) (w' : Memory) where
     looked-some : (Right ws n ranks root w → Right ws n ranks root w') → (Right ws n ranks root w → (v : Pair) × MaskView ws n ranks v × In r.bounds v) → Looked ws n ranks root t m m w w' (Some r)
     looked-some f g = record {
       marks = marks-same ws n ranks root m;

@@ -29,6 +29,7 @@ use Rattle.bridge.proofs.Views.{view-same}
 use Rattle.resolution.proofs.Resolutions.{resolution-stands, undominated-stands}
 use Rattle.marking.specs.Marks.{IsMarked, Struck, Marked, NoneAt, RightMarks, all_ones, Surpassed}
 use Rattle.ranges.specs.Ranges.{NoView}
+use Rattle.standing.specs.declared.memory.Memory.{Memory}
 use Rattle.standing.specs.Standing.{Right, StandingView}
 use Rattle.sifting.specs.Sifted.{Serves, Asked, AllSifted}
 use Rattle.one_set.specs.declared.Views.{Views}
@@ -37,7 +38,7 @@ use Rattle.one_set.proofs.Plans.{none_within, free-standing, surpassed-full, sur
 
 -- ---- a set that no resolution has
 module _ (ws ranks : List ℕ) (root : Bounds) (q : Task) (t : ℕ) (after known : Bool) (H : Type 0) (k : ℕ) (m m' o : List ℕ) (h : k ≤ q.room) where
-  pub set-none : (w w' : List ℕ) → MarksRight ws q.rules ranks root m m' → (Right ws q.rules ranks root w → Right ws q.rules ranks root w')
+  pub set-none : (w w' : Memory) → MarksRight ws q.rules ranks root m m' → (Right ws q.rules ranks root w → Right ws q.rules ranks root w')
       → ((b : Book) → Serves b ws ranks root q → Right ws q.rules ranks root w → known ≡ true → Full ws q.rules ranks root m → Told ws q.rules ranks root m' t)
       → ((b : Book) → Serves b ws ranks root q → Right ws q.rules ranks root w → RightMarks b m → NoneAt b t) → SetListed ws ranks root q t after known H k m m' w w' o o k
   set-none w w' a y f n = record {
@@ -52,14 +53,14 @@ module _ (ws ranks : List ℕ) (root : Bounds) (q : Task) (t : ℕ) (after known
   }
 
   -- It has no view.
-  pub set-viewless : (w : List ℕ) → MarksRight ws q.rules ranks root m m' → NoView ws q.rules ranks root t t → SetListed ws ranks root q t after known H k m m' w w o o k
+  pub set-viewless : (w : Memory) → MarksRight ws q.rules ranks root m m' → NoView ws q.rules ranks root t t → SetListed ws ranks root q t after known H k m m' w w o o k
   set-viewless w a n =
       set-none w w a (λ r. r) (λ b s r e f. told_none ws q.rules ranks root t t n m' t (λ i. le_refl _) (λ i. le_refl _))
       (λ b s r x. none_within b ws q.rules ranks root s.rooted t t n t (λ i. le_refl _) (λ i. le_refl _))
 
 -- ---- in a book without Q lines
 module _ (ws ranks : List ℕ) (root : Bounds) (q : Task) (u : Lined ws q.rules → ⊥) (t : ℕ) (after known : Bool) (k : ℕ) (m m₁ m' : List ℕ) (cap : ℕ) (store : List ℕ) (r₁ : Option Views) (g : Views)
-    (c : Gathered ws q.rules ranks root t cap m m₁ store r₁) (ok : r₁ ≡ Some g) (z : Bool) (a : Admits ws q.rules ranks root t known m₁ m' z) (o : List ℕ) (w : List ℕ) where
+    (c : Gathered ws q.rules ranks root t cap m m₁ store r₁) (ok : r₁ ≡ Some g) (z : Bool) (a : Admits ws q.rules ranks root t known m₁ m' z) (o : List ℕ) (w : Memory) where
   abbrev H : Type 0
   H = Rests ws q.rules ranks root t known m
 
@@ -138,7 +139,7 @@ none-taken (suc c) [] = omega arith
 none-taken (suc c) (y ∷ ys) = let h = none-taken c ys in omega arith
 
 -- The views that stand.
-module _ (ws ranks : List ℕ) (root : Bounds) (q : Task) (t : ℕ) (c : Bounds) (after : Bool) (k : ℕ) (w w' o o' : List ℕ) (r : ℕ) (l : AllSifted ws ranks root q t c after k w w' o o' r)
+module _ (ws ranks : List ℕ) (root : Bounds) (q : Task) (t : ℕ) (c : Bounds) (after : Bool) (k : ℕ) (w w' : Memory) (o o' : List ℕ) (r : ℕ) (l : AllSifted ws ranks root q t c after k w w' o o' r)
     (v : HasView ws q.rules ranks root t) (p : Propagated ws q.rules ranks (with_sets root t t) c) (m : List ℕ) where
   abbrev U : Type 0
   U = Unexceeded ws q.rules ranks root t
@@ -227,7 +228,7 @@ module _ (ws ranks : List ℕ) (root : Bounds) (q : Task) (t : ℕ) (c : Bounds)
         found b s y = let g = listed b s y in first b s g.0 g.1.count g.2
 
 -- What is so of the page and the marks in any case.
-module _ (ws ranks : List ℕ) (root : Bounds) (q : Task) (t : ℕ) (c : Bounds) (after : Bool) (k : ℕ) (w w' o o' : List ℕ) (r : ℕ) (l : AllSifted ws ranks root q t c after k w w' o o' r) (m m' : List ℕ) where
+module _ (ws ranks : List ℕ) (root : Bounds) (q : Task) (t : ℕ) (c : Bounds) (after : Bool) (k : ℕ) (w w' : Memory) (o o' : List ℕ) (r : ℕ) (l : AllSifted ws ranks root q t c after k w w' o o' r) (m m' : List ℕ) where
   abbrev Opens : Type 0
   Opens = HasView ws q.rules ranks root t → Propagated ws q.rules ranks (with_sets root t t) c → SetListed ws ranks root q t after true (Unexceeded ws q.rules ranks root t) k m m' w w' o o' r
 
@@ -238,7 +239,7 @@ module _ (ws ranks : List ℕ) (root : Bounds) (q : Task) (t : ℕ) (c : Bounds)
   opened-marked x f = record { most = l.most; kept = x.marked.stays; same = x.marked.same; full = surpassed-full ws q.rules ranks root t m m' x; listed = f }
 
 -- ---- a set of such a book
-module _ (ws ranks : List ℕ) (root : Bounds) (q : Task) (t : ℕ) (after known : Bool) (k : ℕ) (h : k ≤ q.room) (m o w : List ℕ) where
+module _ (ws ranks : List ℕ) (root : Bounds) (q : Task) (t : ℕ) (after known : Bool) (k : ℕ) (h : k ≤ q.room) (m o : List ℕ) (w : Memory) where
   abbrev Known : Type 0
   Known = Rests ws q.rules ranks root t known m
 
@@ -247,18 +248,18 @@ module _ (ws ranks : List ℕ) (root : Bounds) (q : Task) (t : ℕ) (after known
   lined-marked x = set-none ws ranks root q t after known Known k m m o h w w (marks-same ws q.rules ranks root m) (λ r. r) (λ b s r e f. f.told t x) (λ b s r y. y.right t x)
 
   -- No view that has it stands.
-  pub lined-none : (w' m₁ : List ℕ) → MarksRight ws q.rules ranks root m m₁ → (Right ws q.rules ranks root w → Right ws q.rules ranks root w') → (Right ws q.rules ranks root w → NoneStands ws q.rules ranks root t)
+  pub lined-none : (w' : Memory) (m₁ : List ℕ) → MarksRight ws q.rules ranks root m m₁ → (Right ws q.rules ranks root w → Right ws q.rules ranks root w') → (Right ws q.rules ranks root w → NoneStands ws q.rules ranks root t)
       → SetListed ws ranks root q t after known Known k m m₁ w w' o o k
   lined-none w' m₁ a y f =
       set-none ws ranks root q t after known Known k m m₁ o h w w' a y (λ b s r e g. record { above = λ v x i z d. absurd ((f r).none v x i d z) })
       (λ b s r g. record { none = λ p x d. let i = s.rooted.holds p x.view in (f r).none p i.0 i.1 d ((resolution-stands b ws q.rules ranks root s.rooted p).1 x).1 })
 
-  module _ (m₁ w₀ : List ℕ) (g : Option Rest) (c : Looked ws q.rules ranks root t m m₁ w w₀ g) where
+  module _ (m₁ : List ℕ) (w₀ : Memory) (g : Option Rest) (c : Looked ws q.rules ranks root t m m₁ w w₀ g) where
     -- No such view was seen.
     pub lined-unseen : g ≡ None → SetListed ws ranks root q t after known Known k m m₁ w w₀ o o k
     lined-unseen e = lined-none w₀ m₁ c.marks c.memory (λ r. c.none r e)
 
-    module _ (rest : Rest) (ok : g ≡ Some rest) (w₁ : List ℕ) (z : Bool) (x : NoneBelow ws q.rules ranks root t known w₀ w₁ z) where
+    module _ (rest : Rest) (ok : g ≡ Some rest) (w₁ : Memory) (z : Bool) (x : NoneBelow ws q.rules ranks root t known w₀ w₁ z) where
       -- A view that stands has a proper subset.
       pub lined-exceeded : not z ≡ true → (m' : List ℕ) → Marked m₁ (Struck (record { lo = t; hi = all_ones; but = 0; any = 0 })) m' → SetListed ws ranks root q t after known Known k m m' w w₁ o o k
       lined-exceeded e m' y = record {
@@ -279,7 +280,7 @@ module _ (ws ranks : List ℕ) (root : Bounds) (q : Task) (t : ℕ) (after known
           fails r = (x.test (c.memory r) unknown).no (not-true z e)
 
       -- The views that stand are put on the page.
-      pub lined-open : not z ≡ false → (IsMarked m t → ⊥) → (m' w' o' : List ℕ) (r : ℕ) → OpenListed ws ranks root q t rest.bounds after k m₁ m' w₁ w' o o' r
+      pub lined-open : not z ≡ false → (IsMarked m t → ⊥) → (m' : List ℕ) (w' : Memory) (o' : List ℕ) (r : ℕ) → OpenListed ws ranks root q t rest.bounds after k m₁ m' w₁ w' o o' r
           → SetListed ws ranks root q t after known Known k m m' w w' o o' r
       lined-open e n m' w' o' r l = record {
         most = l.most;
@@ -302,9 +303,9 @@ module _ (ws ranks : List ℕ) (root : Bounds) (q : Task) (t : ℕ) (after known
           below i f = ⊎_elim (λ d. f d n) (λ d. (x.test (c.memory i) d).yes (not-false z e)) (either_way known)
 
 -- ---- none below
-module _ (ws : List ℕ) (n : ℕ) (ranks : List ℕ) (root : Bounds) (t : ℕ) (known : Bool) (w : List ℕ) where
+module _ (ws : List ℕ) (n : ℕ) (ranks : List ℕ) (root : Bounds) (t : ℕ) (known : Bool) (w : Memory) where
   pub below-known : known ≡ true → NoneBelow ws n ranks root t known w w true
   below-known e = record { memory = λ r. r; sure = λ d. refl; test = λ r d. absurd (clash (sym d ∙ e)) }
 
-  pub below-tested : known ≡ false → (w' : List ℕ) (z : Bool) → (Right ws n ranks root w → Right ws n ranks root w' × Decides z (Unexceeded ws n ranks root t)) → NoneBelow ws n ranks root t known w w' z
+  pub below-tested : known ≡ false → (w' : Memory) (z : Bool) → (Right ws n ranks root w → Right ws n ranks root w' × Decides z (Unexceeded ws n ranks root t)) → NoneBelow ws n ranks root t known w w' z
   below-tested e w' z f = record { memory = λ r. (f r).0; sure = λ d. absurd (clash (sym e ∙ d)); test = λ r d. (f r).1 }

@@ -18,6 +18,7 @@ use Rattle.meaning.proofs.Parts.{Part}
 use Rattle.resolution.specs.Rooted.{Rooted}
 use Rattle.marking.specs.Marks.{marks_in, IsMarked, NoneAt, RightMarks}
 use Rattle.ranges.specs.Ranges.{NoView}
+use Rattle.standing.specs.declared.memory.Memory.{Memory}
 use Rattle.standing.specs.Standing.{Right}
 use Rattle.sifting.specs.Sifted.{Serves}
 use Rattle.one_set.specs.declared.Views.{Views}
@@ -69,7 +70,7 @@ pub record NoneStands (ws : List ℕ) (n : ℕ) (ranks : List ℕ) (root : Bound
 
 -- In a book with Q lines: whether a view with the set t stands, if what is remembered is right; where one does, all views with the set are within the bounds
 -- at rest. Marks and memory stay right.
-pub record Looked (ws : List ℕ) (n : ℕ) (ranks : List ℕ) (root : Bounds) (t : ℕ) (m m' w w' : List ℕ) (r : Option Rest) : Type 0 where
+pub record Looked (ws : List ℕ) (n : ℕ) (ranks : List ℕ) (root : Bounds) (t : ℕ) (m m' : List ℕ) (w w' : Memory) (r : Option Rest) : Type 0 where
   pub marks : MarksRight ws n ranks root m m'
   pub memory : Right ws n ranks root w → Right ws n ranks root w'
   pub none : Right ws n ranks root w → r ≡ None → NoneStands ws n ranks root t
@@ -77,14 +78,14 @@ pub record Looked (ws : List ℕ) (n : ℕ) (ranks : List ℕ) (root : Bounds) (
   pub bounds : (c : Rest) → r ≡ Some c → Propagated ws n ranks (with_sets root t t) c.bounds
 
 -- In a book with Q lines: whether no view that stands has a proper subset of t, as far as that is not known.
-pub record NoneBelow (ws : List ℕ) (n : ℕ) (ranks : List ℕ) (root : Bounds) (t : ℕ) (known : Bool) (w w' : List ℕ) (r : Bool) : Type 0 where
+pub record NoneBelow (ws : List ℕ) (n : ℕ) (ranks : List ℕ) (root : Bounds) (t : ℕ) (known : Bool) (w w' : Memory) (r : Bool) : Type 0 where
   pub memory : Right ws n ranks root w → Right ws n ranks root w'
   pub sure : known ≡ true → r ≡ true
   pub test : Right ws n ranks root w → known ≡ false → Decides r (Unexceeded ws n ranks root t)
 
 -- One set of exceptions: the page of the resolutions that have it and are later than the point, if H holds of its proper subsets. Marks and memory stay
 -- right, and where every set before it has been walked, all its resolutions were asked for and there was room, the marks tell of it.
-pub record SetListed (ws ranks : List ℕ) (root : Bounds) (q : Task) (t : ℕ) (after known : Bool) (H : Type 0) (k : ℕ) (m m' w w' o o' : List ℕ) (r : ℕ) : Type 0 where
+pub record SetListed (ws ranks : List ℕ) (root : Bounds) (q : Task) (t : ℕ) (after known : Bool) (H : Type 0) (k : ℕ) (m m' : List ℕ) (w w' : Memory) (o o' : List ℕ) (r : ℕ) : Type 0 where
   pub most : r ≤ q.room
   pub kept : (u : ℕ) → IsMarked m u → IsMarked m' u
   pub same : length m' ≡ length m
@@ -97,7 +98,7 @@ pub record SetListed (ws ranks : List ℕ) (root : Bounds) (q : Task) (t : ℕ) 
       → (ys : List Pair) × Page q.room k o o' ys r × Part b from (λ p. p.taken ≡ t) ys
 
 -- The same, if the bounds at rest have all views with the set, of which there is one; but of the page's length and of what is marked in any case.
-pub record OpenListed (ws ranks : List ℕ) (root : Bounds) (q : Task) (t : ℕ) (c : Bounds) (after : Bool) (k : ℕ) (m m' w w' o o' : List ℕ) (r : ℕ) : Type 0 where
+pub record OpenListed (ws ranks : List ℕ) (root : Bounds) (q : Task) (t : ℕ) (c : Bounds) (after : Bool) (k : ℕ) (m m' : List ℕ) (w w' : Memory) (o o' : List ℕ) (r : ℕ) : Type 0 where
   pub most : r ≤ q.room
   pub kept : (u : ℕ) → IsMarked m u → IsMarked m' u
   pub same : length m' ≡ length m

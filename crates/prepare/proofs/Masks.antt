@@ -18,6 +18,7 @@ use Rattle.meaning.specs.Literals.{Literal}
 use Rattle.meaning.specs.Meant.{entry, number, at, entries_at, rule_at, condition_at}
 use Rattle.masks.specs.declared.Masks.{Masks}
 use Rattle.bridge.specs.Packed.{nothing, mask_of, mask_all, masks_of, line_of}
+use Rattle.bridge.proofs.Entries.{none-taken}
 use Rattle.prepare.specs.Packing.{Readable, LineReadable}
 use Rattle.prepare.proofs.Numbers.{back, Small, back-same, back-small, no-neg}
 use Rattle.prepare.proofs.Preferences.{names_same}
@@ -105,10 +106,14 @@ unfolding masks_of rule_at
 rule-is t k h own a n b ea en eb = let e : k + h + entries_each ≡ k + (h + entries_each) = omega arith in rw (ea, en, eb, e) refl
 
 -- ---- a Q line
+untaken : (p : Pair) → p.taken ≡ 0 → p ≡ record { taken = 0; held = p.held; denied = p.denied }
+untaken p e = ap (λ (t : ℕ). record { taken = t; held = p.held; denied = p.denied }) e
+
 pub line-is : (t : List ℤ) (k : ℕ) → LineReadable t k → (u l : ℕ) (n b : Pair) → u ≡ 2 ^ (number (back (at t k)) - 1) → l ≡ 2 ^ (number (back (at t (k + 1))) - 1)
     → n ≡ mask_all (entries_at t (k + 2) entries_each) → b ≡ mask_all (entries_at t (k + 2 + entries_each) entries_each)
-    → ◌≡◌ {A = Masks} (record { head = record { taken = 0; held = u; denied = l }; need = record { taken = 0; held = n.held; denied = n.denied }; bar = b }) (line_of (condition_at t k))
+    → ◌≡◌ {A = Masks} (record { head = record { taken = 0; held = u; denied = l }; need = n; bar = b }) (line_of (condition_at t k))
 unfolding line_of condition_at
 line-is t k r u l n b eu el en eb =
     let e : k + 2 + entries_each ≡ k + (2 + entries_each) = omega arith in
-    rw (eu, el, names_same _ r.upper, names_same _ r.lower, en, eb, e) refl
+    let f = untaken n (rw en (none-taken (entries_at t (k + 2) entries_each))) in
+    rw f (rw (eu, el, names_same _ r.upper, names_same _ r.lower, en, eb, e) refl)

@@ -241,20 +241,17 @@ pub conditionals-few : (s : Shape) (t : List ℤ) → RowsLawful s t → s.condi
 conditionals-few s t w = conditionals-in s w.limits
 
 -- Heads and barred entries take no exception.
-flat : (x : Tagged) → ((masks_of x).head.taken ≡ 0) × ((masks_of x).bar.taken ≡ 0)
+pub flat : (x : Tagged) → ((masks_of x).head.taken ≡ 0) × ((masks_of x).bar.taken ≡ 0)
 unfolding masks_of
 flat x = (none-taken x.rule.heads, none-taken x.rule.body.barred)
 
 -- The two exceptions of a Q line stand in its head, and its barred entries take none.
-line-flat : (q : Conditional) → ((line_of q).head.taken ≡ 0) × ((line_of q).bar.taken ≡ 0)
+pub line-flat : (q : Conditional) → ((line_of q).head.taken ≡ 0) × ((line_of q).bar.taken ≡ 0)
 unfolding line_of
 line-flat q = (refl, none-taken q.body.barred)
 
-pub packed_start : (f : ℕ → Masks) (n : ℕ) (ws : List ℕ) → PackedTo f n ws ws 0
-packed_start f n ws = record { same = refl; row = λ k h. absurd (omega arith); before = λ k h. refl; after = λ i h. refl }
-
 -- Row n + k is put.
-packed-turn : (f : ℕ → Masks) (n k z : ℕ) (old ws us : List ℕ) (x : Masks) → PackedTo f n old ws k → ((f k).head.taken ≡ 0) × ((f k).bar.taken ≡ 0) → x ≡ f k → z ≡ n + k
+pub packed-turn : (f : ℕ → Masks) (n k z : ℕ) (old ws us : List ℕ) (x : Masks) → PackedTo f n old ws k → ((f k).head.taken ≡ 0) × ((f k).bar.taken ≡ 0) → x ≡ f k → z ≡ n + k
     → us ≡ sets ws (z * 8) (words_of x) → (n + k) * 8 + 8 ≤ length ws → PackedTo f n old us (k + 1)
 unfolding words_of
 packed-turn f n k z old ws us x p m g ez eu h = let e : us ≡ sets ws ((n + k) * 8) (words_of x) = rw ez at eu in record {
@@ -263,19 +260,3 @@ packed-turn f n k z old ws us x p m g ez eu h = let e : us ≡ sets ws ((n + k) 
   before = λ j l. rw e (put-before ws (n + k) x j (omega arith) ∙ p.before j l);
   after = λ i l. rw e (sets-outside ws ((n + k) * 8) (words_of x) i (inr (omega arith)) ∙ p.after i (omega arith));
 }
-
-pub packed-rule : (t : List ℤ) (q a n k : ℕ) (old ws us : List ℕ) (o : ℕ) (x : Masks) → PackedTo (rule_row t q a) n old ws k → o ≡ own_of q k
-    → x ≡ masks_of (record { own = o; rule = rule_at (kind q).heads t (a + k * (kind q).numbers) }) → us ≡ sets ws ((n + k) * 8) (words_of x) → (n + k) * 8 + 8 ≤ length ws
-    → PackedTo (rule_row t q a) n old us (k + 1)
-unfolding rule_row
-packed-rule t q a n k old ws us o x p eo ex eu h =
-    packed-turn (rule_row t q a) n k (n + k) old ws us x p (flat (record { own = own_of q k; rule = rule_at (kind q).heads t (a + k * (kind q).numbers) })) (ex ∙ rw eo) refl eu h
-
-pub packed-line : (t : List ℤ) (a n k : ℕ) (old ws us : List ℕ) (x : Masks) → PackedTo (line_row t a) n old ws k → x ≡ line_of (condition_at t (a + k * conditional_numbers))
-    → us ≡ sets ws ((n + k) * 8) (words_of x) → (n + k) * 8 + 8 ≤ length ws → PackedTo (line_row t a) n old us (k + 1)
-unfolding line_row
-packed-line t a n k old ws us x p ex eu h =
-    packed-turn (line_row t a) n k (n + k) old ws us x p (line-flat (condition_at t (a + k * conditional_numbers))) ex refl eu h
-
-pub packed-over : (f : ℕ → Masks) (n k m : ℕ) (old ws : List ℕ) → k ≤ m → m ≤ k → PackedTo f n old ws k → PackedTo f n old ws m
-packed-over f n k m old ws h l p = let e : m ≡ k = omega arith in rw e p

@@ -4,7 +4,7 @@ use mathlib.Core.Path.{◌≡◌, refl, sym, ap, ◌∙◌}
 use mathlib.Core.Bool.{Bool, true, false}
 use mathlib.Core.List.{List, [], ◌∷◌}
 use mathlib.Core.Logic.{◌↔◌, ◌⊎◌, inl, inr, ⊎_elim}
-use Prim.Native.Nat.{ℕ, suc, ◌+◌, ◌-◌, ◌*◌, ◌%◌, ◌^◌, ◌<◌, ◌≤◌}
+use Prim.Native.Nat.{ℕ, suc, ◌+◌, ◌-◌, ◌*◌, ◌<◌, ◌≤◌}
 use native.Mathlib.Omega.{arith}
 use lib.Dec.{eqb}
 use lib.IntN.{ℤ, negsuc}
@@ -22,7 +22,6 @@ use Rattle.book.specs.Limits as limit
 use Rattle.book.specs.Kinds.{preference, preference_numbers}
 use Rattle.book.specs.Counts.{start_of}
 use Rattle.sets.specs.Sets.{member}
-use Rattle.sets.proofs.Digits.{shifted}
 use Rattle.sets.proofs.Words.{member-empty}
 use Rattle.meaning.specs.Meant.{at, number, preferences_at, book_of}
 use Rattle.bridge.specs.Ranks.{Names}
@@ -54,14 +53,6 @@ names-range x r h e = let f = h.from_one in let m = h.most in (omega arith, omeg
 
 pub names_same : (x : ℤ) → NamesIn x → number (back x) ≡ number x
 names_same x h = ap number (to_z-of_z (names-small x h))
-
--- The set that is shifted to the exception's place.
-module _ (x : ℤ) (h : NamesIn x) (i : ℕ) (e : i ≡ number (back x)) where
-  pub named-range : (0 < i) × (i ≤ 64)
-  named-range = names-range (back x) i (names-back x h) e
-
-  pub named-one : 1 * 2 ^ (i - 1) % 2 ^ 64 ≡ 2 ^ (number x - 1)
-  named-one = let r = named-range.0 in let s = named-range.1 in shifted (i - 1) (omega arith) ∙ ap (λ (j : ℕ). 2 ^ (j - 1)) (e ∙ names_same x h)
 
 -- ---- one line
 either_true : (a b : Bool) → (either a b ≡ true) ↔ ((a ≡ true) ⊎ (b ≡ true))

@@ -9,9 +9,7 @@ use native.Mathlib.Numerals.{add-one}
 use native.Mathlib.Omega.{arith}
 use lib.Bits.{bit_or}
 use lib.IntN.{ℤ}
-use lib.ListN.{length, get_or, set, length-set}
-use lib.Seq.{get_or-set_same, get_or-set_other}
-use borrow.Author.Count.{below_more}
+use lib.ListN.{length, get_or}
 use borrow.Author.Tests.{eqb-true, eqb-false, eq-eqb}
 use Rattle.book.specs.declared.Shape.{Shape}
 use Rattle.sets.specs.Sets.{member, bit_of}
@@ -26,21 +24,7 @@ use Rattle.bridge.specs.Rows.{RowsLawful}
 use Rattle.bridge.proofs.Levels.{joined}
 use Rattle.bridge.proofs.Ranks.{ranks-stepped}
 use Rattle.bridge.proofs.Rows.{rows_named, lines_named}
-use Rattle.prepare.specs.Ranking.{LinesFrom, LinesTo, Extended, ClosedThrough, ClosedTo}
-
--- ---- the P rows
-pub lines_start : (ls : List (ℕ × ℕ)) (ranks : List ℕ) → LinesTo ls ranks 0
-lines_start ls ranks = record { word = λ a h. absurd (omega arith) }
-
-pub lines-set : (ls : List (ℕ × ℕ)) (ranks : List ℕ) (k s : ℕ) → LinesTo ls ranks k → LinesFrom ls (k + 1) s → k < length ranks → LinesTo ls (set ranks k s) (k + 1)
-lines-set ls ranks k s f g h = record {
-  word = below_more _ k
-      (λ a l. rw (get_or-set_other ranks k a s 0 (λ e. omega arith)) (f.word a l))
-      (rw (get_or-set_same ranks k s 0 h, ← add-one k) g);
-}
-
-pub lines-over : (ls : List (ℕ × ℕ)) (ranks : List ℕ) (k m : ℕ) → m ≤ k → LinesTo ls ranks k → LinesTo ls ranks m
-lines-over ls ranks k m h f = record { word = λ a l. f.word a (omega arith) }
+use Rattle.prepare.specs.Ranking.{LinesTo, Extended, ClosedThrough, ClosedTo}
 
 -- ---- one set extended
 or-digit : (x y : ℕ) → x < 2 → y < 2 → (max x y ≡ 1) ↔ ((x ≡ 1) ⊎ (y ≡ 1))
@@ -63,22 +47,6 @@ module _ (d p s : ℕ) where
   extended-no e =
       let n : bit_of s d ≡ 1 → ⊥ = eqb-false (bit_of s d) 1 (sym (member-suc d s) ∙ (rw add-one at e)) in
       record { digit = λ c. (λ q. inl q, λ q. ⊎_elim (λ x. x) (λ (x : (bit_of s d ≡ 1) × (bit_of p c ≡ 1)). absurd (n x.0)) q) }
-
--- ---- all sets extended
-pub through-start : (d : ℕ) (old : List ℕ) → ClosedThrough d old old 0
-through-start d old = record { same = refl; word = λ a h. absurd (omega arith); rest = λ a h. refl }
-
-pub through-turn : (d : ℕ) (old new : List ℕ) (k p r : ℕ) → ClosedThrough d old new k → p ≡ get_or old d 0 → Extended d p (get_or new k 0) r → k < length old → ClosedThrough d old (set new k r) (k + 1)
-through-turn d old new k p r f e g h = record {
-  same = length-set new k r ∙ f.same;
-  word = below_more _ k
-      (λ a l. rw (get_or-set_other new k a r 0 (λ q. omega arith)) (f.word a l))
-      (let b = f.same in rw (get_or-set_same new k r 0 (omega arith)) (rw (e, f.rest k (omega arith)) at g));
-  rest = λ a l. get_or-set_other new k a r 0 (λ q. omega arith) ∙ f.rest a (omega arith);
-}
-
-pub through-over : (d : ℕ) (old new : List ℕ) (k m : ℕ) → k ≤ m → m ≤ k → ClosedThrough d old new k → ClosedThrough d old new m
-through-over d old new k m h l f = let e : m ≡ k = omega arith in rw e f
 
 -- ---- chains
 module _ (b : Book) where
@@ -116,14 +84,8 @@ module _ (b : Book) where
       steps = λ a e c k n x y. (through a c (omega arith)).1 (onward a e c (omega arith) n ((through a e (omega arith)).0 x) ((through e c (omega arith)).0 y));
     }
 
-pub closed-start : (old : List ℕ) → ClosedTo old old 0
-closed-start old = record { same = refl; stepped = λ b s. s }
-
 pub closed-turn : (old new next : List ℕ) (d m : ℕ) → ClosedTo old new d → ClosedThrough d new next m → d < length new → length new ≤ m → ClosedTo old next (d + 1)
 closed-turn old new next d m f g h l = record { same = g.same ∙ f.same; stepped = λ b s. stepped-turn b d new next m g (f.stepped b s) h l }
-
-pub closed-over : (old new : List ℕ) (d m : ℕ) → d ≤ m → m ≤ d → ClosedTo old new d → ClosedTo old new m
-closed-over old new d m h l f = let e : m ≡ d = omega arith in rw e f
 
 pub ranks-of : (s : Shape) (t : List ℤ) (old new : List ℕ) (m k : ℕ) → RowsLawful s t → s.exceptions ≤ length old → length old ≤ m → length old ≤ k
     → LinesTo (book_of s t).preferences old m → ClosedTo old new k → RanksOf (book_of s t) new

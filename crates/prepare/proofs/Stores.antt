@@ -6,7 +6,9 @@ use mathlib.Core.Logic.{◌⊎◌, inl, inr, ⊎_elim}
 use Prim.Native.Nat.{ℕ, zero, suc, ◌+◌, ◌*◌, ◌<◌, ◌≤◌}
 use native.Mathlib.Omega.{arith}
 use lib.ListN.{length, get_or, set, length-set}
-use lib.Seq.{sets, length-sets, get_or-set_same, get_or-set_other}
+use lib.Seq.{sets, sets-eq, drop-drop, length-sets, get_or-set_same, get_or-set_other}
+use Rattle.std.proofs.Common.{append_assoc}
+use borrow.Rule.Slice.PartMut.{put_mid}
 use Rattle.masks.specs.declared.Masks.{Masks}
 use Rattle.masks.specs.Views.{masks_at}
 use Rattle.prepare.specs.Packing.{words_of}
@@ -26,6 +28,10 @@ sets-inside l i (v ∷ vs) zero h k =
 sets-inside l i (v ∷ vs) (suc j) h k =
     let e : i + suc j ≡ suc i + j = omega arith in
     rw e (sets-inside (set l i v) (suc i) vs j (rw length-set (omega arith)) (omega arith))
+
+-- A part that is overwritten, as a run of stores.
+pub part-stored : (l vs us ys : List ℕ) (a k : ℕ) → us ≡ put_mid a k l ys → ys ≡ vs → k ≡ length vs → a + length vs ≤ length l → us ≡ sets l a vs
+part-stored l vs us ys a k g e f h = rw (g, e, f, sets-eq vs l a h, drop-drop (length vs) a l, append_assoc) refl
 
 pub put-length : (ws us : List ℕ) (k : ℕ) (r : Masks) → us ≡ sets ws (k * 8) (words_of r) → length us ≡ length ws
 put-length ws us k r e = ap length e ∙ length-sets ws (k * 8) (words_of r)

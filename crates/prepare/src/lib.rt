@@ -2,12 +2,13 @@
 // its preferences as sets.
 #![tactic(auto)]
 
-ghost use Rattle.std.specs.Prelude.{◌≡◌, ◌+◌, ◌-◌, ◌*◌, ◌^◌, ◌<◌, ◌≤◌, List, ℤ, nat_abs, length};
+ghost use Rattle.std.specs.Prelude.{◌≡◌, ℕ, ◌+◌, ◌-◌, ◌*◌, ◌^◌, ◌<◌, ◌≤◌, List, ℤ, nat_abs, length};
 ghost use Rattle.std.proofs.lemmas.List.Edits.{sets as sets_at};
 ghost use Rattle.book.specs.Limits as limit;
 ghost use Rattle.book.specs.Kinds.{kind, entries_each, plain, exception, preference, conditional};
 ghost use Rattle.book.specs.Counts.{count_at, start_of};
 ghost use Rattle.meaning.specs.Meant.{entry, number, entries_at, rule_at, condition_at, book_of};
+ghost use Rattle.masks.specs.declared.Masks.{Masks};
 ghost use Rattle.bridge.specs.Packed.{mask_all, masks_of, line_of, Packs};
 ghost use Rattle.bridge.specs.Ranks.{Names, RanksOf};
 ghost use Rattle.bridge.specs.Rows.{rule_count, RowsLawful};
@@ -27,10 +28,7 @@ fn statement(x: i32) -> u64
     requires { nat_abs x ≤ limit.statements }
     ensures { result ≡ nat_abs x }
 {
-    if x < 0 {
-        return (0 - x) as u64;
-    }
-    x as u64
+    u64::from(x.unsigned_abs())
 }
 
 // The mask of a head or an entry: its conclusion, or nothing where it is 0.
@@ -40,25 +38,13 @@ fn entry_mask(x: i32) -> Pair
 {
     let i = statement(x);
     if i == 0 {
-        return Pair {
-            taken: 0,
-            held: 0,
-            denied: 0,
-        };
+        return Pair::EMPTY;
     }
     let one: u64 = 1 << (i - 1);
     if x < 0 {
-        return Pair {
-            taken: 0,
-            held: 0,
-            denied: one,
-        };
+        return Pair::of_statements(0, one);
     }
-    Pair {
-        taken: 0,
-        held: one,
-        denied: 0,
-    }
+    Pair::of_statements(one, 0)
 }
 
 // The mask of the heads, the needed or the barred entries of a rule or a Q line: those of n numbers from a place of the rows on.
@@ -66,14 +52,8 @@ fn entries_mask(rows: &[i32], from: usize, n: usize) -> Pair
     requires { Readable rows.now from n }
     ensures { result ≡ mask_all (entries_at rows.now from n) }
 {
-    let mut m = Pair {
-        taken: 0,
-        held: 0,
-        denied: 0,
-    };
-    let mut i = n;
-    while i > 0 {
-        i -= 1;
+    let mut m = Pair::EMPTY;
+    for i in (0..n).rev() {
         m = sets::join(entry_mask(rows[from + i]), m);
     }
     m
@@ -88,11 +68,10 @@ fn rule_masks(rows: &[i32], from: usize, heads: usize, own: u64) -> Masks
     let needed = entries_mask(rows, from + heads, Book::ENTRIES);
     let barred = entries_mask(rows, from + heads + Book::ENTRIES, Book::ENTRIES);
     Masks {
-        head: head,
+        head,
         need: Pair {
             taken: own,
-            held: needed.held,
-            denied: needed.denied,
+            ..needed
         },
         bar: barred,
     }
@@ -129,16 +108,8 @@ fn line_masks(rows: &[i32], from: usize) -> Masks
         Book::ENTRIES,
     );
     Masks {
-        head: Pair {
-            taken: 0,
-            held: upper,
-            denied: lower,
-        },
-        need: Pair {
-            taken: 0,
-            held: needed.held,
-            denied: needed.denied,
-        },
+        head: Pair::of_statements(upper, lower),
+        need: needed,
         bar: barred,
     }
 }
@@ -149,13 +120,15 @@ fn put(words: &mut [u64], k: usize, r: Masks)
     ensures { words.new ≡ sets_at words.old (k * 8) (words_of r) }
 {
     let at = k * WORDS;
-    words[at] = r.head.held;
-    words[at + 1] = r.head.denied;
-    words[at + 2] = r.need.held;
-    words[at + 3] = r.need.denied;
-    words[at + 4] = r.need.taken;
-    words[at + 5] = r.bar.held;
-    words[at + 6] = r.bar.denied;
+    words[at..at + WORDS - 1].copy_from_slice(&[
+        r.head.held,
+        r.head.denied,
+        r.need.held,
+        r.need.denied,
+        r.need.taken,
+        r.bar.held,
+        r.bar.denied,
+    ]);
 }
 
 // The set of its own exception that rule k of the kind at place q has: none for a plain rule.
@@ -169,6 +142,18 @@ fn own_set(q: usize, k: usize) -> u64
     0
 }
 
+// Packs m rules or Q lines into the words from row n on: into row n + k what `row` gives for k, in which neither the head nor what bars it has exceptions.
+fn pack_rows<F: Fn(usize) -> Masks>(words: &mut [u64], n: usize, m: usize, row: F)
+    requires room { (n + m) * 8 ≤ length words.old }
+    requires given { (k : ℕ) → k < m → F.pre row k }
+    requires flat { (k : ℕ) (r : _) → F.post row k r → (r.head.taken ≡ 0) × (r.bar.taken ≡ 0) }
+    ensures { (f : ℕ → Masks) → ((k : ℕ) (r : _) → F.post row k r → r ≡ f k) → PackedTo f n words.old words.new m }
+{
+    for k in 0..m {
+        put(words, n + k, row(k));
+    }
+}
+
 // Packs the rules of the kind at place q, R, O or X lines, into the words from row n on.
 fn pack_kind(shape: Shape, rows: &[i32], q: usize, words: &mut [u64], n: usize)
     requires { RowsLawful shape rows.now × (plain ≤ q) × (q ≤ exception) × ((n + count_at shape q) * 8 ≤ length words.old) × (n ≤ rule_count shape) }
@@ -177,13 +162,10 @@ fn pack_kind(shape: Shape, rows: &[i32], q: usize, words: &mut [u64], n: usize)
     let x = book::kind_at(q);
     let m = book::count_of(shape, q);
     let from = book::start_of(shape, q);
-    let mut k = 0;
-    while k < m {
+    pack_rows(words, n, m, |k| {
         let own = own_set(q, k);
-        let r = rule_masks(rows, from + k * x.numbers, x.heads, own);
-        put(words, n + k, r);
-        k += 1;
-    }
+        rule_masks(rows, from + k * x.numbers, x.heads, own)
+    });
 }
 
 // Packs the Q lines of a book into the rows after those of its rules.
@@ -192,14 +174,13 @@ fn pack_lines(shape: Shape, rows: &[i32], words: &mut [u64])
     ensures { PackedTo (line_row rows.now (start_of shape conditional)) (rule_count shape) words.old words.new shape.conditionals }
 {
     let n = shape.plain + shape.alternatives + shape.exceptions;
-    let m = shape.conditionals;
     let from = book::start_of(shape, Book::AT_CONDITIONAL);
-    let mut k = 0;
-    while k < m {
-        let r = line_masks(rows, from + k * Book::CONDITIONAL_NUMBERS);
-        put(words, n + k, r);
-        k += 1;
-    }
+    pack_rows(
+        words,
+        n,
+        shape.conditionals,
+        |k| line_masks(rows, from + k * Book::CONDITIONAL_NUMBERS),
+    );
 }
 
 // Packs the rules of a book into words, R, O and X lines, and after them its Q lines. Behind the rules the words are lent as zeros: the rows of no line.
@@ -236,9 +217,7 @@ fn lines_from(shape: Shape, rows: &[i32], from: usize, a: u64) -> u64
     ensures { LinesFrom (book_of shape rows.now).preferences a result }
 {
     let mut set = sets::EMPTY;
-    let mut k = shape.preferences;
-    while k > 0 {
-        k -= 1;
+    for k in (0..shape.preferences).rev() {
         let at = from + k * Book::PREFERENCE_NUMBERS;
         let x = named(rows[at]);
         let y = named(rows[at + 1]);
@@ -253,10 +232,8 @@ fn lines(shape: Shape, rows: &[i32], ranks: &mut [u64])
     ensures { LinesTo (book_of shape rows.now).preferences ranks.new (length ranks.old) }
 {
     let from = book::start_of(shape, Book::AT_PREFERENCE);
-    let mut a = 0;
-    while a < ranks.len() {
-        ranks[a] = lines_from(shape, rows, from, a as u64 + 1);
-        a += 1;
+    for (a, rank) in ranks.iter_mut().enumerate() {
+        *rank = lines_from(shape, rows, from, a as u64 + 1);
     }
 }
 
@@ -277,10 +254,8 @@ fn close_through(ranks: &mut [u64], d: usize)
     ensures { ClosedThrough d ranks.old ranks.new (length ranks.old) }
 {
     let onward = ranks[d];
-    let mut a = 0;
-    while a < ranks.len() {
-        ranks[a] = extend(d as u64, onward, ranks[a]);
-        a += 1;
+    for rank in ranks.iter_mut() {
+        *rank = extend(d as u64, onward, *rank);
     }
 }
 
@@ -289,10 +264,8 @@ fn close(ranks: &mut [u64])
     requires { length ranks.old ≤ 64 }
     ensures { ClosedTo ranks.old ranks.new (length ranks.old) }
 {
-    let mut d = 0;
-    while d < ranks.len() {
+    for d in 0..ranks.len() {
         close_through(ranks, d);
-        d += 1;
     }
 }
 
@@ -321,13 +294,9 @@ pub fn root(shape: Shape) -> Bounds
     let all = up_to(shape.statements);
     let taken = up_to(shape.exceptions);
     Bounds {
-        lo: Pair {
-            taken: 0,
-            held: 0,
-            denied: 0,
-        },
+        lo: Pair::EMPTY,
         hi: Pair {
-            taken: taken,
+            taken,
             held: all,
             denied: all,
         },

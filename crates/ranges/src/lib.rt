@@ -6,6 +6,7 @@ ghost use Rattle.bounds.specs.Sound.{Propagated, with_sets};
 ghost use Rattle.queue.specs.Chains.{Chains};
 ghost use Rattle.ranges.specs.Ranges.{NoView, Wider};
 
+use bounds::Part;
 use masks::Bounds;
 use probe::shaving;
 use queue::index::Index;
@@ -77,7 +78,7 @@ pub fn fixed(s: Range, t: u64, e: u64) -> Range
 pub fn decided(b: Bounds, t: u64, e: u64) -> Bounds
     requires { e < 64 }
 {
-    let m = bounds::one(bounds::TAKEN, e);
+    let m = bounds::one(Part::Taken, e);
     if t & m.taken == 0 {
         return bounds::out(b, m);
     }
@@ -97,7 +98,7 @@ pub fn settled(
     requires { (n * 8 ≤ length words.now) × (length ranks.now ≤ 64) × (e < 64) × Chains words.now n index.now }
 {
     let b = decided(rest.bounds, t, e);
-    if bounds::unchanged(rest.bounds, b) {
+    if rest.bounds == b {
         return rest;
     }
     let w = index::among(index, rest.live, rest.bounds, b);
@@ -113,8 +114,7 @@ pub fn contrary(b: Bounds, t: u64) -> u64 {
 pub fn first_contrary(b: Bounds, t: u64) -> Option<u64>
     ensures { IfSome result (λ e. e < 64) }
 {
-    let e = sets::low(contrary(b, t));
-    if e < 64 { Some(e) } else { None }
+    sets::first(contrary(b, t))
 }
 
 // A decision that is in conflict with those at the places before `before`.

@@ -30,6 +30,7 @@ use Rattle.meaning.specs.Order.{Point, LawfulPoint}
 use Rattle.meaning.proofs.Ordered.{before-irreflexive, before-transitive}
 use Rattle.meaning.proofs.Parts.{Part, part_none, part_same}
 use Rattle.admissible.specs.Admissible.{Unexceeded}
+use Rattle.standing.specs.declared.memory.Memory.{Memory}
 use Rattle.standing.specs.Standing.{Right}
 use Rattle.sifting.specs.Sifted.{Serves}
 use Rattle.walk.specs.declared.Position.{Position}
@@ -58,7 +59,7 @@ module _ (root : Bounds) (t : ℕ) (m : List ℕ) where
       none (short k) f = k (zero_minus _ _ (contained-within _ _ f))
 
 -- No resolution has such a set.
-module _ (ws ranks : List ℕ) (root : Bounds) (q : Task) (t : ℕ) (after known : Bool) (H : Type 0) (k : ℕ) (m w o : List ℕ) (h : k ≤ q.room) where
+module _ (ws ranks : List ℕ) (root : Bounds) (q : Task) (t : ℕ) (after known : Bool) (H : Type 0) (k : ℕ) (m : List ℕ) (w : Memory) (o : List ℕ) (h : k ≤ q.room) where
   pub set-ruled-out : RuledOut root m t → SetListed ws ranks root q t after known H k m m w w o o k
   set-ruled-out (marked x) = set-none ws ranks root q t after known H k m m o h w w (marks-same ws q.rules ranks root m) (λ r. r) (λ b s r e f. f.told t x) (λ b s r y. y.right t x)
   set-ruled-out (beyond x) = set-viewless ws ranks root q t after known H k m m o h w (marks-same ws q.rules ranks root m)
@@ -109,7 +110,7 @@ module _ (ws : List ℕ) (n : ℕ) (ranks : List ℕ) (root : Bounds) (wide : �
 
 -- ---- all sets
 -- The loop of the walk at place j: marks are right and tell of the places before j, and the page has all that stands at those places.
-pub record Going (ws ranks : List ℕ) (root : Bounds) (q : Task) (wide first : ℕ) (known : Bool) (at : ℕ) (m w o : List ℕ) (j k : ℕ) (n v p : List ℕ) : Type 0 where
+pub record Going (ws ranks : List ℕ) (root : Bounds) (q : Task) (wide first : ℕ) (known : Bool) (at : ℕ) (m : List ℕ) (w : Memory) (o : List ℕ) (j k : ℕ) (n : List ℕ) (v : Memory) (p : List ℕ) : Type 0 where
   pub from : first ≤ j
   pub to : j ≤ 2 ^ wide
   pub fits : Fits ws ranks p q k
@@ -122,7 +123,7 @@ pub record Going (ws ranks : List ℕ) (root : Bounds) (q : Task) (wide first : 
       → (ys : List Pair) × Part b from (Passed wide j) ys × Page q.room 0 start p ys k
 
 -- The walk between the root's sets, of which those before `past` are still to be looked at: at the next place, or at the end.
-pub record Walking (ws ranks : List ℕ) (root : Bounds) (q : Task) (wide first : ℕ) (known : Bool) (at : ℕ) (m w o : List ℕ) (past : ℕ) (next : Option Position) (k : ℕ) (n v p : List ℕ) : Type 0 where
+pub record Walking (ws ranks : List ℕ) (root : Bounds) (q : Task) (wide first : ℕ) (known : Bool) (at : ℕ) (m : List ℕ) (w : Memory) (o : List ℕ) (past : ℕ) (next : Option Position) (k : ℕ) (n : List ℕ) (v : Memory) (p : List ℕ) : Type 0 where
   pub some : (r : Position) → next ≡ Some r → Going ws ranks root q wide first known at m w o r.place k n v p × AtPlace wide r × (r.place < past)
   pub none : next ≡ None → (j : ℕ) × (past ≤ j) × Going ws ranks root q wide first known at m w o j k n v p
 
@@ -144,7 +145,7 @@ inner j i h = omega arith
 pub fits-again : (ws ranks o o' : List ℕ) (q : Task) (at r : ℕ) → Fits ws ranks o q at → length o' ≡ length o → r ≤ q.room → Fits ws ranks o' q r
 fits-again ws ranks o o' q at r f e h = record { suits = f.suits; place = h; long = rw e f.long }
 
-module _ (ws ranks : List ℕ) (root : Bounds) (q : Task) (wide : ℕ) (small : wide ≤ exceptions) (first : ℕ) (known : Bool) (at : ℕ) (m w o : List ℕ) where
+module _ (ws ranks : List ℕ) (root : Bounds) (q : Task) (wide : ℕ) (small : wide ≤ exceptions) (first : ℕ) (known : Bool) (at : ℕ) (m : List ℕ) (w : Memory) (o : List ℕ) where
   pub going-first : Fits ws ranks o q at → first ≤ 2 ^ wide → Going ws ranks root q wide first known at m w o first at m w o
   going-first f h = record {
     from = le_refl first;
@@ -156,9 +157,9 @@ module _ (ws ranks : List ℕ) (root : Bounds) (q : Task) (wide : ℕ) (small : 
     page = λ b from s few x r e l y start xs p g. (xs, p, g);
   }
 
-  module _ (j k : ℕ) (n v p : List ℕ) (g : Going ws ranks root q wide first known at m w o j k n v p) where
+  module _ (j k : ℕ) (n : List ℕ) (v : Memory) (p : List ℕ) (g : Going ws ranks root q wide first known at m w o j k n v p) where
     -- One place more: the page of its set, and what the marks tell of it.
-    going-one : j < 2 ^ wide → (t : ℕ) → t ≡ set_at wide j → (n' v' p' : List ℕ) (r : ℕ) → SetListed ws ranks root q t false known (Rests ws q.rules ranks root t known n) k n n' v v' p p' r
+    going-one : j < 2 ^ wide → (t : ℕ) → t ≡ set_at wide j → (n' : List ℕ) (v' : Memory) (p' : List ℕ) (r : ℕ) → SetListed ws ranks root q t false known (Rests ws q.rules ranks root t known n) k n n' v v' p p' r
         → ((b : Book) → Serves b ws ranks root q → Right ws q.rules ranks root v → known ≡ true → Full ws q.rules ranks root n → Told ws q.rules ranks root n' t)
         → length p' ≡ length p → Going ws ranks root q wide first known at m w o (j + 1) r n' v' p'
     going-one h t et n' v' p' r s told e = record {
@@ -179,7 +180,7 @@ module _ (ws ranks : List ℕ) (root : Bounds) (q : Task) (wide : ℕ) (small : 
     }
 
     -- A set that was listed while there was room.
-    pub going_next : j < 2 ^ wide → (t : ℕ) → t ≡ set_at wide j → (n' v' p' : List ℕ) (r : ℕ) → k < q.room → SetListed ws ranks root q t false known (Rests ws q.rules ranks root t known n) k n n' v v' p p' r → length p' ≡ length p
+    pub going_next : j < 2 ^ wide → (t : ℕ) → t ≡ set_at wide j → (n' : List ℕ) (v' : Memory) (p' : List ℕ) (r : ℕ) → k < q.room → SetListed ws ranks root q t false known (Rests ws q.rules ranks root t known n) k n n' v v' p p' r → length p' ≡ length p
         → Going ws ranks root q wide first known at m w o (j + 1) r n' v' p'
     going_next h t et n' v' p' r l s e = going-one h t et n' v' p' r s (λ b x y f z. s.told b x y f refl l z) e
 
@@ -207,11 +208,11 @@ module _ (ws ranks : List ℕ) (root : Bounds) (q : Task) (wide : ℕ) (small : 
           (c.0 ++ d.0, d.1, page-append q.room 0 k k start p p c.0 d.0 c.2 (page-full q.room k p d.0 h));
     }
 
-  going-at : (i j k : ℕ) (n v p : List ℕ) → i ≡ j → Going ws ranks root q wide first known at m w o i k n v p → Going ws ranks root q wide first known at m w o j k n v p
+  going-at : (i j k : ℕ) (n : List ℕ) (v : Memory) (p : List ℕ) → i ≡ j → Going ws ranks root q wide first known at m w o i k n v p → Going ws ranks root q wide first known at m w o j k n v p
   going-at i j k n v p e g = rw e at g
 
   -- Places at which a look is enough.
-  going-over : (d j k : ℕ) (n v p : List ℕ) → j + d ≤ 2 ^ wide → Going ws ranks root q wide first known at m w o j k n v p → ((i : ℕ) → j ≤ i → i < j + d → RuledOut root n (set_at wide i))
+  going-over : (d j k : ℕ) (n : List ℕ) (v : Memory) (p : List ℕ) → j + d ≤ 2 ^ wide → Going ws ranks root q wide first known at m w o j k n v p → ((i : ℕ) → j ≤ i → i < j + d → RuledOut root n (set_at wide i))
       → Going ws ranks root q wide first known at m w o (j + d) k n v p
   going-over zero j k n v p h g f = going-at j (j + 0) k n v p (sym (plus_none j)) g
   going-over (suc d) j k n v p h g f =
@@ -219,13 +220,13 @@ module _ (ws ranks : List ℕ) (root : Bounds) (q : Task) (wide : ℕ) (small : 
       (going-over d (j + 1) k n v p (rw (plus_one j d) at h) (going-past j k n v p g (below j d (2 ^ wide) h) (f j (le_refl j) (above j d))) (λ i a b. f i (inner j i a) (rw (← plus_one j d) at b)))
 
   -- To the next place at which a look is not enough.
-  going_on : (j k past : ℕ) (n v p : List ℕ) → Going ws ranks root q wide first known at m w o j k n v p → (s r : Position) → s.place ≡ j → Stops wide past root n s r → past ≤ 2 ^ wide
+  going_on : (j k past : ℕ) (n : List ℕ) (v : Memory) (p : List ℕ) → Going ws ranks root q wide first known at m w o j k n v p → (s r : Position) → s.place ≡ j → Stops wide past root n s r → past ≤ 2 ^ wide
       → Going ws ranks root q wide first known at m w o r.place k n v p
   going_on j k past n v p g s r e x l =
       let f : j + (r.place - j) ≡ r.place = omega (arith, x.from) in
       rw f at (going-over (r.place - j) j k n v p (omega (arith, x.to, f)) g (λ i a b. x.ruled_out i (omega arith) (omega (arith, f))))
 
-  pub walking-on : (j k past : ℕ) (n v p : List ℕ) → Going ws ranks root q wide first known at m w o j k n v p → (s : Position) → s.place ≡ j → (next : Option Position) → Skipped wide past root n s next
+  pub walking-on : (j k past : ℕ) (n : List ℕ) (v : Memory) (p : List ℕ) → Going ws ranks root q wide first known at m w o j k n v p → (s : Position) → s.place ≡ j → (next : Option Position) → Skipped wide past root n s next
       → past ≤ 2 ^ wide → Walking ws ranks root q wide first known at m w o past next k n v p
   walking-on j k past n v p g s e next x l = record {
     some = λ r f. let y = x.some r f in (going_on j k past n v p g s r e y l, y.stands, y.to);
@@ -242,7 +243,7 @@ module _ (ws ranks : List ℕ) (root : Bounds) (q : Task) (wide : ℕ) (small : 
       rw e at (going-over (j - first) first at m w o (omega arith) (going-first f h) (λ i l k. short (x.before i (omega arith) (omega arith))))
 
   -- All places between the root's sets have been passed.
-  pub walked-past : (s : Span) → Spanned wide root s → (j k : ℕ) (n v p : List ℕ) → Going ws ranks root q wide first known at m w o j k n v p → s.past ≤ j → Walked ws ranks root q wide first known at m w o p k
+  pub walked-past : (s : Span) → Spanned wide root s → (j k : ℕ) (n : List ℕ) (v : Memory) (p : List ℕ) → Going ws ranks root q wide first known at m w o j k n v p → s.past ≤ j → Walked ws ranks root q wide first known at m w o p k
   walked-past s x j k n v p g h =
       let e : j + (2 ^ wide - j) ≡ 2 ^ wide = omega (arith, g.to) in
       walked_all (j + (2 ^ wide - j)) k n v p (going-over (2 ^ wide - j) j k n v p (omega arith) g (λ i a b. beyond (x.after i (omega arith) (omega arith)))) (omega arith)
@@ -260,7 +261,7 @@ module _ (ws ranks : List ℕ) (root : Bounds) (q : Task) (wide : ℕ) (small : 
 clear-right : (b : Book) (m : List ℕ) → Clear m → RightMarks b m
 clear-right b m c = record { right = λ t x. absurd (c.none t x) }
 
-module _ (ws ranks : List ℕ) (root : Bounds) (q : Task) (wide : ℕ) (small : wide ≤ exceptions) (m : List ℕ) (c : Clear m) (w : List ℕ) (empty : Right ws q.rules ranks root w) (o : List ℕ) where
+module _ (ws ranks : List ℕ) (root : Bounds) (q : Task) (wide : ℕ) (small : wide ≤ exceptions) (m : List ℕ) (c : Clear m) (w : Memory) (empty : Right ws q.rules ranks root w) (o : List ℕ) where
   pub first-walked : (a : Bool) → a ≡ false → 2 ^ wide ≤ marks_in m → (o' : List ℕ) (r : ℕ) → Walked ws ranks root q wide 0 true 0 m w o o' r → Paged ws ranks root q wide a o o' r
   unfolding beginning
   first-walked a n h o' r x = rw n record {
@@ -272,7 +273,7 @@ module _ (ws ranks : List ℕ) (root : Bounds) (q : Task) (wide : ℕ) (small : 
     not-later : (b : Book) → Part b (meaning.at q.point) (Passed wide j) []
     not-later b = part_none b (meaning.at q.point) (Passed wide j) (λ p r l s. before-irreflexive p (before-transitive p q.point p (at-or-past wide small j j (le_refl j) h p q.point s e) l))
 
-    pub after-walked : (m' w' : List ℕ) (o' o'' : List ℕ) (r r' : ℕ) → SetListed ws ranks root q q.point.taken true false (Rests ws q.rules ranks root q.point.taken false m) 0 m m' w w' o o' r
+    pub after-walked : (m' : List ℕ) (w' : Memory) (o' o'' : List ℕ) (r r' : ℕ) → SetListed ws ranks root q q.point.taken true false (Rests ws q.rules ranks root q.point.taken false m) 0 m m' w w' o o' r
         → Walked ws ranks root q wide (j + 1) false r m' w' o' o'' r' → Paged ws ranks root q wide true o o'' r'
     unfolding beginning
     after-walked m' w' o' o'' r r' s z = record {

@@ -12,6 +12,7 @@ use Rattle.meaning.proofs.Parts.{Part}
 use Rattle.walk.specs.declared.Position.{Position}
 use Rattle.walk.specs.declared.Span.{Span}
 use Rattle.marking.specs.Marks.{marks_in, IsMarked, RightMarks}
+use Rattle.standing.specs.declared.memory.Memory.{Memory}
 use Rattle.standing.specs.Standing.{Right}
 use Rattle.sifting.specs.Sifted.{Serves}
 use Rattle.one_set.specs.Plans.{Told, Full}
@@ -64,7 +65,7 @@ pub record Ready (ws : List ℕ) (n : ℕ) (ranks : List ℕ) (root : Bounds) (x
 
 -- The walk from place j of the sets of x exceptions, in a book that has no more: with the page of all that stands at the places before it, it makes
 -- the page of all later resolutions.
-pub record Walked (ws ranks : List ℕ) (root : Bounds) (q : Task) (x j : ℕ) (known : Bool) (k : ℕ) (m w o o' : List ℕ) (r : ℕ) : Type 0 where
+pub record Walked (ws ranks : List ℕ) (root : Bounds) (q : Task) (x j : ℕ) (known : Bool) (k : ℕ) (m : List ℕ) (w : Memory) (o o' : List ℕ) (r : ℕ) : Type 0 where
   pub whole : (b : Book) (from : Point) → Serves b ws ranks root q → length b.exceptions ≤ x → RightMarks b m → Right ws q.rules ranks root w → (known ≡ true → Ready ws q.rules ranks root x j m) → LawfulPoint b from → Beyond x from j
       → (blank : List ℕ) (xs : List Pair) → Part b from (Passed x j) xs → Page q.room 0 blank o xs k
       → (zs : List Pair) × AllLater b from zs × Page q.room 0 blank o' zs r

@@ -175,7 +175,7 @@ pub fn page_with(
     requires { Fits words.now ranks.now out.old task 0 × (x ≤ exceptions) × (task.point.taken < 2 ^ x) × (2 ^ x ≤ marks_in marks.old) × Clear marks.old × Chains words.now task.rules index.now }
     ensures { Paged words.now ranks.now root task x after out.old out.new result }
 {
-    let mut memory = [0u64; memory::LENGTH];
+    let mut memory = memory::nothing();
     let mut store = [0u64; few::MOST * 3];
     let mut effort = Effort::fresh();
     if after {

@@ -6,6 +6,3 @@ use Rattle.prepare.proofs.entries_mask.Given as goal
 
 abbrev pub invariant-loop-i : goal.invariant-loop-i
 invariant-loop-i l = (l.i ≤ l.n) × (l.m ≡ mask_all (entries_at l.rows (l.from + l.i) (l.n - l.i)))
-
-abbrev pub decreases-loop-i : goal.decreases-loop-i
-decreases-loop-i l = l.i

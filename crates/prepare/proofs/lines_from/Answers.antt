@@ -1,4 +1,3 @@
-use Prim.Native.Nat.{◌+◌, ◌-◌, ◌*◌, ◌≤◌}
 use native.Mathlib.Omega.{arith}
 use borrow.Author.Rules.{rules}
 use Rattle.prepare.proofs.Preferences.{row_in, names-back, names-range, first-named, second-named, lines-turn, lines-last, lines-all}
@@ -6,9 +5,6 @@ use Rattle.prepare.proofs.lines_from.Goals as goal
 
 pub loop-k-init : goal.loop-k-init
 loop-k-init c = (omega arith, lines-last _ _ _ _)
-
-pub overflow_sub-k : goal.overflow_sub-k
-overflow_sub-k c = omega arith
 
 pub overflow_mul-at : goal.overflow_mul-at
 overflow_mul-at c = omega (arith, row_in _ _ c.requires.0 _ c.loop-k-test.true c.loop-k.invariant.0)
@@ -39,9 +35,6 @@ named-y-requires c = rw c.requires.1 (names-back _ (second-named _ _ c.requires.
 
 pub with_line-set-requires : goal.with_line-set-requires
 with_line-set-requires c = names-range _ _ (rw c.requires.1 (names-back _ (second-named _ _ c.requires.0 _ c.loop-k-test.true c.loop-k.invariant.0))) c.named-y.ensures
-
-pub loop-k-smaller : goal.loop-k-smaller
-loop-k-smaller c = omega arith
 
 pub loop-k-preserved : goal.loop-k-preserved
 loop-k-preserved c = (omega arith, rw c.requires.1 (lines-turn _ _ c.requires.0 _ c.loop-k-test.true c.loop-k.invariant.0 _ _ _ _ _ (rw c.requires.1 at c.loop-k.invariant.1) (rw c.requires.1 at c.named-x.ensures) (rw c.requires.1 at c.named-y.ensures) c.with_line-set.ensures))

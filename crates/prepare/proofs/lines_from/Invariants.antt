@@ -6,6 +6,3 @@ use Rattle.prepare.proofs.lines_from.Given as goal
 
 abbrev pub invariant-loop-k : goal.invariant-loop-k
 invariant-loop-k l = (l.k ≤ l.initial.k) × LinesFrom (preferences_at l.rows (l.from + l.k * preference_numbers) (l.initial.k - l.k)) l.a l.set
-
-abbrev pub decreases-loop-k : goal.decreases-loop-k
-decreases-loop-k l = l.k

@@ -4,9 +4,6 @@ use Rattle.prepare.proofs.Packing.{own-plain, own-late}
 use borrow.Author.Rules.{rules}
 use Rattle.prepare.proofs.own_set.Goals as goal
 
-pub overflow_shl-result : goal.overflow_shl-result
-overflow_shl-result c = c.requires (search rules)
-
 pub returns-then-q-eq-AT_EXCEPTION : goal.returns-then-q-eq-AT_EXCEPTION
 returns-then-q-eq-AT_EXCEPTION c = shifted _ (c.requires (search rules)) ∙ sym (own-late _ _ (search rules))
 

@@ -1,4 +1,4 @@
-use Rattle.prepare.proofs.Packing.{rule-counts, rules-few, conditionals-few, packs-of}
+use Rattle.prepare.proofs.Packing.{rule-counts, conditionals-few, packs-of}
 use native.Mathlib.Omega.{arith}
 use Rattle.prepare.proofs.pack.Goals as goal
 
@@ -7,9 +7,6 @@ pack_kind-requires c = let w = c.requires in let h = w.1 in let q = rule-counts 
 
 pub pack_kind-requires-2 : goal.pack_kind-requires-2
 pack_kind-requires-2 c = let w = c.requires in let h = w.1 in let q = rule-counts _ _ w.0 in let e = c.pack_kind.ensures.same in (w.0, omega arith, omega arith, omega (arith, q.1), omega arith)
-
-pub overflow_add-shape : goal.overflow_add-shape
-overflow_add-shape c = let w = rules-few _ _ c.requires.0 in omega (arith, w.0, w.1)
 
 pub pack_kind-requires-3 : goal.pack_kind-requires-3
 pack_kind-requires-3 c = let w = c.requires in let h = w.1 in let q = rule-counts _ _ w.0 in let e = c.pack_kind.ensures.same in let f = c.pack_kind-2.ensures.same in (w.0, omega arith, omega arith, omega (arith, q.2), omega arith)

@@ -1,15 +1,8 @@
 use Rattle.book.specs.Kinds.{entries_each}
 use Prim.Native.Nat.{◌+◌}
 use native.Mathlib.Omega.{arith}
-use Rattle.prepare.proofs.Masks.{readable-front, readable-part, rule-is}
-use borrow.Author.Rules.{rules}
+use Rattle.prepare.proofs.Masks.{readable-part, rule-is}
 use Rattle.prepare.proofs.rule_masks.Goals as goal
-
-pub entries_mask-head-requires : goal.entries_mask-head-requires
-entries_mask-head-requires c = readable-front _ _ _ _ c.requires (omega arith)
-
-pub overflow_add-from : goal.overflow_add-from
-overflow_add-from c = let r = c.requires.room in search rules
 
 pub entries_mask-needed-requires : goal.entries_mask-needed-requires
 entries_mask-needed-requires c = readable-part _ _ _ _ _ c.requires (omega arith)

@@ -1,15 +1,14 @@
 use Rattle.walk.proofs.Walks.{first-walked}
-use Rattle.standing.proofs.Domination.{nothing_yet}
 use mathlib.Core.Bool.{true}
 use mathlib.Core.Path.{◌≡◌}
 use borrow.Author.Rules.{rules}
 use Rattle.walk.proofs.page_with.Goals as goal
 
 pub after_with-requires : goal.after_with-requires
-after_with-requires c = let p = c.requires in (p.0, p.1, p.2, p.3, p.4, p.5, search rules, nothing_yet _ _ _ _ 82)
+after_with-requires c = let p = c.requires in (p.0, p.1, p.2, p.3, p.4, p.5, search rules, c.nothing-memory.ensures _ _ _ _)
 
 pub returns-then-after : goal.returns-then-after
 returns-then-after c = let e : c.args.after ≡ true = search rules in rw e c.after_with.ensures
 
 pub returns : goal.returns
-returns c = first-walked _ _ _ _ _ c.requires.1 _ c.requires.4 _ (nothing_yet _ _ _ _ 82) _ _ (search rules) c.requires.3 _ _ c.walk.ensures
+returns c = first-walked _ _ _ _ _ c.requires.1 _ c.requires.4 _ (c.nothing-memory.ensures _ _ _ _) _ _ (search rules) c.requires.3 _ _ c.walk.ensures
