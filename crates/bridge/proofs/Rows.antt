@@ -7,11 +7,10 @@ use native.Mathlib.Omega.{arith}
 use lib.IntN.{ℤ}
 use lib.ListN.{length}
 use Rattle.logic.specs.Lists.{Every}
-use Rattle.book.specs.declared.Measure.TheVariants.{Numbers}
 use Rattle.book.specs.declared.Shape.{Shape}
 use Rattle.book.specs.Limits as limit
 use Rattle.book.specs.Kinds.{kinds, kind, none, preference, conditional, preference_numbers, conditional_numbers}
-use Rattle.book.specs.Counts.{counts_of, all_counts, count_at, sum_to, start_of, row_numbers, measured}
+use Rattle.book.specs.Counts.{counts_of, all_counts, count_at, sum_to, start_of, row_numbers, numbers_each}
 use Rattle.book.proofs.Counts.{exceptions-in, sum-up}
 use Rattle.meaning.specs.Preferences.{Conditional}
 use Rattle.meaning.specs.Meant.{at, number, preferences_at, condition_at, conditional_at, book_of}
@@ -65,7 +64,7 @@ module _ (s : Shape) (t : List ℤ) (w : RowsLawful s t) where
 -- The rows of a kind end among the numbers of the rows.
 pub kind-end : (s : Shape) (q : ℕ) → q < none → start_of s q + count_at s q * (kind q).numbers ≤ row_numbers s
 unfolding sum_to
-kind-end s q h = sum-up (measured Numbers) s (suc q) (omega arith)
+kind-end s q h = sum-up numbers_each s (suc q) (omega arith)
 
 pub preference-end : (s : Shape) → start_of s preference + s.preferences * preference_numbers ≤ row_numbers s
 unfolding count_at all_counts counts_of kind kinds

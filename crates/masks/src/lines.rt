@@ -79,13 +79,14 @@ pub fn reach(words: &[u64], n: usize, ranks: &[u64], m: u64, t: u64) -> u64
     o
 }
 
-// The lines that pass a test.
-pub fn passing<F: Fn(usize) -> bool>(test: F) -> u64
-    requires { (j : ℕ) → j < 32 → F.pre test j }
-    ensures { Passing (F.post test) 32 result }
+// The numbers below n that pass a test.
+pub fn passing<F: Fn(usize) -> bool>(n: usize, test: F) -> u64
+    requires few { n ≤ 64 }
+    requires callable { (j : ℕ) → j < n → F.pre test j }
+    ensures { Passing (F.post test) n result }
 {
     let mut m: u64 = 0;
-    for j in 0..LINES {
+    for j in 0..n {
         if test(j) {
             m |= 1 << (j as u64);
         }
@@ -99,7 +100,7 @@ pub fn lines_in(words: &[u64], n: usize, v: Pair, c: Pair) -> u64
     requires { (n + 32) * 8 ≤ length words.now }
     ensures { Counting words.now n v c result }
 {
-    passing(|j| crate::fires(crate::masks_at(words, n + j), v, c))
+    passing(LINES, |j| crate::fires(crate::masks_at(words, n + j), v, c))
 }
 
 // The lines that are the same step as line i.
@@ -108,7 +109,7 @@ pub fn twins(words: &[u64], n: usize, i: usize) -> u64
     ensures { Chosen (Alike words.now n i) 32 result }
 {
     let head = crate::masks_at(words, n + i).head;
-    passing(|j| crate::masks_at(words, n + j).head == head)
+    passing(LINES, |j| crate::masks_at(words, n + j).head == head)
 }
 
 // The set o with the lines that are the same step as line i, if that is one of m.

@@ -13,13 +13,12 @@ use borrow.Author.Count.{below_more}
 use borrow.Author.Tests.{eq-eqb, ne_eqb}
 use Rattle.logic.specs.Tests.{pick}
 use Rattle.book.specs.declared.Kind.{Kind}
-use Rattle.book.specs.declared.Measure.TheVariants.{Numbers}
 use Rattle.book.specs.declared.Shape.{Shape}
 use Rattle.book.specs.Limits as limit
 use Rattle.book.specs.Kinds.{kinds, kind, plain, alternative, exception, conditional, entries_each, heads_each, rule_numbers, alternative_numbers, preference_fields, conditional_numbers}
 use Rattle.book.specs.Kinds.{none as all_kinds}
-use Rattle.book.specs.Counts.{counts_of, all_counts, count_at, start_of, measured, InLimits}
-use Rattle.book.proofs.Counts.{plain_in, alternatives-in, exceptions-in, conditionals-in, sum-up, sum-all, measured-most}
+use Rattle.book.specs.Counts.{counts_of, all_counts, count_at, start_of, numbers_each, InLimits}
+use Rattle.book.proofs.Counts.{plain_in, alternatives-in, exceptions-in, conditionals-in, sum-up, sum-all, numbers-most}
 use Rattle.sets.proofs.Digits.{lt-or-le}
 use Rattle.meaning.specs.Rules.{Rule}
 use Rattle.meaning.specs.Preferences.{Conditional}
@@ -199,7 +198,7 @@ module _ (s : Shape) (t : List ℤ) (w : RowsLawful s t) (q : ℕ) (g : plain �
   pub row_small : (k * x.numbers < 1000000) × (a + k * x.numbers < 1000000)
   row_small =
       rw (ex, ea) (let r : start_of s q + k * (kind q).numbers < 1000000 =
-      omega (arith, kind-end s q (omega arith), row-end k (count_at s q) (kind q).numbers in-kind, sum-all (measured Numbers) s w.limits, measured-most Numbers) in (omega arith, omega arith))
+      omega (arith, kind-end s q (omega arith), row-end k (count_at s q) (kind q).numbers in-kind, sum-all numbers_each s w.limits, numbers-most) in (omega arith, omega arith))
 
   pub row-readable : Readable t (a + k * x.numbers) (x.heads + (entries_each + entries_each))
   row-readable = rw (ex, ea) (record {
@@ -219,7 +218,7 @@ line-readable s t w k h z e = rw e (let a = start_of s conditional + k * conditi
 })
 
 pub starts-small : (s : Shape) (t : List ℤ) → RowsLawful s t → (k a : ℕ) → k ≤ all_kinds → a ≡ start_of s k → a < 1000000
-starts-small s t w k a h e = omega (arith, e, sum-up (measured Numbers) s k h, sum-all (measured Numbers) s w.limits, measured-most Numbers)
+starts-small s t w k a h e = omega (arith, e, sum-up numbers_each s k h, sum-all numbers_each s w.limits, numbers-most)
 
 -- How many rules of a kind there are.
 pub rule-counts : (s : Shape) (t : List ℤ) → RowsLawful s t → (count_at s plain ≡ s.plain) × (count_at s alternative ≡ s.alternatives) × (count_at s exception ≡ s.exceptions)

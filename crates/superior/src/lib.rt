@@ -3,7 +3,7 @@
 
 ghost use Rattle.std.specs.Prelude.{◌+◌, ◌*◌, ◌<◌, ◌≤◌, length};
 ghost use Rattle.logic.specs.Tests.{Decides};
-ghost use Rattle.masks.specs.Steps.{Chosen, Choice};
+ghost use Rattle.masks.specs.Steps.{Chosen};
 ghost use Rattle.queue.specs.Chains.{Chains};
 ghost use Rattle.superior.specs.Superiors.{Source, Taking, TakingAt, Left, Assumed, Hopeless, Picks, Superior};
 
@@ -20,37 +20,12 @@ pub fn source_at(words: &[u64], n: usize, ranks: &[u64], m: u64, among: u64, t: 
     (among >> a) % 2 != 0 && masks::lines::reach(words, n, ranks, m, 1 << a) & t != 0
 }
 
-// The set s with exception a, if that is one of `among` and the lines of m lead from it to a member of t.
-pub fn source_in(
-    words: &[u64],
-    n: usize,
-    ranks: &[u64],
-    m: u64,
-    among: u64,
-    t: u64,
-    a: u64,
-    s: u64,
-) -> u64
-    requires { ((n + 32) * 8 ≤ length words.now) × (length ranks.now ≤ 64) × (a < 64) }
-    ensures { Choice (Source words.now n ranks.now m among t) a s result }
-{
-    if source_at(words, n, ranks, m, among, t, a) {
-        s | (1 << a)
-    } else {
-        s
-    }
-}
-
 // The exceptions of `among` from which the lines of m lead to a member of t.
 pub fn sources(words: &[u64], n: usize, ranks: &[u64], m: u64, among: u64, t: u64) -> u64
     requires { ((n + 32) * 8 ≤ length words.now) × (length ranks.now ≤ 64) }
     ensures { Chosen (Source words.now n ranks.now m among t) 64 result }
 {
-    let mut s: u64 = 0;
-    for a in 0..64 {
-        s = source_in(words, n, ranks, m, among, t, a, s);
-    }
-    s
+    masks::lines::passing(64, |a| source_at(words, n, ranks, m, among, t, a as u64))
 }
 
 // A view within the bounds that takes exception a, if it is one of s.
