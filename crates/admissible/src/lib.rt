@@ -8,23 +8,13 @@ ghost use Rattle.admissible.specs.Admissible.{Minimal, MinimalAt, Undominated, U
 
 use bounds::Part;
 use masks::Bounds;
-use queue::index;
-use queue::index::Index;
+use queue::{Prepared, index};
 use queue::waiting::Waiting;
 
 // No view within root has a subset of `taken` that lacks its exception at place e. The bounds root are at rest with these live rules.
-pub fn minimal_at(
-    words: &[u64],
-    n: usize,
-    ranks: &[u64],
-    index: &Index,
-    live: Waiting,
-    root: Bounds,
-    taken: u64,
-    e: u64,
-) -> bool
-    requires { (n * 8 ≤ length words.now) × (length ranks.now ≤ 64) × (e < 64) × Chains words.now n index.now }
-    ensures { Decides result (MinimalAt words.now n ranks.now root taken e) }
+pub fn minimal_at(book: &Prepared<'_>, live: Waiting, root: Bounds, taken: u64, e: u64) -> bool
+    requires { e < 64 }
+    ensures { Decides result (MinimalAt book.now.rules.words.now book.now.rules.count book.now.ranks.now root taken e) }
 {
     if (taken >> e) % 2 == 0 {
         return true;
@@ -33,25 +23,16 @@ pub fn minimal_at(
         return true;
     }
     let b = bounds::with_sets(root, 0, sets::cleared(taken, e));
-    let t = index::among(index, live, root, b);
-    probe::ask(words, n, ranks, index, t, b).is_none()
+    let t = index::among(book.index, live, root, b);
+    probe::ask(book, t, b).is_none()
 }
 
 // No view within root has a proper subset of `taken`: for each member there is none without it.
-pub fn each_needed(
-    words: &[u64],
-    n: usize,
-    ranks: &[u64],
-    index: &Index,
-    live: Waiting,
-    root: Bounds,
-    taken: u64,
-) -> bool
-    requires { (n * 8 ≤ length words.now) × (length ranks.now ≤ 64) × Chains words.now n index.now }
-    ensures { Decides result (Minimal words.now n ranks.now root taken) }
+pub fn each_needed(book: &Prepared<'_>, live: Waiting, root: Bounds, taken: u64) -> bool
+    ensures { Decides result (Minimal book.now.rules.words.now book.now.rules.count book.now.ranks.now root taken) }
 {
     for e in 0..64 {
-        if !minimal_at(words, n, ranks, index, live, root, taken, e) {
+        if !minimal_at(book, live, root, taken, e) {
             return false;
         }
     }
@@ -59,58 +40,33 @@ pub fn each_needed(
 }
 
 // No view within root has a proper subset of `taken`. What all subsets have in common is found first, once for all members.
-pub fn minimal(
-    words: &[u64],
-    n: usize,
-    ranks: &[u64],
-    index: &Index,
-    root: Bounds,
-    taken: u64,
-) -> bool
-    requires { (n * 8 ≤ length words.now) × (length ranks.now ≤ 64) × Chains words.now n index.now }
-    ensures { Decides result (Minimal words.now n ranks.now root taken) }
+pub fn minimal(book: &Prepared<'_>, root: Bounds, taken: u64) -> bool
+    ensures { Decides result (Minimal book.now.rules.words.now book.now.rules.count book.now.ranks.now root taken) }
 {
     let b = bounds::with_sets(root, 0, taken);
-    let rest = queue::propagate(words, n, ranks, index, index::changed(index, root, b), b);
-    each_needed(words, n, ranks, index, rest.live, rest.bounds, taken)
+    let rest = queue::propagate(book, index::changed(book.index, root, b), b);
+    each_needed(book, rest.live, rest.bounds, taken)
 }
 
 // No view within root takes the exception at place a, if that outranks a member of `taken`.
-pub fn undominated_at(
-    words: &[u64],
-    n: usize,
-    ranks: &[u64],
-    index: &Index,
-    root: Bounds,
-    taken: u64,
-    rank: u64,
-    a: u64,
-) -> bool
-    requires { (n * 8 ≤ length words.now) × (length ranks.now ≤ 64) × (a < 64) × Chains words.now n index.now }
-    ensures { Decides result (UndominatedAt words.now n ranks.now root taken rank a) }
+pub fn undominated_at(book: &Prepared<'_>, root: Bounds, taken: u64, rank: u64, a: u64) -> bool
+    requires { a < 64 }
+    ensures { Decides result (UndominatedAt book.now.rules.words.now book.now.rules.count book.now.ranks.now root taken rank a) }
 {
     if rank & taken == 0 {
         return true;
     }
     let b = bounds::into(root, bounds::one(Part::Taken, a));
-    let t = index::changed(index, root, b);
-    probe::ask(words, n, ranks, index, t, b).is_none()
+    let t = index::changed(book.index, root, b);
+    probe::ask(book, t, b).is_none()
 }
 
 // No view within root takes an exception that outranks a member of `taken`.
-pub fn undominated(
-    words: &[u64],
-    n: usize,
-    ranks: &[u64],
-    index: &Index,
-    root: Bounds,
-    taken: u64,
-) -> bool
-    requires { (n * 8 ≤ length words.now) × (length ranks.now ≤ 64) × Chains words.now n index.now }
-    ensures { Decides result (Undominated words.now n ranks.now root taken) }
+pub fn undominated(book: &Prepared<'_>, root: Bounds, taken: u64) -> bool
+    ensures { Decides result (Undominated book.now.rules.words.now book.now.rules.count book.now.ranks.now root taken) }
 {
-    for (a, &rank) in ranks.iter().enumerate() {
-        if !undominated_at(words, n, ranks, index, root, taken, rank, a as u64) {
+    for (a, &rank) in book.ranks.iter().enumerate() {
+        if !undominated_at(book, root, taken, rank, a as u64) {
             return false;
         }
     }
@@ -118,16 +74,8 @@ pub fn undominated(
 }
 
 // The set is one that a resolution can have, among the views within root. The bounds root should be at rest.
-pub fn admissible(
-    words: &[u64],
-    n: usize,
-    ranks: &[u64],
-    index: &Index,
-    root: Bounds,
-    taken: u64,
-) -> bool
-    requires { (n * 8 ≤ length words.now) × (length ranks.now ≤ 64) × Chains words.now n index.now }
-    ensures { Decides result (Admissible words.now n ranks.now root taken) }
+pub fn admissible(book: &Prepared<'_>, root: Bounds, taken: u64) -> bool
+    ensures { Decides result (Admissible book.now.rules.words.now book.now.rules.count book.now.ranks.now root taken) }
 {
-    minimal(words, n, ranks, index, root, taken) && undominated(words, n, ranks, index, root, taken)
+    minimal(book, root, taken) && undominated(book, root, taken)
 }

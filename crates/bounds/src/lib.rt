@@ -7,7 +7,7 @@ ghost use Rattle.masks.specs.Views.{Meets};
 ghost use Rattle.bounds.specs.Singles.{one_of, number_of, Place, Picked};
 ghost use Rattle.bounds.specs.Sound.{Keeps, Firing, Idle, Coherent, Levelled, LevelledAt, Unlinked, Ruled, into_of, out_of, narrow_of, with_sets};
 
-use masks::{Bounds, Masks, lines};
+use masks::{Bounds, Masks, Rules, lines};
 use sets::Pair;
 
 // The words of a pair.
@@ -235,26 +235,25 @@ pub fn levels(ranks: &[u64], b: Bounds) -> Bounds
 }
 
 // What lines that surely count lead to, from an exception that is surely taken, is not taken.
-pub fn unlinked(words: &[u64], n: usize, ranks: &[u64], b: Bounds) -> Bounds
-    requires { (n * 8 ≤ length words.now) × (length ranks.now ≤ 64) }
-    ensures { Keeps (Unlinked words.now n ranks.now) b result }
+pub fn unlinked(rules: &Rules<'_>, ranks: &[u64], b: Bounds) -> Bounds
+    requires { length ranks.now ≤ 64 }
+    ensures { Keeps (Unlinked rules.now.words.now rules.now.count ranks.now) b result }
 {
-    if !lines::lined(words, n) {
+    if !lines::lined(rules) {
         return b;
     }
-    let m = lines::lines_in(words, n, b.hi, b.lo);
-    let taken = lines::reach(words, n, ranks, m, b.lo.taken);
+    let m = lines::lines_in(rules, b.hi, b.lo);
+    let taken = lines::reach(rules, ranks, m, b.lo.taken);
     out(b, Pair::of_exceptions(taken))
 }
 
 // What no chain of rules can give from nothing within the bounds is out: the upper end shrinks to a closure.
-pub fn upper(words: &[u64], n: usize, b: Bounds) -> Bounds
-    requires { n * 8 ≤ length words.now }
-    ensures { Keeps (Ruled words.now n) b result }
+pub fn upper(rules: &Rules<'_>, b: Bounds) -> Bounds
+    ensures { Keeps (Ruled rules.now.words.now rules.now.count) b result }
 {
     let lo = b.lo;
     Bounds {
         lo,
-        hi: sets::meet(b.hi, masks::closure(words, n, b)),
+        hi: sets::meet(b.hi, masks::closure(rules, b)),
     }
 }

@@ -19,7 +19,7 @@ use Rattle.text.specs.Reading.{over}
 use Rattle.text.proofs.Lent.{over-sets}
 use Rattle.masks.specs.declared.Bounds.{Bounds}
 use Rattle.bounds.specs.Sound.{Propagated}
-use Rattle.page.specs.declared.Task.{Task}
+use Rattle.page.specs.Sought.{Sought}
 use Rattle.page.specs.Pages.{Page}
 use Rattle.page.proofs.Pages.{flat-length}
 use Rattle.meaning.specs.Books.{Book}
@@ -86,7 +86,7 @@ module _ (b : Book) (from : Point) (o o' : List ℕ) (r k : ℕ) (ek : k ≡ len
       let t : length (page_from b (length o / 3) from) ≤ length o / 3 = rw (page-is b (length o / 3) from zs l a) (let m = length-take (length o / 3) zs in omega arith) in
       f ∙ over-sets o (flat (page_from b (length o / 3) from)) (omega (arith, div-mul-le_self (length o) 3))
 
-module _ (s : Shape) (ws ranks : List ℕ) (root : Bounds) (q : Task) (i : RootIs s ws ranks root) (er : q.rules ≡ rule_count s) (es : q.statements ≡ s.statements) where
+module _ (s : Shape) (ws ranks : List ℕ) (root : Bounds) (q : Sought) (i : RootIs s ws ranks root) (er : q.rules ≡ rule_count s) (es : q.statements ≡ s.statements) where
   serves : (rows : List ℤ) → Loaded s rows ws ranks → Serves (book_of s rows) ws ranks root q
   unfolding book_of
   serves rows l = record { rooted = rw er (i.rooted rows l); statements = es }

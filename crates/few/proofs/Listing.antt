@@ -14,7 +14,7 @@ use Rattle.sets.proofs.Digits.{lt-or-le}
 use Rattle.masks.specs.declared.Bounds.{Bounds}
 use Rattle.masks.specs.Views.{MaskView}
 use Rattle.bounds.specs.Sound.{In}
-use Rattle.page.specs.declared.Task.{Task}
+use Rattle.page.specs.Sought.{Sought}
 use Rattle.page.specs.Pages.{pair_at, pairs_in, Page}
 use Rattle.page.proofs.Pages.{flat-length, pairs-front}
 use Rattle.std.specs.Prelude.{Option, None}
@@ -65,7 +65,7 @@ module _ {ws : List ℕ} {n : ℕ} {ranks : List ℕ} {b : Bounds} {a : Option P
   collected-nothing e = record { few = omega arith; some = λ l. absurd (omega arith); whole = λ l. record { only = λ v m. absurd m; all = λ v y i. q.none e v y i } }
 
 -- ---- the page
-pub store-listed : (ws ranks : List ℕ) (q : Task) (b : Bounds) (store : List ℕ) (k at : ℕ) (o o' : List ℕ) (r : ℕ) → PutSorted store k q.room at o o' r → AllListed ws ranks q b store k at o o' r
+pub store-listed : (ws ranks : List ℕ) (q : Sought) (b : Bounds) (store : List ℕ) (k at : ℕ) (o o' : List ℕ) (r : ℕ) → PutSorted store k q.room at o o' r → AllListed ws ranks q b store k at o o' r
 store-listed ws ranks q b store k at o o' r p = record {
   fits = p.fits;
   page = λ s u zs a t. p.page

@@ -7,7 +7,7 @@ use Rattle.masks.specs.declared.Bounds.{Bounds}
 use Rattle.masks.specs.Views.{MaskView}
 use Rattle.bounds.specs.Sound.{In}
 use Rattle.meaning.specs.Order.{Before, Ascending}
-use Rattle.page.specs.declared.Task.{Task}
+use Rattle.page.specs.Sought.{Sought}
 use Rattle.few.specs.declared.Place.{Place}
 use Rattle.page.specs.Pages.{pair_at, pairs_in, Page}
 
@@ -90,6 +90,6 @@ pub record OneSet (b : Bounds) : Type 0 where
   pub same : (v w : Pair) → In b v → In b w → v.taken ≡ w.taken
 
 -- The page of the first k pairs of the store in order, if these are the views within the bounds and take the same exceptions.
-pub record AllListed (ws ranks : List ℕ) (q : Task) (b : Bounds) (store : List ℕ) (k at : ℕ) (o o' : List ℕ) (r : ℕ) : Type 0 where
+pub record AllListed (ws ranks : List ℕ) (q : Sought) (b : Bounds) (store : List ℕ) (k at : ℕ) (o o' : List ℕ) (r : ℕ) : Type 0 where
   pub fits : r ≤ q.room
   pub page : Stock ws q.rules ranks b (pairs_in store 0 k) → OneSet b → (zs : List Pair) → Ascending zs → Stock ws q.rules ranks b zs → Page q.room at o o' zs r

@@ -4,15 +4,15 @@
 ghost use Rattle.std.specs.Prelude.{◌≡◌, ◌⊎◌, false, ◌+◌, ◌*◌, ◌<◌, ◌≤◌, length};
 ghost use Rattle.queue.specs.Chains.{Chains};
 ghost use Rattle.masks.specs.Views.{MaskView};
+ghost use Rattle.page.specs.Sought.{sought};
 ghost use Rattle.page.specs.Pages.{pair_at, Fits, Listed};
 ghost use Rattle.few.specs.Few.{most, Gathered, Collected, Sooner, Follows, Leads, FirstOf, PutSorted, AllListed};
 
 use masks::Bounds;
 use page::Task;
 use probe::Node;
-use queue::index::Index;
 use queue::waiting::Work;
-use queue::{Rest, index, waiting};
+use queue::{Prepared, Rest, index, waiting};
 use sets::Pair;
 
 // How many views the store has room for. Where it is full there may be more.
@@ -38,19 +38,9 @@ pub struct Place {
 
 // Puts the views within the bounds b into the store from a place on, as the search finds them, up to place `cap` or until the fuel is used up.
 // Answers the place after them and the fuel that is left; w is what is to be done before the bounds are at rest.
-pub fn gather(
-    words: &[u64],
-    n: usize,
-    ranks: &[u64],
-    index: &Index,
-    w: Work,
-    b: Bounds,
-    store: &mut [u64],
-    cap: usize,
-    place: Place,
-) -> Place
-    requires { (n * 8 ≤ length words.now) × (length ranks.now ≤ 64) × Chains words.now n index.now × (cap * 3 ≤ length store.old) × (place.at ≤ cap) }
-    ensures { Gathered words.now n ranks.now b cap place.at place.fuel store.old store.new result }
+pub fn gather(book: &Prepared<'_>, w: Work, b: Bounds, store: &mut [u64], cap: usize, place: Place) -> Place
+    requires { (cap * 3 ≤ length store.old) × (place.at ≤ cap) }
+    ensures { Gathered book.now.rules.words.now book.now.rules.count book.now.ranks.now b cap place.at place.fuel store.old store.new result }
 {
     let k = place.at;
     if cap <= k {
@@ -60,7 +50,7 @@ pub fn gather(
         return place;
     }
     let fuel = place.fuel - 1;
-    let x = probe::visit(words, n, ranks, index, w, b);
+    let x = probe::visit(book, w, b);
     match x {
         Node::View(v) => {
             page::put(store, k, v);
@@ -69,21 +59,11 @@ pub fn gather(
         Node::Empty => Place { at: k, fuel },
         Node::Open(c, m, live) => {
             let o = bounds::out(c, m);
-            let t = index::among(index, live, c, o);
-            let j = gather(
-                words,
-                n,
-                ranks,
-                index,
-                t,
-                o,
-                store,
-                cap,
-                Place { at: k, fuel },
-            );
+            let t = index::among(book.index, live, c, o);
+            let j = gather(book, t, o, store, cap, Place { at: k, fuel });
             let p = bounds::into(c, m);
-            let t = index::among(index, live, c, p);
-            gather(words, n, ranks, index, t, p, store, cap, j)
+            let t = index::among(book.index, live, c, p);
+            gather(book, t, p, store, cap, j)
         }
     }
 }
@@ -97,31 +77,12 @@ pub struct Stored {
 
 // Puts the views within bounds at rest into the store, up to `cap` of them. Answers how many. Where the search for all of them has used up its
 // fuel, the store counts as full if there is any view: one that was found, or that a search from shaved bounds finds.
-pub fn collect(
-    words: &[u64],
-    n: usize,
-    ranks: &[u64],
-    index: &Index,
-    rest: Rest,
-    store: &mut [u64],
-    cap: usize,
-    fuel: u64,
-) -> Stored
-    requires { (n * 8 ≤ length words.now) × (length ranks.now ≤ 64) × Chains words.now n index.now × (cap * 3 ≤ length store.old) }
-    ensures { Collected words.now n ranks.now rest.bounds cap store.new result.count }
+pub fn collect(book: &Prepared<'_>, rest: Rest, store: &mut [u64], cap: usize, fuel: u64) -> Stored
+    requires { cap * 3 ≤ length store.old }
+    ensures { Collected book.now.rules.words.now book.now.rules.count book.now.ranks.now rest.bounds cap store.new result.count }
 {
     let w = waiting::none(rest.live);
-    let r = gather(
-        words,
-        n,
-        ranks,
-        index,
-        w,
-        rest.bounds,
-        store,
-        cap,
-        Place { at: 0, fuel },
-    );
+    let r = gather(book, w, rest.bounds, store, cap, Place { at: 0, fuel });
     let visited = fuel - r.fuel;
     if r.fuel != 0 {
         return Stored {
@@ -135,7 +96,7 @@ pub fn collect(
             visited,
         };
     }
-    let a = probe::probe_shaved(words, n, ranks, index, w, rest.bounds);
+    let a = probe::probe_shaved(book, w, rest.bounds);
     match a {
         Some(_) => Stored {
             count: cap,
@@ -238,25 +199,12 @@ pub fn put_sorted(store: &[u64], k: usize, room: usize, out: &mut [u64], at: usi
 // Puts all views with these exceptions on the page from place `at` on, in the order of pairs until it is full; where `after` is true only those
 // later than the task's point. None of those views may be beyond the bounds at rest. Where k is less than `cap`, they are the first k pairs of
 // the store. Answers the place after them.
-pub fn list(
-    words: &[u64],
-    ranks: &[u64],
-    index: &Index,
-    task: Task,
-    taken: u64,
-    rest: Rest,
-    store: &[u64],
-    cap: usize,
-    k: usize,
-    after: bool,
-    out: &mut [u64],
-    at: usize,
-) -> usize
-    requires { (Fits words.now ranks.now out.old task at) × Chains words.now task.rules index.now × (cap * 3 ≤ length store.now) }
-    ensures { Listed (MaskView words.now task.rules ranks.now) task taken rest.bounds after at out.old out.new result ⊎ ((after ≡ false) × (k < cap) × AllListed words.now ranks.now task rest.bounds store.now k at out.old out.new result) }
+pub fn list(book: &Prepared<'_>, task: Task, taken: u64, rest: Rest, store: &[u64], cap: usize, k: usize, after: bool, out: &mut [u64], at: usize) -> usize
+    requires { (Fits book.now.rules.words.now book.now.ranks.now out.old (sought book.now.rules.count task) at) × (cap * 3 ≤ length store.now) }
+    ensures { Listed (MaskView book.now.rules.words.now book.now.rules.count book.now.ranks.now) (sought book.now.rules.count task) taken rest.bounds after at out.old out.new result ⊎ ((after ≡ false) × (k < cap) × AllListed book.now.rules.words.now book.now.ranks.now (sought book.now.rules.count task) rest.bounds store.now k at out.old out.new result) }
 {
     if !after && k < cap {
         return put_sorted(store, k, task.room, out, at);
     }
-    page::list_views(words, ranks, index, task, taken, rest, after, out, at)
+    page::list_views(book, task, taken, rest, after, out, at)
 }

@@ -7,45 +7,43 @@ ghost use Rattle.masks.specs.Views.{Level, Lined, Uncrossed};
 ghost use Rattle.queue.specs.Chains.{Chains};
 ghost use Rattle.judge.specs.Judged.{number_of, Judged, Free, Smallest};
 
-use masks::Bounds;
-use queue::index::Index;
+use queue::Prepared;
+use masks::{Bounds, Rules};
 use sets::Pair;
 
 mod lined;
 
 // No member of T stands beside its superior: by P lines, and by Q lines that count in the pair.
-fn unranked(words: &[u64], n: usize, ranks: &[u64], p: Pair) -> bool
-    requires { (n * 8 ≤ length words.now) × (length ranks.now ≤ 64) }
-    ensures { Decides result (Level ranks.now p.taken × (Lined words.now n → Uncrossed words.now n ranks.now p)) }
+fn unranked(rules: &Rules<'_>, ranks: &[u64], p: Pair) -> bool
+    requires { length ranks.now ≤ 64 }
+    ensures { Decides result (Level ranks.now p.taken × (Lined rules.now.words.now rules.now.count → Uncrossed rules.now.words.now rules.now.count ranks.now p)) }
 {
     let taken = p.taken;
     if !masks::level(ranks, taken) {
         return false;
     }
-    masks::lines::uncrossed(words, n, ranks, p)
+    masks::lines::uncrossed(rules, ranks, p)
 }
 
 // No view dominates the pair. Without lines the set of exceptions alone decides.
-fn undominated(words: &[u64], n: usize, ranks: &[u64], index: &Index, root: Bounds, p: Pair) -> bool
-    requires { (n * 8 ≤ length words.now) × (length ranks.now ≤ 64) × Chains words.now n index.now }
-    ensures { Free words.now n ranks.now root p result }
+fn undominated(book: &Prepared<'_>, root: Bounds, p: Pair) -> bool
+    ensures { Free book.now.rules.words.now book.now.rules.count book.now.ranks.now root p result }
 {
-    if masks::lines::lined(words, n) {
-        return lined::undominated(words, n, ranks, index, root, p);
+    if masks::lines::lined(&book.rules) {
+        return lined::undominated(book, root, p);
     }
-    admissible::undominated(words, n, ranks, index, root, p.taken)
+    admissible::undominated(book, root, p.taken)
 }
 
 // No undominated view has a proper subset of the exceptions of the pair, which is undominated. Without lines a view with a subset of an undominated set is
 // undominated, so all views are asked.
-fn minimal(words: &[u64], n: usize, ranks: &[u64], index: &Index, root: Bounds, p: Pair) -> bool
-    requires { (n * 8 ≤ length words.now) × (length ranks.now ≤ 64) × Chains words.now n index.now }
-    ensures { Smallest words.now n ranks.now root p result }
+fn minimal(book: &Prepared<'_>, root: Bounds, p: Pair) -> bool
+    ensures { Smallest book.now.rules.words.now book.now.rules.count book.now.ranks.now root p result }
 {
-    if masks::lines::lined(words, n) {
-        return lined::minimal(words, n, ranks, index, root, p.taken);
+    if masks::lines::lined(&book.rules) {
+        return lined::minimal(book, root, p.taken);
     }
-    admissible::minimal(words, n, ranks, index, root, p.taken)
+    admissible::minimal(book, root, p.taken)
 }
 
 // The verdicts. Their numbers are those of the documents and of C.
@@ -70,30 +68,22 @@ impl Judgement {
 
 // The verdict, the first that applies: 1 no answer set; 2 a member of T beside its superior; 3 a body in T unsatisfied; 4 dominated;
 // 5 some undominated view has a proper subset of T; 0 a resolution. The bounds root have the book's views.
-pub fn verdict(
-    words: &[u64],
-    n: usize,
-    ranks: &[u64],
-    index: &Index,
-    root: Bounds,
-    p: Pair,
-) -> Judgement
-    requires { (n * 8 ≤ length words.now) × (length ranks.now ≤ 64) × Chains words.now n index.now }
-    ensures { Judged words.now n ranks.now root p (number_of result) }
+pub fn verdict(book: &Prepared<'_>, root: Bounds, p: Pair) -> Judgement
+    ensures { Judged book.now.rules.words.now book.now.rules.count book.now.ranks.now root p (number_of result) }
 {
-    if !verdict::is_answer(words, n, p) {
+    if !verdict::is_answer(&book.rules, p) {
         return Judgement::NoAnswerSet;
     }
-    if !unranked(words, n, ranks, p) {
+    if !unranked(&book.rules, book.ranks, p) {
         return Judgement::RankedWithin;
     }
-    if !verdict::bodies(words, n, p) {
+    if !verdict::bodies(&book.rules, p) {
         return Judgement::BodyUnsatisfied;
     }
-    if !undominated(words, n, ranks, index, root, p) {
+    if !undominated(book, root, p) {
         return Judgement::Dominated;
     }
-    if !minimal(words, n, ranks, index, root, p) {
+    if !minimal(book, root, p) {
         return Judgement::NotMinimal;
     }
     Judgement::Resolution

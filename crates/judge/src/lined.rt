@@ -4,40 +4,26 @@ ghost use Rattle.logic.specs.Tests.{Decides};
 ghost use Rattle.queue.specs.Chains.{Chains};
 ghost use Rattle.admissible.specs.Admissible.{Stands, Unexceeded};
 
+use queue::Prepared;
 use masks::Bounds;
-use queue::index::Index;
 use sets::Pair;
 use standing::memory;
 
 // No view within root dominates the pair.
-pub fn undominated(
-    words: &[u64],
-    n: usize,
-    ranks: &[u64],
-    index: &Index,
-    root: Bounds,
-    p: Pair,
-) -> bool
-    requires { ((n + 32) * 8 ≤ length words.now) × (length ranks.now ≤ 64) × Chains words.now n index.now }
-    ensures { Decides result (Stands words.now n ranks.now root p) }
+pub fn undominated(book: &Prepared<'_>, root: Bounds, p: Pair) -> bool
+    requires { (book.now.rules.count + 32) * 8 ≤ length book.now.rules.words.now }
+    ensures { Decides result (Stands book.now.rules.words.now book.now.rules.count book.now.ranks.now root p) }
 {
     let mut memory = memory::nothing();
-    standing::stands(words, n, ranks, index, root, &mut memory, p)
+    standing::stands(book, root, &mut memory, p)
 }
 
 // No undominated view within root has a proper subset of `taken`. The memory is a new one: what the test of domination remembers would
 // spare one search at most.
-pub fn minimal(
-    words: &[u64],
-    n: usize,
-    ranks: &[u64],
-    index: &Index,
-    root: Bounds,
-    taken: u64,
-) -> bool
-    requires { ((n + 32) * 8 ≤ length words.now) × (length ranks.now ≤ 64) × Chains words.now n index.now }
-    ensures { Decides result (Unexceeded words.now n ranks.now root taken) }
+pub fn minimal(book: &Prepared<'_>, root: Bounds, taken: u64) -> bool
+    requires { (book.now.rules.count + 32) * 8 ≤ length book.now.rules.words.now }
+    ensures { Decides result (Unexceeded book.now.rules.words.now book.now.rules.count book.now.ranks.now root taken) }
 {
     let mut memory = memory::nothing();
-    standing::unexceeded(words, n, ranks, index, root, &mut memory, taken)
+    standing::unexceeded(book, root, &mut memory, taken)
 }

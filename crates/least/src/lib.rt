@@ -10,7 +10,7 @@ ghost use Rattle.least.specs.Rows.{AnswersRow, AnswersRows};
 ghost use Rattle.least.specs.Search.{Has, Lacks, Lowered, Asking, Alone, Looked};
 
 use crate::rows::Row;
-use masks::{Bounds, lines};
+use masks::{Bounds, Rules, lines};
 use sets::Pair;
 
 pub mod rows;
@@ -156,12 +156,12 @@ pub fn alone(rows: &[u64], m: usize, whole: Pair, x: Bounds) -> bool
 }
 
 // The lower end of b is the only set below it. If it is not, no view is within b.
-pub fn founded(words: &[u64], n: usize, b: Bounds) -> bool
-    requires { (n * 8 ≤ length words.now) × (n ≤ 256) }
-    ensures { Decides result (Founded words.now n b) }
+pub fn founded(rules: &Rules<'_>, b: Bounds) -> bool
+    requires { rules.now.count ≤ 256 }
+    ensures { Decides result (Founded rules.now.words.now rules.now.count b) }
 {
     let mut rows = [0u64; rows::ROOM * 4];
-    let m = rows::gather(words, n, b, &mut rows);
+    let m = rows::gather(rules, b, &mut rows);
     let hi = b.lo;
     let x = Bounds {
         lo: Pair::of_exceptions(hi.taken),
@@ -172,9 +172,9 @@ pub fn founded(words: &[u64], n: usize, b: Bounds) -> bool
 
 // The pair is a view, by the definition. The search for a smaller closed set is left to pairs that the rules with one head in them do not reach, and
 // below which these leave nothing closed.
-pub fn is_view(words: &[u64], n: usize, ranks: &[u64], v: Pair) -> bool
-    requires { (n * 8 ≤ length words.now) × (n ≤ 256) × (length ranks.now ≤ 64) }
-    ensures { Decides result (MaskView words.now n ranks.now v) }
+pub fn is_view(rules: &Rules<'_>, ranks: &[u64], v: Pair) -> bool
+    requires { (rules.now.count ≤ 256) × (length ranks.now ≤ 64) }
+    ensures { Decides result (MaskView rules.now.words.now rules.now.count ranks.now v) }
 {
     let held = v.held;
     let denied = v.denied;
@@ -185,21 +185,21 @@ pub fn is_view(words: &[u64], n: usize, ranks: &[u64], v: Pair) -> bool
     if !masks::level(ranks, taken) {
         return false;
     }
-    if !lines::uncrossed(words, n, ranks, v) {
+    if !lines::uncrossed(rules, ranks, v) {
         return false;
     }
-    let Some(reached) = masks::sweep(words, n, v) else {
+    let Some(reached) = masks::sweep(rules, v) else {
         return false;
     };
     if reached == v {
         return true;
     }
-    let d = masks::grown(words, n, v, reached);
+    let d = masks::grown(rules, v, reached);
     if d == v {
         return true;
     }
-    if masks::closed_within(words, n, v, d) {
+    if masks::closed_within(rules, v, d) {
         return false;
     }
-    founded(words, n, Bounds { lo: v, hi: v })
+    founded(rules, Bounds { lo: v, hi: v })
 }

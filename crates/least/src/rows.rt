@@ -3,7 +3,7 @@ ghost use Rattle.std.specs.Prelude.{◌≡◌, ◌+◌, ◌*◌, ◌≤◌, leng
 ghost use Rattle.logic.specs.Tests.{Decides};
 ghost use Rattle.least.specs.Rows.{row_at, put_at, row_of, CanAsk, Unanswered, Gathered};
 
-use masks::{Bounds, Masks};
+use masks::{Bounds, Masks, Rules};
 use sets::Pair;
 
 // How many rows there is room for: one for each rule of a book.
@@ -64,13 +64,13 @@ pub fn can_ask(r: Masks, b: Bounds) -> bool
 }
 
 // Writes the rows of the first n rules, and answers how many there are.
-pub fn gather(words: &[u64], n: usize, b: Bounds, rows: &mut [u64]) -> usize
-    requires { (n * 8 ≤ length words.now) × (n * 4 ≤ length rows.old) }
-    ensures { Gathered words.now n b rows.new result }
+pub fn gather(rules: &Rules<'_>, b: Bounds, rows: &mut [u64]) -> usize
+    requires { rules.now.count * 4 ≤ length rows.old }
+    ensures { Gathered rules.now.words.now rules.now.count b rows.new result }
 {
     let mut m: usize = 0;
-    for k in 0..n {
-        let r = masks::masks_at(words, k);
+    for k in 0..rules.count {
+        let r = masks::masks_at(rules.words, k);
         if can_ask(r, b) {
             put(rows, m, row_of(r, b));
             m += 1;

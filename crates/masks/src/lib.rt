@@ -27,6 +27,14 @@ pub struct Bounds {
     pub hi: Pair,
 }
 
+// The rules of a book: the first `count` rows of a slice that has eight words for each. Behind them may stand the rows of its Q lines.
+#[derive(Clone, Copy)]
+pub struct Rules<'a> {
+    pub words: &'a [u64],
+    pub count: usize,
+    ghost room: { count * 8 ≤ length words.now },
+}
+
 // Rule k of a slice that has eight words for each rule.
 pub fn masks_at(words: &[u64], k: usize) -> Masks
     requires { k * 8 + 8 ≤ length words.now }
@@ -73,28 +81,26 @@ pub fn fire(r: Masks, b: Bounds, d: Pair) -> Pair
 }
 
 // The pair c with what the rules add in one pass, each from what those before it have left.
-pub fn pass(words: &[u64], n: usize, b: Bounds, c: Pair) -> Pair
-    requires { n * 8 ≤ length words.now }
-    ensures { Passed words.now n b c result }
+pub fn pass(rules: &Rules<'_>, b: Bounds, c: Pair) -> Pair
+    ensures { Passed rules.now.words.now rules.now.count b c result }
 {
     let mut d = c;
-    for k in 0..n {
-        d = fire(masks_at(words, k), b, d);
+    for k in 0..rules.count {
+        d = fire(masks_at(rules.words, k), b, d);
     }
     d
 }
 
 // The least pair that has the exceptions of the upper bound and to which no rule adds anything within the bounds.
-pub fn closure(words: &[u64], n: usize, b: Bounds) -> Pair
-    requires { n * 8 ≤ length words.now }
-    ensures { Closure words.now n b result }
+pub fn closure(rules: &Rules<'_>, b: Bounds) -> Pair
+    ensures { Closure rules.now.words.now rules.now.count b result }
 {
     let mut c = Pair::of_exceptions(b.hi.taken);
     loop {
         if c == b.hi {
             return c;
         }
-        let d = pass(words, n, b, c);
+        let d = pass(rules, b, c);
         if d == c {
             break;
         }
@@ -168,13 +174,12 @@ pub fn add_within(r: Masks, v: Pair, f: bool, d: Pair) -> Pair
 const PASSES: u64 = 128;
 
 // One sweep over the first n rules: what they add to v's exceptions alone, if v meets them all. It ends at the first that v does not meet.
-pub fn sweep(words: &[u64], n: usize, v: Pair) -> Option<Pair>
-    requires { n * 8 ≤ length words.now }
-    ensures { Swept words.now n v result }
+pub fn sweep(rules: &Rules<'_>, v: Pair) -> Option<Pair>
+    ensures { Swept rules.now.words.now rules.now.count v result }
 {
     let mut d = Pair::of_exceptions(v.taken);
-    for k in 0..n {
-        let r = masks_at(words, k);
+    for k in 0..rules.count {
+        let r = masks_at(rules.words, k);
         let f = fires(r, v, v);
         let e = add_within(r, v, f, d);
         if !meets(r, v, f) {
@@ -186,13 +191,13 @@ pub fn sweep(words: &[u64], n: usize, v: Pair) -> Option<Pair>
 }
 
 // The pair d with what the first n rules add to it in one pass, which every closed pair within v has as it has d.
-pub fn grow(words: &[u64], n: usize, v: Pair, d: Pair) -> Pair
-    requires { (n * 8 ≤ length words.now) × Beneath words.now n v d }
-    ensures { Beneath words.now n v result }
+pub fn grow(rules: &Rules<'_>, v: Pair, d: Pair) -> Pair
+    requires { Beneath rules.now.words.now rules.now.count v d }
+    ensures { Beneath rules.now.words.now rules.now.count v result }
 {
     let mut e = d;
-    for k in 0..n {
-        let r = masks_at(words, k);
+    for k in 0..rules.count {
+        let r = masks_at(rules.words, k);
         let f = fires(r, v, v);
         e = add_within(r, v, f, e);
     }
@@ -200,13 +205,13 @@ pub fn grow(words: &[u64], n: usize, v: Pair, d: Pair) -> Pair
 }
 
 // The same again and again, until v is reached or nothing is added.
-pub fn grown(words: &[u64], n: usize, v: Pair, d: Pair) -> Pair
-    requires { (n * 8 ≤ length words.now) × Beneath words.now n v d }
-    ensures { Beneath words.now n v result }
+pub fn grown(rules: &Rules<'_>, v: Pair, d: Pair) -> Pair
+    requires { Beneath rules.now.words.now rules.now.count v d }
+    ensures { Beneath rules.now.words.now rules.now.count v result }
 {
     let mut c = d;
     for _ in 0..PASSES {
-        let e = grow(words, n, v, c);
+        let e = grow(rules, v, c);
         if e == v || e == c {
             return e;
         }
@@ -226,9 +231,8 @@ pub fn closed_at(r: Masks, v: Pair, d: Pair) -> bool
 }
 
 // The pair d is closed and within v, with the same exceptions: if it is not v, then v is not minimal.
-pub fn closed_within(words: &[u64], n: usize, v: Pair, d: Pair) -> bool
-    requires { n * 8 ≤ length words.now }
-    ensures { result ≡ true → (d.taken ≡ v.taken) × Sub d v × MaskClosed words.now n v d }
+pub fn closed_within(rules: &Rules<'_>, v: Pair, d: Pair) -> bool
+    ensures { result ≡ true → (d.taken ≡ v.taken) × Sub d v × MaskClosed rules.now.words.now rules.now.count v d }
 {
     if d.taken != v.taken {
         return false;
@@ -236,8 +240,8 @@ pub fn closed_within(words: &[u64], n: usize, v: Pair, d: Pair) -> bool
     if !sets::within(d, v) {
         return false;
     }
-    for k in 0..n {
-        if !closed_at(masks_at(words, k), v, d) {
+    for k in 0..rules.count {
+        if !closed_at(masks_at(rules.words, k), v, d) {
             return false;
         }
     }

@@ -4,6 +4,7 @@ ghost use Rattle.logic.specs.Tests.{Decides};
 ghost use Rattle.masks.specs.Views.{Alike, masks_at, Fires, Lined, Uncrossed};
 ghost use Rattle.masks.specs.Steps.{Grown, ByRanks, ByLine, ByLines, Passed, Reached, Chosen, Passing, Counting, Mates, MatesOf};
 
+use crate::Rules;
 use sets::Pair;
 
 // The most lines.
@@ -32,45 +33,45 @@ pub fn by_ranks(ranks: &[u64], t: u64, o: u64) -> u64
 }
 
 // The set o with what line j leads to from members of t and of o, if it is one of m. The lines stand from row n on.
-pub fn by_line(words: &[u64], n: usize, m: u64, j: usize, t: u64, o: u64) -> u64
-    requires { ((n + 32) * 8 ≤ length words.now) × (j < 32) }
-    ensures { ByLine words.now n m j t o result }
+pub fn by_line(rules: &Rules<'_>, m: u64, j: usize, t: u64, o: u64) -> u64
+    requires { ((rules.now.count + 32) * 8 ≤ length rules.now.words.now) × (j < 32) }
+    ensures { ByLine rules.now.words.now rules.now.count m j t o result }
 {
     if (m >> (j as u64)) % 2 == 0 {
         return o;
     }
-    let l = crate::masks_at(words, n + j);
+    let l = crate::masks_at(rules.words, rules.count + j);
     through(l.head.held, l.head.denied, t, o)
 }
 
 // The set o with what the lines of m lead to from members of t and of o.
-pub fn by_lines(words: &[u64], n: usize, m: u64, t: u64, o: u64) -> u64
-    requires { (n + 32) * 8 ≤ length words.now }
-    ensures { ByLines words.now n m 32 t o result }
+pub fn by_lines(rules: &Rules<'_>, m: u64, t: u64, o: u64) -> u64
+    requires { (rules.now.count + 32) * 8 ≤ length rules.now.words.now }
+    ensures { ByLines rules.now.words.now rules.now.count m 32 t o result }
 {
     let mut p = o;
     for j in 0..LINES {
-        p = by_line(words, n, m, j, t, p);
+        p = by_line(rules, m, j, t, p);
     }
     p
 }
 
 // One pass over all steps.
-pub fn pass(words: &[u64], n: usize, ranks: &[u64], m: u64, t: u64, o: u64) -> u64
-    requires { ((n + 32) * 8 ≤ length words.now) × (length ranks.now ≤ 64) }
-    ensures { Passed words.now n ranks.now m t o result }
+pub fn pass(rules: &Rules<'_>, ranks: &[u64], m: u64, t: u64, o: u64) -> u64
+    requires { ((rules.now.count + 32) * 8 ≤ length rules.now.words.now) × (length ranks.now ≤ 64) }
+    ensures { Passed rules.now.words.now rules.now.count ranks.now m t o result }
 {
-    by_lines(words, n, m, t, by_ranks(ranks, t, o))
+    by_lines(rules, m, t, by_ranks(ranks, t, o))
 }
 
 // The exceptions that steps lead to from a member of t, one or more of them.
-pub fn reach(words: &[u64], n: usize, ranks: &[u64], m: u64, t: u64) -> u64
-    requires { ((n + 32) * 8 ≤ length words.now) × (length ranks.now ≤ 64) }
-    ensures { Reached words.now n ranks.now m t result }
+pub fn reach(rules: &Rules<'_>, ranks: &[u64], m: u64, t: u64) -> u64
+    requires { ((rules.now.count + 32) * 8 ≤ length rules.now.words.now) × (length ranks.now ≤ 64) }
+    ensures { Reached rules.now.words.now rules.now.count ranks.now m t result }
 {
     let mut o: u64 = 0;
     loop {
-        let p = pass(words, n, ranks, m, t, o);
+        let p = pass(rules, ranks, m, t, o);
         if p == o {
             break;
         }
@@ -96,51 +97,51 @@ pub fn passing<F: Fn(usize) -> bool>(n: usize, test: F) -> u64
 
 // The lines whose needed entries are in c and whose barred ones are not in v: with the upper and the lower end of bounds those that surely count
 // within them, with the lower and the upper end those that may.
-pub fn lines_in(words: &[u64], n: usize, v: Pair, c: Pair) -> u64
-    requires { (n + 32) * 8 ≤ length words.now }
-    ensures { Counting words.now n v c result }
+pub fn lines_in(rules: &Rules<'_>, v: Pair, c: Pair) -> u64
+    requires { (rules.now.count + 32) * 8 ≤ length rules.now.words.now }
+    ensures { Counting rules.now.words.now rules.now.count v c result }
 {
-    passing(LINES, |j| crate::fires(crate::masks_at(words, n + j), v, c))
+    passing(LINES, |j| crate::fires(crate::masks_at(rules.words, rules.count + j), v, c))
 }
 
 // The lines that are the same step as line i.
-pub fn twins(words: &[u64], n: usize, i: usize) -> u64
-    requires { ((n + 32) * 8 ≤ length words.now) × (i < 32) }
-    ensures { Chosen (Alike words.now n i) 32 result }
+pub fn twins(rules: &Rules<'_>, i: usize) -> u64
+    requires { ((rules.now.count + 32) * 8 ≤ length rules.now.words.now) × (i < 32) }
+    ensures { Chosen (Alike rules.now.words.now rules.now.count i) 32 result }
 {
-    let head = crate::masks_at(words, n + i).head;
-    passing(LINES, |j| crate::masks_at(words, n + j).head == head)
+    let head = crate::masks_at(rules.words, rules.count + i).head;
+    passing(LINES, |j| crate::masks_at(rules.words, rules.count + j).head == head)
 }
 
 // The set o with the lines that are the same step as line i, if that is one of m.
-pub fn mates_of(words: &[u64], n: usize, m: u64, i: usize, o: u64) -> u64
-    requires { ((n + 32) * 8 ≤ length words.now) × (i < 32) }
-    ensures { MatesOf words.now n m i o result }
+pub fn mates_of(rules: &Rules<'_>, m: u64, i: usize, o: u64) -> u64
+    requires { ((rules.now.count + 32) * 8 ≤ length rules.now.words.now) × (i < 32) }
+    ensures { MatesOf rules.now.words.now rules.now.count m i o result }
 {
     if (m >> (i as u64)) % 2 == 0 {
         return o;
     }
-    o | twins(words, n, i)
+    o | twins(rules, i)
 }
 
 // The lines that are the same step as a line of m.
-pub fn mates(words: &[u64], n: usize, m: u64) -> u64
-    requires { (n + 32) * 8 ≤ length words.now }
-    ensures { Mates words.now n m 32 result }
+pub fn mates(rules: &Rules<'_>, m: u64) -> u64
+    requires { (rules.now.count + 32) * 8 ≤ length rules.now.words.now }
+    ensures { Mates rules.now.words.now rules.now.count m 32 result }
 {
     let mut o: u64 = 0;
     for i in 0..LINES {
-        o = mates_of(words, n, m, i, o);
+        o = mates_of(rules, m, i, o);
     }
     o
 }
 
 // The words have lines.
-pub fn lined(words: &[u64], n: usize) -> bool
-    requires { n * 8 ≤ length words.now }
-    ensures { Decides result (Lined words.now n) }
+pub fn lined(rules: &Rules<'_>) -> bool
+    ensures { Decides result (Lined rules.now.words.now rules.now.count) }
 {
-    let at = n * 8;
+    let words = rules.words;
+    let at = rules.count * 8;
     if words.len() - at < LINES * 8 {
         return false;
     }
@@ -148,14 +149,14 @@ pub fn lined(words: &[u64], n: usize) -> bool
 }
 
 // No exception that the pair takes leads to one that it takes, by lines that count in it; so it is where the words have no lines.
-pub fn uncrossed(words: &[u64], n: usize, ranks: &[u64], v: Pair) -> bool
-    requires { (n * 8 ≤ length words.now) × (length ranks.now ≤ 64) }
-    ensures { Decides result (Lined words.now n → Uncrossed words.now n ranks.now v) }
+pub fn uncrossed(rules: &Rules<'_>, ranks: &[u64], v: Pair) -> bool
+    requires { length ranks.now ≤ 64 }
+    ensures { Decides result (Lined rules.now.words.now rules.now.count → Uncrossed rules.now.words.now rules.now.count ranks.now v) }
 {
-    if !lined(words, n) {
+    if !lined(rules) {
         return true;
     }
     let taken = v.taken;
-    let m = lines_in(words, n, v, v);
-    reach(words, n, ranks, m, taken) & taken == 0
+    let m = lines_in(rules, v, v);
+    reach(rules, ranks, m, taken) & taken == 0
 }

@@ -12,7 +12,7 @@ use Rattle.bounds.specs.Sound.{In, Propagated, with_sets}
 use Rattle.bounds.proofs.Ranges.{in-root, one_set}
 use Rattle.admissible.specs.Admissible.{Stands, Unexceeded}
 use Rattle.queue.specs.declared.Rest.{Rest}
-use Rattle.page.specs.declared.Task.{Task}
+use Rattle.page.specs.Sought.{Sought}
 use Rattle.page.specs.Orders.{bare, list_from, PartOf, Begins}
 use Rattle.page.specs.Pages.{Page, Listed}
 use Rattle.page.proofs.Pages.{page-none}
@@ -37,7 +37,7 @@ use Rattle.one_set.specs.Plans.{HasView, Told, Full, MarksRight, Rests, Gathered
 use Rattle.one_set.proofs.Plans.{none_within, free-standing, surpassed-full, surpassed-told, surpassed-right, told_none, marks-same, marks-more, exceeded-above, exceeded-full, exceeded-marks, set-lawful, in_bounds, bounds-in}
 
 -- ---- a set that no resolution has
-module _ (ws ranks : List ℕ) (root : Bounds) (q : Task) (t : ℕ) (after known : Bool) (H : Type 0) (k : ℕ) (m m' o : List ℕ) (h : k ≤ q.room) where
+module _ (ws ranks : List ℕ) (root : Bounds) (q : Sought) (t : ℕ) (after known : Bool) (H : Type 0) (k : ℕ) (m m' o : List ℕ) (h : k ≤ q.room) where
   pub set-none : (w w' : Memory) → MarksRight ws q.rules ranks root m m' → (Right ws q.rules ranks root w → Right ws q.rules ranks root w')
       → ((b : Book) → Serves b ws ranks root q → Right ws q.rules ranks root w → known ≡ true → Full ws q.rules ranks root m → Told ws q.rules ranks root m' t)
       → ((b : Book) → Serves b ws ranks root q → Right ws q.rules ranks root w → RightMarks b m → NoneAt b t) → SetListed ws ranks root q t after known H k m m' w w' o o k
@@ -59,7 +59,7 @@ module _ (ws ranks : List ℕ) (root : Bounds) (q : Task) (t : ℕ) (after known
       (λ b s r x. none_within b ws q.rules ranks root s.rooted t t n t (λ i. le_refl _) (λ i. le_refl _))
 
 -- ---- in a book without Q lines
-module _ (ws ranks : List ℕ) (root : Bounds) (q : Task) (u : Lined ws q.rules → ⊥) (t : ℕ) (after known : Bool) (k : ℕ) (m m₁ m' : List ℕ) (cap : ℕ) (store : List ℕ) (r₁ : Option Views) (g : Views)
+module _ (ws ranks : List ℕ) (root : Bounds) (q : Sought) (u : Lined ws q.rules → ⊥) (t : ℕ) (after known : Bool) (k : ℕ) (m m₁ m' : List ℕ) (cap : ℕ) (store : List ℕ) (r₁ : Option Views) (g : Views)
     (c : Gathered ws q.rules ranks root t cap m m₁ store r₁) (ok : r₁ ≡ Some g) (z : Bool) (a : Admits ws q.rules ranks root t known m₁ m' z) (o : List ℕ) (w : Memory) where
   abbrev H : Type 0
   H = Rests ws q.rules ranks root t known m
@@ -139,7 +139,7 @@ none-taken (suc c) [] = omega arith
 none-taken (suc c) (y ∷ ys) = let h = none-taken c ys in omega arith
 
 -- The views that stand.
-module _ (ws ranks : List ℕ) (root : Bounds) (q : Task) (t : ℕ) (c : Bounds) (after : Bool) (k : ℕ) (w w' : Memory) (o o' : List ℕ) (r : ℕ) (l : AllSifted ws ranks root q t c after k w w' o o' r)
+module _ (ws ranks : List ℕ) (root : Bounds) (q : Sought) (t : ℕ) (c : Bounds) (after : Bool) (k : ℕ) (w w' : Memory) (o o' : List ℕ) (r : ℕ) (l : AllSifted ws ranks root q t c after k w w' o o' r)
     (v : HasView ws q.rules ranks root t) (p : Propagated ws q.rules ranks (with_sets root t t) c) (m : List ℕ) where
   abbrev U : Type 0
   U = Unexceeded ws q.rules ranks root t
@@ -228,7 +228,7 @@ module _ (ws ranks : List ℕ) (root : Bounds) (q : Task) (t : ℕ) (c : Bounds)
         found b s y = let g = listed b s y in first b s g.0 g.1.count g.2
 
 -- What is so of the page and the marks in any case.
-module _ (ws ranks : List ℕ) (root : Bounds) (q : Task) (t : ℕ) (c : Bounds) (after : Bool) (k : ℕ) (w w' : Memory) (o o' : List ℕ) (r : ℕ) (l : AllSifted ws ranks root q t c after k w w' o o' r) (m m' : List ℕ) where
+module _ (ws ranks : List ℕ) (root : Bounds) (q : Sought) (t : ℕ) (c : Bounds) (after : Bool) (k : ℕ) (w w' : Memory) (o o' : List ℕ) (r : ℕ) (l : AllSifted ws ranks root q t c after k w w' o o' r) (m m' : List ℕ) where
   abbrev Opens : Type 0
   Opens = HasView ws q.rules ranks root t → Propagated ws q.rules ranks (with_sets root t t) c → SetListed ws ranks root q t after true (Unexceeded ws q.rules ranks root t) k m m' w w' o o' r
 
@@ -239,7 +239,7 @@ module _ (ws ranks : List ℕ) (root : Bounds) (q : Task) (t : ℕ) (c : Bounds)
   opened-marked x f = record { most = l.most; kept = x.marked.stays; same = x.marked.same; full = surpassed-full ws q.rules ranks root t m m' x; listed = f }
 
 -- ---- a set of such a book
-module _ (ws ranks : List ℕ) (root : Bounds) (q : Task) (t : ℕ) (after known : Bool) (k : ℕ) (h : k ≤ q.room) (m o : List ℕ) (w : Memory) where
+module _ (ws ranks : List ℕ) (root : Bounds) (q : Sought) (t : ℕ) (after known : Bool) (k : ℕ) (h : k ≤ q.room) (m o : List ℕ) (w : Memory) where
   abbrev Known : Type 0
   Known = Rests ws q.rules ranks root t known m
 

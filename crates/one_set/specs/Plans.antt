@@ -8,7 +8,7 @@ use Rattle.masks.specs.Views.{MaskView}
 use Rattle.bounds.specs.Sound.{In, Propagated, with_sets}
 use Rattle.admissible.specs.Admissible.{Undominated, Stands, Unexceeded}
 use Rattle.queue.specs.declared.Rest.{Rest}
-use Rattle.page.specs.declared.Task.{Task}
+use Rattle.page.specs.Sought.{Sought}
 use Rattle.page.specs.Orders.{Begins}
 use Rattle.page.specs.Pages.{Page}
 use Rattle.few.specs.Few.{Collected}
@@ -85,7 +85,7 @@ pub record NoneBelow (ws : List ℕ) (n : ℕ) (ranks : List ℕ) (root : Bounds
 
 -- One set of exceptions: the page of the resolutions that have it and are later than the point, if H holds of its proper subsets. Marks and memory stay
 -- right, and where every set before it has been walked, all its resolutions were asked for and there was room, the marks tell of it.
-pub record SetListed (ws ranks : List ℕ) (root : Bounds) (q : Task) (t : ℕ) (after known : Bool) (H : Type 0) (k : ℕ) (m m' : List ℕ) (w w' : Memory) (o o' : List ℕ) (r : ℕ) : Type 0 where
+pub record SetListed (ws ranks : List ℕ) (root : Bounds) (q : Sought) (t : ℕ) (after known : Bool) (H : Type 0) (k : ℕ) (m m' : List ℕ) (w w' : Memory) (o o' : List ℕ) (r : ℕ) : Type 0 where
   pub most : r ≤ q.room
   pub kept : (u : ℕ) → IsMarked m u → IsMarked m' u
   pub same : length m' ≡ length m
@@ -98,7 +98,7 @@ pub record SetListed (ws ranks : List ℕ) (root : Bounds) (q : Task) (t : ℕ) 
       → (ys : List Pair) × Page q.room k o o' ys r × Part b from (λ p. p.taken ≡ t) ys
 
 -- The same, if the bounds at rest have all views with the set, of which there is one; but of the page's length and of what is marked in any case.
-pub record OpenListed (ws ranks : List ℕ) (root : Bounds) (q : Task) (t : ℕ) (c : Bounds) (after : Bool) (k : ℕ) (m m' : List ℕ) (w w' : Memory) (o o' : List ℕ) (r : ℕ) : Type 0 where
+pub record OpenListed (ws ranks : List ℕ) (root : Bounds) (q : Sought) (t : ℕ) (c : Bounds) (after : Bool) (k : ℕ) (m m' : List ℕ) (w w' : Memory) (o o' : List ℕ) (r : ℕ) : Type 0 where
   pub most : r ≤ q.room
   pub kept : (u : ℕ) → IsMarked m u → IsMarked m' u
   pub same : length m' ≡ length m

@@ -5,6 +5,7 @@ ghost use Rattle.std.specs.Prelude.{◌≡◌, ◌+◌, ◌*◌, ◌<◌, ◌≤
 ghost use Rattle.masks.specs.Views.{Lined};
 ghost use Rattle.bounds.specs.Sound.{Propagated, with_sets};
 ghost use Rattle.queue.specs.Chains.{Chains};
+ghost use Rattle.page.specs.Sought.{sought};
 ghost use Rattle.page.specs.Pages.{Fits};
 ghost use Rattle.few.specs.Few.{most};
 ghost use Rattle.marking.specs.Marks.{marks_in, Struck, Marked, all_ones};
@@ -15,8 +16,7 @@ use marking::Strike;
 use masks::Bounds;
 use page::Task;
 use probe::Outcome;
-use queue::index::Index;
-use queue::{Rest, waiting};
+use queue::{Prepared, Rest, waiting};
 use ranges::Range;
 use standing::memory::Memory;
 
@@ -105,23 +105,14 @@ pub fn mark_viewless(s: Range, marks: &mut [u64]) -> u64
 
 // Marks a range of sets around t, which has no view, if there is credit for it: widening takes sixteen looks of it, and each set newly marked
 // earns one.
-pub fn mark_around(
-    words: &[u64],
-    n: usize,
-    ranks: &[u64],
-    index: &Index,
-    root: Bounds,
-    t: u64,
-    effort: &mut Effort,
-    marks: &mut [u64],
-)
-    requires { (n * 8 ≤ length words.now) × (length ranks.now ≤ 64) × (0 < length marks.old) × Chains words.now n index.now }
-    ensures { NoView words.now n ranks.now root t t → MarksRight words.now n ranks.now root marks.old marks.new }
+pub fn mark_around(book: &Prepared<'_>, root: Bounds, t: u64, effort: &mut Effort, marks: &mut [u64])
+    requires { 0 < length marks.old }
+    ensures { NoView book.now.rules.words.now book.now.rules.count book.now.ranks.now root t t → MarksRight book.now.rules.words.now book.now.rules.count book.now.ranks.now root marks.old marks.new }
 {
     if effort.credit < WIDENING {
         return;
     }
-    let s = ranges::widened(words, n, ranks, index, root, t);
+    let s = ranges::widened(book, root, t);
     let earned = mark_viewless(s, marks);
     effort.credit = (effort.credit - WIDENING)
         .saturating_add(earned)
@@ -137,25 +128,15 @@ const FUEL: u64 = 4096;
 const GLANCE: u64 = 256;
 
 // Marks a range of sets around t, which has no view as a search has found that has visited so many nodes, once such searches have visited many.
-pub fn mark_shaven(
-    words: &[u64],
-    n: usize,
-    ranks: &[u64],
-    index: &Index,
-    root: Bounds,
-    t: u64,
-    visited: u64,
-    effort: &mut Effort,
-    marks: &mut [u64],
-)
-    requires { (n * 8 ≤ length words.now) × (length ranks.now ≤ 64) × (0 < length marks.old) × Chains words.now n index.now }
-    ensures { NoView words.now n ranks.now root t t → MarksRight words.now n ranks.now root marks.old marks.new }
+pub fn mark_shaven(book: &Prepared<'_>, root: Bounds, t: u64, visited: u64, effort: &mut Effort, marks: &mut [u64])
+    requires { 0 < length marks.old }
+    ensures { NoView book.now.rules.words.now book.now.rules.count book.now.ranks.now root t t → MarksRight book.now.rules.words.now book.now.rules.count book.now.ranks.now root marks.old marks.new }
 {
     effort.doubt = effort.doubt.after(visited);
     if effort.doubt != Doubt::AtOnce {
         return;
     }
-    let s = ranges::shaven(words, n, ranks, index, root, t);
+    let s = ranges::shaven(book, root, t);
     let earned = mark_viewless(s, marks);
     if earned < SCANT {
         effort.doubt = Doubt::Never;
@@ -163,39 +144,19 @@ pub fn mark_shaven(
 }
 
 // The views with the set t, if there is one: up to `cap` of them are gathered in the store. Around a set without one a range is marked.
-pub fn gathered(
-    words: &[u64],
-    n: usize,
-    ranks: &[u64],
-    index: &Index,
-    root: Bounds,
-    t: u64,
-    effort: &mut Effort,
-    marks: &mut [u64],
-    store: &mut [u64],
-    cap: usize,
-) -> Option<Views>
-    requires { (n * 8 ≤ length words.now) × (length ranks.now ≤ 64) × (0 < length marks.old) × Chains words.now n index.now × (cap * 3 ≤ length store.old) × (0 < cap) }
-    ensures { Gathered words.now n ranks.now root t cap marks.old marks.new store.new result }
+pub fn gathered(book: &Prepared<'_>, root: Bounds, t: u64, effort: &mut Effort, marks: &mut [u64], store: &mut [u64], cap: usize) -> Option<Views>
+    requires { (0 < length marks.old) × (cap * 3 ≤ length store.old) × (0 < cap) }
+    ensures { Gathered book.now.rules.words.now book.now.rules.count book.now.ranks.now root t cap marks.old marks.new store.new result }
 {
-    let rest = ranges::narrowed(words, n, ranks, index, root, t, t);
+    let rest = ranges::narrowed(book, root, t, t);
     let b = rest.bounds;
     if !sets::within(b.lo, b.hi) {
-        mark_around(words, n, ranks, index, root, t, effort, marks);
+        mark_around(book, root, t, effort, marks);
         return None;
     }
-    let s = few::collect(
-        words,
-        n,
-        ranks,
-        index,
-        rest,
-        store,
-        cap,
-        effort.doubt.fuel(FUEL),
-    );
+    let s = few::collect(book, rest, store, cap, effort.doubt.fuel(FUEL));
     if s.count == 0 {
-        mark_shaven(words, n, ranks, index, root, t, s.visited, effort, marks);
+        mark_shaven(book, root, t, s.visited, effort, marks);
         return None;
     }
     Some(Views {
@@ -206,101 +167,48 @@ pub fn gathered(
 
 // Whether a resolution can have the set t, where there is a view that has it, in a book without Q lines. That marks the sets that the view surpasses. Where
 // `known` is true, every set before t in the order has been walked with these marks: if a view had a proper subset of t, then t would be marked.
-pub fn tested(
-    words: &[u64],
-    n: usize,
-    ranks: &[u64],
-    index: &Index,
-    root: Bounds,
-    t: u64,
-    known: bool,
-    marks: &mut [u64],
-) -> bool
-    requires { (n * 8 ≤ length words.now) × (length ranks.now ≤ 64) × (t < marks_in marks.old) × Chains words.now n index.now }
-    ensures { (Lined words.now n → ⊥) → HasView words.now n ranks.now root t → Admits words.now n ranks.now root t known marks.old marks.new result }
+pub fn tested(book: &Prepared<'_>, root: Bounds, t: u64, known: bool, marks: &mut [u64]) -> bool
+    requires { t < marks_in marks.old }
+    ensures { (Lined book.now.rules.words.now book.now.rules.count → ⊥) → HasView book.now.rules.words.now book.now.rules.count book.now.ranks.now root t → Admits book.now.rules.words.now book.now.rules.count book.now.ranks.now root t known marks.old marks.new result }
 {
-    marking::mark_surpassed(ranks, t, marks);
+    marking::mark_surpassed(book.ranks, t, marks);
     if marking::is_marked(marks, t) {
         return false;
     }
     if known {
-        return admissible::undominated(words, n, ranks, index, root, t);
+        return admissible::undominated(book, root, t);
     }
-    admissible::admissible(words, n, ranks, index, root, t)
+    admissible::admissible(book, root, t)
 }
 
 // Puts the resolutions with the set t on the page, in a book without Q lines; where `after` is true only those later than the task's point, which has that set.
 // Where `known` is true, every set before t has been walked with these marks.
-pub fn list_plain(
-    words: &[u64],
-    ranks: &[u64],
-    index: &Index,
-    root: Bounds,
-    task: Task,
-    t: u64,
-    after: bool,
-    known: bool,
-    at: usize,
-    effort: &mut Effort,
-    marks: &mut [u64],
-    store: &mut [u64],
-    out: &mut [u64],
-) -> usize
-    requires { Fits words.now ranks.now out.old task at × (t < marks_in marks.old) × Chains words.now task.rules index.now × (most * 3 ≤ length store.old) }
-    ensures { (Lined words.now task.rules → ⊥) → (w : _) → SetListed words.now ranks.now root task t after known (Rests words.now task.rules ranks.now root t known marks.old) at marks.old marks.new w w out.old out.new result }
+pub fn list_plain(book: &Prepared<'_>, root: Bounds, task: Task, t: u64, after: bool, known: bool, at: usize, effort: &mut Effort, marks: &mut [u64], store: &mut [u64], out: &mut [u64]) -> usize
+    requires { Fits book.now.rules.words.now book.now.ranks.now out.old (sought book.now.rules.count task) at × (t < marks_in marks.old) × (most * 3 ≤ length store.old) }
+    ensures { (Lined book.now.rules.words.now book.now.rules.count → ⊥) → (w : _) → SetListed book.now.rules.words.now book.now.ranks.now root (sought book.now.rules.count task) t after known (Rests book.now.rules.words.now book.now.rules.count book.now.ranks.now root t known marks.old) at marks.old marks.new w w out.old out.new result }
 {
     let cap = few::limit(task.room - at, after);
-    let Some(views) = gathered(
-        words, task.rules, ranks, index, root, t, effort, marks, store, cap,
-    ) else {
+    let Some(views) = gathered(book, root, t, effort, marks, store, cap) else {
         return at;
     };
-    if !tested(words, task.rules, ranks, index, root, t, known, marks) {
+    if !tested(book, root, t, known, marks) {
         return at;
     }
-    few::list(
-        words,
-        ranks,
-        index,
-        task,
-        t,
-        views.rest,
-        store,
-        cap,
-        views.count,
-        after,
-        out,
-        at,
-    )
+    few::list(book, task, t, views.rest, store, cap, views.count, after, out, at)
 }
 
 // Puts the views with the set t that stand on the page, later ones than the task's point where `after` is true. Where all were asked for and there is
 // one, the sets that it surpasses are marked. None of the views with that set may be beyond the bounds at rest.
-pub fn list_open(
-    words: &[u64],
-    ranks: &[u64],
-    index: &Index,
-    root: Bounds,
-    task: Task,
-    t: u64,
-    rest: Rest,
-    after: bool,
-    marks: &mut [u64],
-    memory: &mut Memory,
-    out: &mut [u64],
-    at: usize,
-) -> usize
-    requires { Fits words.now ranks.now out.old task at × (0 < length marks.old) × Chains words.now task.rules index.now × ((task.rules + 32) * 8 ≤ length words.now) }
-    ensures { OpenListed words.now ranks.now root task t rest.bounds after at marks.old marks.new memory.old memory.new out.old out.new result }
+pub fn list_open(book: &Prepared<'_>, root: Bounds, task: Task, t: u64, rest: Rest, after: bool, marks: &mut [u64], memory: &mut Memory, out: &mut [u64], at: usize) -> usize
+    requires { Fits book.now.rules.words.now book.now.ranks.now out.old (sought book.now.rules.count task) at × (0 < length marks.old) × ((book.now.rules.count + 32) * 8 ≤ length book.now.rules.words.now) }
+    ensures { OpenListed book.now.rules.words.now book.now.ranks.now root (sought book.now.rules.count task) t rest.bounds after at marks.old marks.new memory.old memory.new out.old out.new result }
 {
-    let r = sifting::list_standing(
-        words, ranks, index, root, task, t, rest, after, memory, out, at,
-    );
+    let r = sifting::list_standing(book, root, task, t, rest, after, memory, out, at);
     if after {
         return r;
     }
     if at < r {
-        marking::mark_surpassed(ranks, t, marks);
+        marking::mark_surpassed(book.ranks, t, marks);
     }
     r
 }
@@ -323,29 +231,18 @@ pub fn mark_above(t: u64, marks: &mut [u64])
 
 // Bounds at rest for the views with the set t, if one of them stands, from shaved bounds: `rest` has those bounds, whose search has used up its fuel. Where
 // shaving alone shows that there is no view, a range around the set is marked.
-pub fn look_harder(
-    words: &[u64],
-    n: usize,
-    ranks: &[u64],
-    index: &Index,
-    root: Bounds,
-    t: u64,
-    rest: Rest,
-    effort: &mut Effort,
-    marks: &mut [u64],
-    memory: &mut Memory,
-) -> Option<Rest>
-    requires { ((n + 32) * 8 ≤ length words.now) × (length ranks.now ≤ 64) × (0 < length marks.old) × Chains words.now n index.now }
-    ensures { Propagated words.now n ranks.now (with_sets root t t) rest.bounds → Looked words.now n ranks.now root t marks.old marks.new memory.old memory.new result }
+pub fn look_harder(book: &Prepared<'_>, root: Bounds, t: u64, rest: Rest, effort: &mut Effort, marks: &mut [u64], memory: &mut Memory) -> Option<Rest>
+    requires { ((book.now.rules.count + 32) * 8 ≤ length book.now.rules.words.now) × (0 < length marks.old) }
+    ensures { Propagated book.now.rules.words.now book.now.rules.count book.now.ranks.now (with_sets root t t) rest.bounds → Looked book.now.rules.words.now book.now.rules.count book.now.ranks.now root t marks.old marks.new memory.old memory.new result }
 {
-    let s = probe::shaving::shaved(words, n, ranks, index, rest);
+    let s = probe::shaving::shaved(book, rest);
     let b = s.bounds;
     if !sets::within(b.lo, b.hi) {
-        mark_shaven(words, n, ranks, index, root, t, GLANCE, effort, marks);
+        mark_shaven(book, root, t, GLANCE, effort, marks);
         return None;
     }
     let w = waiting::none(s.live);
-    if standing::search(words, n, ranks, index, root, w, b, memory) {
+    if standing::search(book, root, w, b, memory) {
         return Some(rest);
     }
     None
@@ -353,133 +250,66 @@ pub fn look_harder(
 
 // Bounds at rest for the views with the set t, if one of them stands. Around a set without a view a range is marked; remembered views may dominate all that
 // have the set.
-pub fn look(
-    words: &[u64],
-    n: usize,
-    ranks: &[u64],
-    index: &Index,
-    root: Bounds,
-    t: u64,
-    effort: &mut Effort,
-    marks: &mut [u64],
-    memory: &mut Memory,
-) -> Option<Rest>
-    requires { ((n + 32) * 8 ≤ length words.now) × (length ranks.now ≤ 64) × (0 < length marks.old) × Chains words.now n index.now }
-    ensures { Looked words.now n ranks.now root t marks.old marks.new memory.old memory.new result }
+pub fn look(book: &Prepared<'_>, root: Bounds, t: u64, effort: &mut Effort, marks: &mut [u64], memory: &mut Memory) -> Option<Rest>
+    requires { ((book.now.rules.count + 32) * 8 ≤ length book.now.rules.words.now) × (0 < length marks.old) }
+    ensures { Looked book.now.rules.words.now book.now.rules.count book.now.ranks.now root t marks.old marks.new memory.old memory.new result }
 {
-    let rest = ranges::narrowed(words, n, ranks, index, root, t, t);
+    let rest = ranges::narrowed(book, root, t, t);
     let b = rest.bounds;
     if !sets::within(b.lo, b.hi) {
-        mark_around(words, n, ranks, index, root, t, effort, marks);
+        mark_around(book, root, t, effort, marks);
         return None;
     }
-    if standing::bans::barred(words, n, ranks, index, rest, memory) {
+    if standing::bans::barred(book, rest, memory) {
         return None;
     }
     let w = waiting::none(rest.live);
-    let a = standing::attempt(
-        words,
-        n,
-        ranks,
-        index,
-        root,
-        w,
-        b,
-        memory,
-        effort.doubt.fuel(GLANCE),
-    );
+    let a = standing::attempt(book, root, w, b, memory, effort.doubt.fuel(GLANCE));
     match a {
         Outcome::Has(_) => Some(rest),
         Outcome::Lacks(_) => None,
-        Outcome::Stopped => look_harder(
-            words, n, ranks, index, root, t, rest, effort, marks, memory,
-        ),
+        Outcome::Stopped => look_harder(book, root, t, rest, effort, marks, memory),
     }
 }
 
 // No view that stands has a proper subset of t. Where `known` is true that is known from the marks, if t is not marked.
-pub fn none_below(
-    words: &[u64],
-    n: usize,
-    ranks: &[u64],
-    index: &Index,
-    root: Bounds,
-    memory: &mut Memory,
-    t: u64,
-    known: bool,
-) -> bool
-    requires { ((n + 32) * 8 ≤ length words.now) × (length ranks.now ≤ 64) × Chains words.now n index.now }
-    ensures { NoneBelow words.now n ranks.now root t known memory.old memory.new result }
+pub fn none_below(book: &Prepared<'_>, root: Bounds, memory: &mut Memory, t: u64, known: bool) -> bool
+    requires { (book.now.rules.count + 32) * 8 ≤ length book.now.rules.words.now }
+    ensures { NoneBelow book.now.rules.words.now book.now.rules.count book.now.ranks.now root t known memory.old memory.new result }
 {
     if !known {
-        return standing::unexceeded(words, n, ranks, index, root, memory, t);
+        return standing::unexceeded(book, root, memory, t);
     }
     true
 }
 
 // Puts the resolutions with the set t on the page, in a book with Q lines; where `after` is true only those later than the task's point, which has that set.
 // Where `known` is true, every set before t has been walked with these marks.
-pub fn list_lined(
-    words: &[u64],
-    ranks: &[u64],
-    index: &Index,
-    root: Bounds,
-    task: Task,
-    t: u64,
-    after: bool,
-    known: bool,
-    at: usize,
-    effort: &mut Effort,
-    marks: &mut [u64],
-    memory: &mut Memory,
-    out: &mut [u64],
-) -> usize
-    requires { Fits words.now ranks.now out.old task at × (t < marks_in marks.old) × Chains words.now task.rules index.now × ((task.rules + 32) * 8 ≤ length words.now) }
-    ensures { SetListed words.now ranks.now root task t after known (Rests words.now task.rules ranks.now root t known marks.old) at marks.old marks.new memory.old memory.new out.old out.new result }
+pub fn list_lined(book: &Prepared<'_>, root: Bounds, task: Task, t: u64, after: bool, known: bool, at: usize, effort: &mut Effort, marks: &mut [u64], memory: &mut Memory, out: &mut [u64]) -> usize
+    requires { Fits book.now.rules.words.now book.now.ranks.now out.old (sought book.now.rules.count task) at × (t < marks_in marks.old) × ((book.now.rules.count + 32) * 8 ≤ length book.now.rules.words.now) }
+    ensures { SetListed book.now.rules.words.now book.now.ranks.now root (sought book.now.rules.count task) t after known (Rests book.now.rules.words.now book.now.rules.count book.now.ranks.now root t known marks.old) at marks.old marks.new memory.old memory.new out.old out.new result }
 {
-    let n = task.rules;
     if marking::is_marked(marks, t) {
         return at;
     }
-    let Some(rest) = look(words, n, ranks, index, root, t, effort, marks, memory) else {
+    let Some(rest) = look(book, root, t, effort, marks, memory) else {
         return at;
     };
-    if !none_below(words, n, ranks, index, root, memory, t, known) {
+    if !none_below(book, root, memory, t, known) {
         mark_above(t, marks);
         return at;
     }
-    list_open(
-        words, ranks, index, root, task, t, rest, after, marks, memory, out, at,
-    )
+    list_open(book, root, task, t, rest, after, marks, memory, out, at)
 }
 
 // Puts the resolutions with the set t on the page; where `after` is true only those later than the task's point, which has that set. Where
 // `known` is true, every set before t has been walked with these marks.
-pub fn list_set(
-    words: &[u64],
-    ranks: &[u64],
-    index: &Index,
-    root: Bounds,
-    task: Task,
-    t: u64,
-    after: bool,
-    known: bool,
-    at: usize,
-    effort: &mut Effort,
-    marks: &mut [u64],
-    memory: &mut Memory,
-    store: &mut [u64],
-    out: &mut [u64],
-) -> usize
-    requires { Fits words.now ranks.now out.old task at × (t < marks_in marks.old) × Chains words.now task.rules index.now × (most * 3 ≤ length store.old) }
-    ensures { SetListed words.now ranks.now root task t after known (Rests words.now task.rules ranks.now root t known marks.old) at marks.old marks.new memory.old memory.new out.old out.new result }
+pub fn list_set(book: &Prepared<'_>, root: Bounds, task: Task, t: u64, after: bool, known: bool, at: usize, effort: &mut Effort, marks: &mut [u64], memory: &mut Memory, store: &mut [u64], out: &mut [u64]) -> usize
+    requires { Fits book.now.rules.words.now book.now.ranks.now out.old (sought book.now.rules.count task) at × (t < marks_in marks.old) × (most * 3 ≤ length store.old) }
+    ensures { SetListed book.now.rules.words.now book.now.ranks.now root (sought book.now.rules.count task) t after known (Rests book.now.rules.words.now book.now.rules.count book.now.ranks.now root t known marks.old) at marks.old marks.new memory.old memory.new out.old out.new result }
 {
-    if masks::lines::lined(words, task.rules) {
-        return list_lined(
-            words, ranks, index, root, task, t, after, known, at, effort, marks, memory, out,
-        );
+    if masks::lines::lined(&book.rules) {
+        return list_lined(book, root, task, t, after, known, at, effort, marks, memory, out);
     }
-    list_plain(
-        words, ranks, index, root, task, t, after, known, at, effort, marks, store, out,
-    )
+    list_plain(book, root, task, t, after, known, at, effort, marks, store, out)
 }

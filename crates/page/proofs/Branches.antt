@@ -15,7 +15,7 @@ use Rattle.bounds.specs.Sound.{Keeps}
 use Rattle.meaning.specs.Order.{value}
 use Rattle.meaning.specs.Twins.Tables.{differs_from}
 use Rattle.queue.specs.declared.waiting.Waiting.{Waiting}
-use Rattle.page.specs.declared.Task.{Task}
+use Rattle.page.specs.Sought.{Sought}
 use Rattle.page.specs.declared.Node.{Node}
 use Rattle.std.specs.Prelude.{Some, None}
 use Rattle.page.specs.Orders.{given, all_from, passes, list_from}
@@ -76,7 +76,7 @@ module _ (n left : ℕ) (point q : Pair) (h : left < n) (w own : ℕ) (eq : valu
             (lt-or-le own w)
 
 -- ---- the branch
-module _ (ws ranks : List ℕ) (q : Task) (left w : ℕ) (d : Node) (rd : BranchReady ws ranks q left w) (own : ℕ) (eown : own ≡ value q.point (q.statements - left)) where
+module _ (ws ranks : List ℕ) (q : Sought) (left w : ℕ) (d : Node) (rd : BranchReady ws ranks q left w) (own : ℕ) (eown : own ≡ value q.point (q.statements - left)) where
   -- Every pair of the branch has the value.
   has_value : (v : Pair) → Among v (branch_from q left w d) → value v (q.statements - left) ≡ w
   has_value v m = every-at (λ u. value u (q.statements - left) ≡ w) v (branch_from q left w d) (all-value q.statements left w d.pair rd.unsettled rd.value) m

@@ -14,7 +14,7 @@ use Rattle.masks.specs.declared.Bounds.{Bounds}
 use Rattle.bounds.specs.Sound.{In}
 use Rattle.meaning.specs.Order.{value}
 use Rattle.queue.specs.declared.waiting.Waiting.{Waiting}
-use Rattle.page.specs.declared.Task.{Task}
+use Rattle.page.specs.Sought.{Sought}
 use Rattle.page.specs.declared.Node.{Node}
 use Rattle.page.specs.declared.Stretch.{Stretch}
 use Rattle.page.specs.Orders.{given, tried, all_from, passes}
@@ -114,7 +114,7 @@ pub gone-all : (n left : ℕ) (d : Node) (pair : Pair) (i : ℕ) → n ≤ i →
 gone-all n left d pair i h f = let e : n - i ≡ 0 = omega arith in rw e at f
 
 -- ---- settling goes on from there
-module _ (P : Pair → Type 0) (q : Task) (left : ℕ) (d : Node) (a : Stretch) (f : GoneOn q.statements left d a) (live : Waiting) (hint : Pair) where
+module _ (P : Pair → Type 0) (q : Sought) (left : ℕ) (d : Node) (a : Stretch) (f : GoneOn q.statements left d a) (live : Waiting) (hint : Pair) where
   abbrev next : Node
   next = record { equal = d.equal; pair = a.pair; bounds = d.bounds; live = live; hint = hint }
 

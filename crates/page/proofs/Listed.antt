@@ -17,7 +17,7 @@ use Rattle.meaning.proofs.Next.{decides-before}
 use Rattle.meaning.proofs.Parts.{Part}
 use Rattle.masks.specs.declared.Bounds.{Bounds}
 use Rattle.bounds.specs.Sound.{In}
-use Rattle.page.specs.declared.Task.{Task}
+use Rattle.page.specs.Sought.{Sought}
 use Rattle.page.specs.Orders.{bare, all_from, passes, list_from, PartOf, Begins}
 use Rattle.page.specs.Pages.{Page, Listed}
 use Rattle.page.proofs.Orders.{Extends, all-extend, all-lawful, all_among, all-ascends, keep-ascends}
@@ -119,7 +119,7 @@ part-of-listing b from taken P xs f g s =
 -- What a search in order promises, in the words of the meaning: the page of the pairs with these exceptions that have the property P and are later than the
 -- point. The test g is any that decides it for lawful pairs with these exceptions; of those none is beyond the bounds c.
 pub all_listed : (b : Book) (from : Point) (taken : ℕ) → taken < 2 ^ length b.exceptions
-    → (P : Pair → Type 0) (q : Task) → q.statements ≡ b.statements → (t : Bool) → Begins b from taken t q.point
+    → (P : Pair → Type 0) (q : Sought) → q.statements ≡ b.statements → (t : Bool) → Begins b from taken t q.point
     → (g : Pair → Bool) → ((p : Pair) → Lawful b p → p.taken ≡ taken → Decides (g p) (P p))
     → (c : Bounds) → ((p : Pair) → Lawful b p → p.taken ≡ taken → P p → In c p)
     → (k r : ℕ) (o o' : List ℕ) → Listed P q taken c t k o o' r

@@ -10,7 +10,7 @@ use Rattle.masks.specs.declared.Bounds.{Bounds}
 use Rattle.masks.specs.Views.{MaskView}
 use Rattle.meaning.specs.Twins.Tables.{differs_from}
 use Rattle.queue.specs.declared.waiting.Waiting.{Waiting}
-use Rattle.page.specs.declared.Task.{Task}
+use Rattle.page.specs.Sought.{Sought}
 use Rattle.page.specs.declared.Node.{Node}
 use Rattle.std.specs.Prelude.{Option, Some, None}
 use Rattle.page.specs.Orders.{given, tried, all_from, passes, list_from}
@@ -31,7 +31,7 @@ unfolding both
 where-not t x e = rw e
 
 -- ---- every statement settled
-module _ (P : Pair → Type 0) (q : Task) (d : Node) (at : ℕ) (o : List ℕ) (h : at < q.room) where
+module _ (P : Pair → Type 0) (q : Sought) (d : Node) (at : ℕ) (o : List ℕ) (h : at < q.room) where
   -- The list of one pair.
   last-list : (g : Pair → Bool) → passing g q 0 d (all_from q.statements 0 d.pair) ≡ cons_if (both (pick d.equal false true) (g d.pair)) d.pair []
   unfolding all_from keep passes differs_from
@@ -56,15 +56,15 @@ module _ (P : Pair → Type 0) (q : Task) (d : Node) (at : ℕ) (o : List ℕ) (
 
 -- ---- a statement and its values
 -- The values of the first statement left are all that come from the node.
-pub settle-open : (P : Pair → Type 0) (q : Task) (left : ℕ) (d : Node) (at : ℕ) (o o' : List ℕ) (r : ℕ) → (left ≡ 0 → ⊥) → Tried P q (left - 1) 3 d at o o' r → Settled P q left d at o o' r
+pub settle-open : (P : Pair → Type 0) (q : Sought) (left : ℕ) (d : Node) (at : ℕ) (o o' : List ℕ) (r : ℕ) → (left ≡ 0 → ⊥) → Tried P q (left - 1) 3 d at o o' r → Settled P q left d at o o' r
 unfolding list_from all_from
 settle-open P q zero d at o o' r n w = absurd (n refl)
 settle-open P q (suc l) d at o o' r n w = let v : Tried P q l 3 d at o o' r = rw sub-one at w in record { most = v.most; page = v.page }
 
-pub settle-last : (P : Pair → Type 0) (q : Task) (left : ℕ) (d : Node) (at : ℕ) (o o' : List ℕ) (r : ℕ) → left ≡ 0 → Settled P q 0 d at o o' r → Settled P q left d at o o' r
+pub settle-last : (P : Pair → Type 0) (q : Sought) (left : ℕ) (d : Node) (at : ℕ) (o o' : List ℕ) (r : ℕ) → left ≡ 0 → Settled P q 0 d at o o' r → Settled P q left d at o o' r
 settle-last P q left d at o o' r e w = rw e w
 
-fits-again : (ws ranks o o' : List ℕ) (q : Task) (at r : ℕ) → Fits ws ranks o q at → length o' ≡ length o → r ≤ q.room → Fits ws ranks o' q r
+fits-again : (ws ranks o o' : List ℕ) (q : Sought) (at r : ℕ) → Fits ws ranks o q at → length o' ≡ length o → r ≤ q.room → Fits ws ranks o' q r
 fits-again ws ranks o o' q at r f e h = record { suits = f.suits; place = h; long = rw e f.long }
 
 -- The last v values are the first of them and the others.
@@ -74,7 +74,7 @@ tried-first f p i zero n = absurd (n refl)
 tried-first f p i (suc v) n = rw sub-one
 
 -- So the pairs that pass are those of the first value's branch and those of the others, and a test right for all is right for both.
-module _ (P : Pair → Type 0) (q : Task) (left v : ℕ) (d : Node) (n : v ≡ 0 → ⊥) (g : Pair → Bool) where
+module _ (P : Pair → Type 0) (q : Sought) (left v : ℕ) (d : Node) (n : v ≡ 0 → ⊥) (g : Pair → Bool) where
   tried-split : tried_from q left v d ≡ branch_from q left (3 - v) d ++ tried_from q left (v - 1) d
   tried-split = tried-first (λ p. all_from q.statements left p) d.pair (q.statements - left) v n
 
@@ -89,7 +89,7 @@ module _ (P : Pair → Type 0) (q : Task) (left v : ℕ) (d : Node) (n : v ≡ 0
     tests-rest = record { right = λ u m. t.right u (rw tried-split (among-right u (branch_from q left (3 - v) d) (tried_from q left (v - 1) d) m)) }
 
 -- One value: the page is full, the branch is cut, or it goes on from a child. Only views have the property.
-module _ (P : Pair → Type 0) (q : Task) (left w : ℕ) (d : Node) (at : ℕ) (o : List ℕ) (place : at ≤ q.room) where
+module _ (P : Pair → Type 0) (q : Sought) (left w : ℕ) (d : Node) (at : ℕ) (o : List ℕ) (place : at ≤ q.room) where
   pub one-full : q.room ≤ at → TriedOne P q (left - 1) w d at o o at
   one-full l = record { most = place; page = λ g tg h. page-full q.room at o _ l }
 
@@ -138,7 +138,7 @@ module _ (P : Pair → Type 0) (q : Task) (left w : ℕ) (d : Node) (at : ℕ) (
         }
 
 -- The last v values: the first of them and the others, or the last alone.
-module _ (P : Pair → Type 0) (q : Task) (left : ℕ) (d : Node) (at : ℕ) (o : List ℕ) where
+module _ (P : Pair → Type 0) (q : Sought) (left : ℕ) (d : Node) (at : ℕ) (o : List ℕ) where
   pub try_one : (v : ℕ) → (v ≡ 0 → ⊥) → (r r' : ℕ) (o' o'' : List ℕ) → TriedOne P q left (3 - v) d at o o' r → Tried P q left (v - 1) d r o' o'' r'
       → Tried P q left v d at o o'' r'
   try_one v n r r' o' o'' s t = record {
@@ -162,7 +162,7 @@ module _ (P : Pair → Type 0) (q : Task) (left : ℕ) (d : Node) (at : ℕ) (o 
   pub trying-all : (k r : ℕ) (o' : List ℕ) → 3 ≤ k → Trying k r o' → Tried P q left 3 d at o o' r
   trying-all k r o' h f = f.rest r o' (let e : 3 - k ≡ 0 = omega arith in rw e (try-none r o' f.most))
 
-pub trying-next : (P : Pair → Type 0) (q : Task) (left : ℕ) (d : Node) (at : ℕ) (o : List ℕ) (k r : ℕ) (o' : List ℕ) → k < 3 → Trying P q left d at o k r o'
+pub trying-next : (P : Pair → Type 0) (q : Sought) (left : ℕ) (d : Node) (at : ℕ) (o : List ℕ) (k r : ℕ) (o' : List ℕ) → k < 3 → Trying P q left d at o k r o'
     → (w : ℕ) → w ≡ k → (r' : ℕ) (o'' : List ℕ) → TriedOne P q left w d r o' o'' r' → Trying P q left d at o (k + 1) r' o''
 trying-next P q left d at o k r o' h f w ew r' o'' s =
     let own : w ≡ 3 - (3 - k) = omega arith in
@@ -173,7 +173,7 @@ trying-next P q left d at o k r o' h f w ew r' o'' s =
     }
 
 -- ---- the whole search
-module _ (P : Pair → Type 0) (q : Task) (taken : ℕ) (b : Bounds) (t : Bool) (at : ℕ) (o : List ℕ) where
+module _ (P : Pair → Type 0) (q : Sought) (taken : ℕ) (b : Bounds) (t : Bool) (at : ℕ) (o : List ℕ) where
   pub list_full : at ≤ q.room → q.room ≤ at → Listed P q taken b t at o o at
   list_full h l = record { most = h; page = λ g tg c. page-full q.room at o _ l }
 

@@ -1,2 +1,3 @@
 pub mod Orders
 pub mod Pages
+pub mod Sought

@@ -10,7 +10,7 @@ use Rattle.masks.specs.declared.Bounds.{Bounds}
 use Rattle.masks.specs.Views.{MaskView}
 use Rattle.bounds.specs.Sound.{In}
 use Rattle.meaning.specs.Order.{value as value_at}
-use Rattle.page.specs.declared.Task.{Task}
+use Rattle.page.specs.Sought.{Sought}
 use Rattle.page.specs.declared.Node.{Node}
 use Rattle.page.specs.declared.Stretch.{Stretch}
 use Rattle.page.specs.Orders.{bare, given, tried, all_from, passes, list_from}
@@ -57,32 +57,32 @@ pub record Covers (g : Pair → Bool) (n left : ℕ) (p : Pair) (b : Bounds) : T
 
 -- ---- the search
 -- The words and the ranks are those of the task's rules, and its statements are numbers of a word.
-pub record Suits (ws ranks : List ℕ) (q : Task) : Type 0 where
+pub record Suits (ws ranks : List ℕ) (q : Sought) : Type 0 where
   pub rules : q.rules * 8 ≤ length ws
   pub ranked : length ranks ≤ 64
   pub few : q.statements ≤ 64
 
 -- And the page has the task's room, with the place `at` in it or at its end.
-pub record Fits (ws ranks o : List ℕ) (q : Task) (at : ℕ) : Type 0 where
+pub record Fits (ws ranks o : List ℕ) (q : Sought) (at : ℕ) : Type 0 where
   pub suits : Suits ws ranks q
   pub place : at ≤ q.room
   pub long : q.room * 3 ≤ length o
 
 -- The search can go on with `left` statements to settle.
-pub record Ready (ws ranks o : List ℕ) (q : Task) (left at : ℕ) : Type 0 where
+pub record Ready (ws ranks o : List ℕ) (q : Sought) (left at : ℕ) : Type 0 where
   pub fits : Fits ws ranks o q at
   pub unsettled : left ≤ q.statements
 
 -- The bounds of the node d, where `left` statements are to be settled, lose no pair that passes. The code need not know it: pages are promised where it is so.
-abbrev pub Covered : (Pair → Bool) → Task → ℕ → Node → Type 0
+abbrev pub Covered : (Pair → Bool) → Sought → ℕ → Node → Type 0
 Covered g q left d = Covers g q.statements left d.pair d.bounds
 
 -- Of the pairs xs those that pass at the node d, where `left` statements are to be settled.
-abbrev pub passing : (Pair → Bool) → Task → ℕ → Node → List Pair → List Pair
+abbrev pub passing : (Pair → Bool) → Sought → ℕ → Node → List Pair → List Pair
 passing g q left d xs = keep (passes g q.statements q.point left d.equal) xs
 
 -- Settling the last `left` statements from the node d: the page of all pairs with the property P that come from there.
-pub record Settled (P : Pair → Type 0) (q : Task) (left : ℕ) (d : Node) (at : ℕ) (o o' : List ℕ) (r : ℕ) : Type 0 where
+pub record Settled (P : Pair → Type 0) (q : Sought) (left : ℕ) (d : Node) (at : ℕ) (o o' : List ℕ) (r : ℕ) : Type 0 where
   pub most : r ≤ q.room
   pub page : (g : Pair → Bool) → Tests P (all_from q.statements left d.pair) g → Covered g q left d
       → Page q.room at o o' (passing g q left d (all_from q.statements left d.pair)) r
@@ -96,40 +96,40 @@ pub record GoneOn (n left : ℕ) (d : Node) (r : Stretch) : Type 0 where
   pub kept : (g : Pair → Bool) → Covers g n left d.pair d.bounds → keep g (all_from n left d.pair) ≡ keep g (all_from n r.left r.pair)
 
 -- The pairs that come from the node d with the last v values tried at a statement that `left` others follow.
-abbrev pub tried_from : Task → ℕ → ℕ → Node → List Pair
+abbrev pub tried_from : Sought → ℕ → ℕ → Node → List Pair
 tried_from q left v d = tried (λ p. all_from q.statements left p) d.pair (q.statements - left) v
 
 -- Trying these values: the page of those with the property among them.
-pub record Tried (P : Pair → Type 0) (q : Task) (left v : ℕ) (d : Node) (at : ℕ) (o o' : List ℕ) (r : ℕ) : Type 0 where
+pub record Tried (P : Pair → Type 0) (q : Sought) (left v : ℕ) (d : Node) (at : ℕ) (o o' : List ℕ) (r : ℕ) : Type 0 where
   pub most : r ≤ q.room
   pub page : (g : Pair → Bool) → Tests P (tried_from q left v d) g → Covered g q (suc left) d
       → Page q.room at o o' (passing g q (suc left) d (tried_from q left v d)) r
 
 -- The pairs that come from the node d with the value w at the statement.
-abbrev pub branch_from : Task → ℕ → ℕ → Node → List Pair
+abbrev pub branch_from : Sought → ℕ → ℕ → Node → List Pair
 branch_from q left w d = all_from q.statements left (given d.pair (q.statements - left) w)
 
 -- Trying this value: the page of those with the property among them.
-pub record TriedOne (P : Pair → Type 0) (q : Task) (left w : ℕ) (d : Node) (at : ℕ) (o o' : List ℕ) (r : ℕ) : Type 0 where
+pub record TriedOne (P : Pair → Type 0) (q : Sought) (left w : ℕ) (d : Node) (at : ℕ) (o o' : List ℕ) (r : ℕ) : Type 0 where
   pub most : r ≤ q.room
   pub page : (g : Pair → Bool) → Tests P (branch_from q left w d) g → Covered g q (suc left) d
       → Page q.room at o o' (passing g q (suc left) d (branch_from q left w d)) r
 
 -- What a branch needs: the statement is one of the book's, the value one of three.
-pub record BranchReady (ws ranks : List ℕ) (q : Task) (left w : ℕ) : Type 0 where
+pub record BranchReady (ws ranks : List ℕ) (q : Sought) (left w : ℕ) : Type 0 where
   pub suits : Suits ws ranks q
   pub unsettled : left < q.statements
   pub value : w ≤ 2
 
 -- The node c goes on from d with the value w: it has that value, its bounds lose no view that passes where those of d lose none, and what is later
 -- than the point stays so.
-pub record Child (ws ranks : List ℕ) (q : Task) (left w : ℕ) (d c : Node) : Type 0 where
+pub record Child (ws ranks : List ℕ) (q : Sought) (left w : ℕ) (d c : Node) : Type 0 where
   pub pair : c.pair ≡ given d.pair (q.statements - left) w
   pub covers : (g : Pair → Bool) → Picks ws q.rules ranks (branch_from q left w d) g → Covered g q (suc left) d → Covered g q left c
   pub same : (g : Pair → Bool) → passing g q (suc left) d (branch_from q left w d) ≡ passing g q left c (all_from q.statements left c.pair)
 
 -- The branch of the value w: where it is cut nothing is lost, where it is open it goes on.
-pub record Branched (ws ranks : List ℕ) (q : Task) (left w : ℕ) (d : Node) (r : Option Node) : Type 0 where
+pub record Branched (ws ranks : List ℕ) (q : Sought) (left w : ℕ) (d : Node) (r : Option Node) : Type 0 where
   pub cut : r ≡ None → (g : Pair → Bool) → Picks ws q.rules ranks (branch_from q left w d) g → Covered g q (suc left) d
       → passing g q (suc left) d (branch_from q left w d) ≡ []
   pub opened : (c : Node) → r ≡ Some c → Child ws ranks q left w d c
@@ -141,7 +141,7 @@ pub record Started (exceptions : ℕ) (b : Bounds) (t : Bool) (d : Node) : Type 
   pub bounds : d.bounds ≡ b
 
 -- The page of all pairs with these exceptions that have the property P, where t is true of those later than the point, if none is beyond the bounds b.
-pub record Listed (P : Pair → Type 0) (q : Task) (exceptions : ℕ) (b : Bounds) (t : Bool) (at : ℕ) (o o' : List ℕ) (r : ℕ) : Type 0 where
+pub record Listed (P : Pair → Type 0) (q : Sought) (exceptions : ℕ) (b : Bounds) (t : Bool) (at : ℕ) (o o' : List ℕ) (r : ℕ) : Type 0 where
   pub most : r ≤ q.room
   pub page : (g : Pair → Bool) → Tests P (all_from q.statements q.statements (bare exceptions)) g
       → Covers g q.statements q.statements (bare exceptions) b

@@ -10,13 +10,13 @@ ghost use Rattle.queue.specs.Chains.{Chains};
 ghost use Rattle.meaning.specs.Order.{value as value_of};
 ghost use Rattle.page.specs.Orders.{number, about as about_of, said as said_of, given as given_of};
 ghost use Rattle.sets.specs.Pairs.{flat};
+ghost use Rattle.page.specs.Sought.{sought};
 ghost use Rattle.page.specs.Pages.{pair_at, Giving, ViewGiving, Barren, Fits, BranchReady, Ready, GoneOn, Settled, TriedOne, Branched, Started, Listed};
 
 use bounds::Part;
-use masks::Bounds;
-use queue::index::Index;
+use masks::{Bounds, Rules};
 use queue::waiting::Waiting;
-use queue::{Rest, index, waiting};
+use queue::{Prepared, Rest, index, waiting};
 use sets::Pair;
 
 // The value of a statement, in the order of pairs.
@@ -36,10 +36,9 @@ const MANY: u64 = 64;
 // The set of all numbers that a word has room for.
 const EVERY: u64 = 0xffff_ffff_ffff_ffff;
 
-// What is asked for: how many rules and statements the book has, room for how many pairs the slice has, and the point.
+// What is asked for: how many statements the book has, room for how many pairs the slice has, and the point.
 #[derive(Clone, Copy)]
 pub struct Task {
-    pub rules: usize,
     pub statements: u64,
     pub room: usize,
     pub point: Pair,
@@ -120,25 +119,16 @@ pub fn fixed(b: Bounds, i: u64, value: Value) -> Bounds
 }
 
 // The same for the views among them: propagated, unless that is b or has nothing in it.
-pub fn narrow(
-    words: &[u64],
-    n: usize,
-    ranks: &[u64],
-    index: &Index,
-    live: Waiting,
-    b: Bounds,
-    i: u64,
-    value: Value,
-) -> Rest
-    requires { (n * 8 ≤ length words.now) × (length ranks.now ≤ 64) × (0 < i) × (i ≤ 64) × Chains words.now n index.now }
-    ensures { Keeps (ViewGiving words.now n ranks.now i (number value)) b result.bounds }
+pub fn narrow(book: &Prepared<'_>, live: Waiting, b: Bounds, i: u64, value: Value) -> Rest
+    requires { (0 < i) × (i ≤ 64) }
+    ensures { Keeps (ViewGiving book.now.rules.words.now book.now.rules.count book.now.ranks.now i (number value)) b result.bounds }
 {
     let c = fixed(b, i, value);
     if b == c || !sets::within(c.lo, c.hi) {
         return Rest { bounds: c, live };
     }
-    let w = index::among(index, live, b, c);
-    queue::propagate(words, n, ranks, index, w, c)
+    let w = index::among(book.index, live, b, c);
+    queue::propagate(book, w, c)
 }
 
 // Where the statements settled so far are the point's: the value comes before the point's own.
@@ -157,65 +147,34 @@ pub fn still(equal: bool, value: Value, own: Value) -> bool
 
 // Whether any view is within the bounds: asked only after many branches without a find, not where the point's own branch goes on, and not
 // where the hint is within them. If the answer is that there is none, that is so; what is found may be no more than the hint.
-pub fn glimpse(
-    words: &[u64],
-    n: usize,
-    ranks: &[u64],
-    index: &Index,
-    dry: u64,
-    equal: bool,
-    live: Waiting,
-    b: Bounds,
-    hint: Pair,
-) -> Option<Pair>
-    requires { (n * 8 ≤ length words.now) × (length ranks.now ≤ 64) × Chains words.now n index.now }
-    ensures { result ≡ None → Barren words.now n ranks.now b }
+pub fn glimpse(book: &Prepared<'_>, dry: u64, equal: bool, live: Waiting, b: Bounds, hint: Pair) -> Option<Pair>
+    ensures { result ≡ None → Barren book.now.rules.words.now book.now.rules.count book.now.ranks.now b }
 {
     if dry < MANY || equal || (sets::within(b.lo, hint) && sets::within(hint, b.hi)) {
         return Some(hint);
     }
-    probe::ask(words, n, ranks, index, waiting::none(live), b)
+    probe::ask(book, waiting::none(live), b)
 }
 
 // The branch of a value at a statement that `left` others follow: the node that the search goes on from, or none if the value comes before the
 // point's own, forced conclusions clash, or the branch is barren.
-pub fn branch_of(
-    words: &[u64],
-    ranks: &[u64],
-    index: &Index,
-    task: Task,
-    left: u64,
-    value: Value,
-    node: Node,
-    dry: u64,
-) -> Option<Node>
-    requires { (BranchReady words.now ranks.now task left (number value)) × Chains words.now task.rules index.now }
-    ensures { Branched words.now ranks.now task left (number value) node result }
+pub fn branch_of(book: &Prepared<'_>, task: Task, left: u64, value: Value, node: Node, dry: u64) -> Option<Node>
+    requires { BranchReady book.now.rules.words.now book.now.ranks.now (sought book.now.rules.count task) left (number value) }
+    ensures { Branched book.now.rules.words.now book.now.ranks.now (sought book.now.rules.count task) left (number value) node result }
 {
     let i = task.statements - left;
     let own = value_at(task.point, i);
     if earlier(node.equal, value, own) {
         return None;
     }
-    let rest = narrow(
-        words,
-        task.rules,
-        ranks,
-        index,
-        node.live,
-        node.bounds,
-        i,
-        value,
-    );
+    let rest = narrow(book, node.live, node.bounds, i, value);
     let bounds = rest.bounds;
     let live = rest.live;
     if !sets::within(bounds.lo, bounds.hi) {
         return None;
     }
     let equal = still(node.equal, value, own);
-    let hint = glimpse(
-        words, task.rules, ranks, index, dry, equal, live, bounds, node.hint,
-    )?;
+    let hint = glimpse(book, dry, equal, live, bounds, node.hint)?;
     let pair = given(node.pair, i, value);
     Some(Node {
         equal,
@@ -263,21 +222,14 @@ pub fn pair_at(pairs: &[u64], k: usize) -> Pair
 }
 
 // Every statement is settled: the pair is put on the page if it is a view and not the point itself.
-pub fn finish(
-    words: &[u64],
-    ranks: &[u64],
-    task: Task,
-    node: Node,
-    out: &mut [u64],
-    place: Place,
-) -> Place
-    requires { (Fits words.now ranks.now out.old task place.at) × (place.at < task.room) × (task.rules ≤ 256) }
-    ensures { Settled (MaskView words.now task.rules ranks.now) task 0 node place.at out.old out.new result.at }
+pub fn finish(rules: &Rules<'_>, ranks: &[u64], task: Task, node: Node, out: &mut [u64], place: Place) -> Place
+    requires { (Fits rules.now.words.now ranks.now out.old (sought rules.now.count task) place.at) × (place.at < task.room) × (rules.now.count ≤ 256) }
+    ensures { Settled (MaskView rules.now.words.now rules.now.count ranks.now) (sought rules.now.count task) 0 node place.at out.old out.new result.at }
 {
     if node.equal {
         return place;
     }
-    if !least::is_view(words, task.rules, ranks, node.pair) {
+    if !least::is_view(rules, ranks, node.pair) {
         return place;
     }
     put_next(out, place, node.pair)
@@ -314,59 +266,40 @@ pub fn ahead(node: Node, n: u64, left: u64) -> Stretch
 // Settles the last `left` statements: puts the views that come from the node on the page, in order, and answers the place after them. Statements
 // that the bounds have settled are passed over.
 #[cycle(settle_try_value)]
-pub fn settle(
-    words: &[u64],
-    ranks: &[u64],
-    index: &Index,
-    task: Task,
-    left: u64,
-    node: Node,
-    out: &mut [u64],
-    place: Place,
-) -> Place
-    requires { (Ready words.now ranks.now out.old task left place.at) × (place.at < task.room) × Chains words.now task.rules index.now }
-    ensures { Settled (MaskView words.now task.rules ranks.now) task left node place.at out.old out.new result.at }
+pub fn settle(book: &Prepared<'_>, task: Task, left: u64, node: Node, out: &mut [u64], place: Place) -> Place
+    requires { (Ready book.now.rules.words.now book.now.ranks.now out.old (sought book.now.rules.count task) left place.at) × (place.at < task.room) }
+    ensures { Settled (MaskView book.now.rules.words.now book.now.rules.count book.now.ranks.now) (sought book.now.rules.count task) left node place.at out.old out.new result.at }
 {
     let a = ahead(node, task.statements, left);
     let pair = a.pair;
     let next = Node { pair, ..node };
     if a.left == 0 {
-        return finish(words, ranks, task, next, out, place);
+        return finish(&book.rules, book.ranks, task, next, out, place);
     }
     let mut r = place;
     for &value in &VALUES {
-        r = try_value(words, ranks, index, task, a.left, value, next, out, r);
+        r = try_value(book, task, a.left, value, next, out, r);
     }
     r
 }
 
 // Tries a value of the first statement left. What a branch takes on the stack is here, once for each statement.
 #[cycle(settle_try_value)]
-pub fn try_value(
-    words: &[u64],
-    ranks: &[u64],
-    index: &Index,
-    task: Task,
-    left: u64,
-    value: Value,
-    node: Node,
-    out: &mut [u64],
-    place: Place,
-) -> Place
-    requires { (Ready words.now ranks.now out.old task left place.at) × (0 < left) × Chains words.now task.rules index.now }
-    ensures { TriedOne (MaskView words.now task.rules ranks.now) task (left - 1) (number value) node place.at out.old out.new result.at }
+pub fn try_value(book: &Prepared<'_>, task: Task, left: u64, value: Value, node: Node, out: &mut [u64], place: Place) -> Place
+    requires { (Ready book.now.rules.words.now book.now.ranks.now out.old (sought book.now.rules.count task) left place.at) × (0 < left) }
+    ensures { TriedOne (MaskView book.now.rules.words.now book.now.rules.count book.now.ranks.now) (sought book.now.rules.count task) (left - 1) (number value) node place.at out.old out.new result.at }
 {
     if task.room <= place.at {
         return place;
     }
-    match branch_of(words, ranks, index, task, left - 1, value, node, place.dry) {
+    match branch_of(book, task, left - 1, value, node, place.dry) {
         None => place,
         Some(c) => {
             let next = Place {
                 at: place.at,
                 dry: place.dry.wrapping_add(1),
             };
-            settle(words, ranks, index, task, left - 1, c, out, next)
+            settle(book, task, left - 1, c, out, next)
         }
     }
 }
@@ -398,24 +331,14 @@ pub fn start(taken: u64, rest: Rest, equal: bool) -> Node
 // Puts all views with these exceptions on the page from place `at` on, in the order of pairs until the page is full;
 // where `after` is true only those later than the point, which takes these exceptions. None of those views may be beyond the bounds at rest.
 // Answers the place after them.
-pub fn list_views(
-    words: &[u64],
-    ranks: &[u64],
-    index: &Index,
-    task: Task,
-    taken: u64,
-    rest: Rest,
-    after: bool,
-    out: &mut [u64],
-    at: usize,
-) -> usize
-    requires { (Fits words.now ranks.now out.old task at) × Chains words.now task.rules index.now }
-    ensures { Listed (MaskView words.now task.rules ranks.now) task taken rest.bounds after at out.old out.new result }
+pub fn list_views(book: &Prepared<'_>, task: Task, taken: u64, rest: Rest, after: bool, out: &mut [u64], at: usize) -> usize
+    requires { Fits book.now.rules.words.now book.now.ranks.now out.old (sought book.now.rules.count task) at }
+    ensures { Listed (MaskView book.now.rules.words.now book.now.rules.count book.now.ranks.now) (sought book.now.rules.count task) taken rest.bounds after at out.old out.new result }
 {
     if task.room <= at {
         return at;
     }
     let node = start(taken, rest, after);
     let place = Place { at, dry: 0 };
-    settle(words, ranks, index, task, task.statements, node, out, place).at
+    settle(book, task, task.statements, node, out, place).at
 }

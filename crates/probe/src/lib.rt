@@ -7,10 +7,9 @@ ghost use Rattle.bounds.specs.Singles.{Picked};
 ghost use Rattle.queue.specs.Chains.{Chains};
 ghost use Rattle.probe.specs.Probes.{Opened, Probed, Attempted};
 
-use masks::Bounds;
-use queue::index::Index;
+use masks::{Bounds, Rules};
 use queue::waiting::{Waiting, Work};
-use queue::{index, waiting};
+use queue::{Prepared, index, waiting};
 use sets::Pair;
 
 pub mod shaving;
@@ -25,12 +24,11 @@ pub enum Node {
 }
 
 // A member that is in some pairs within the bounds and not in others: the heaviest, or any if that is none.
-pub fn pick(words: &[u64], n: usize, live: Waiting, c: Bounds) -> Pair
-    requires { n * 8 ≤ length words.now }
+pub fn pick(rules: &Rules<'_>, live: Waiting, c: Bounds) -> Pair
     ensures { Picked (minus_of c.hi c.lo) result }
 {
     let free = sets::minus(c.hi, c.lo);
-    if let Some(best) = weights::heaviest(words, n, live, free) {
+    if let Some(best) = weights::heaviest(rules, live, free) {
         let m = bounds::one(best.part, best.place);
         if sets::within(m, free) {
             return m;
@@ -40,11 +38,11 @@ pub fn pick(words: &[u64], n: usize, live: Waiting, c: Bounds) -> Pair
 }
 
 // One node of the search.
-pub fn visit(words: &[u64], n: usize, ranks: &[u64], index: &Index, w: Work, b: Bounds) -> Node
-    requires { (n * 8 ≤ length words.now) × (length ranks.now ≤ 64) × Chains words.now n index.now }
-    ensures { Opened words.now n ranks.now b result }
+pub fn visit(book: &Prepared<'_>, w: Work, b: Bounds) -> Node
+    ensures { Opened book.now.rules.words.now book.now.rules.count book.now.ranks.now b result }
 {
-    let rest = queue::propagate(words, n, ranks, index, w, b);
+    let index = book.index;
+    let rest = queue::propagate(book, w, b);
     let c = rest.bounds;
     let live = rest.live;
     let lo = c.lo;
@@ -53,43 +51,35 @@ pub fn visit(words: &[u64], n: usize, ranks: &[u64], index: &Index, w: Work, b: 
         return Node::Empty;
     }
     if lo == hi {
-        if least::is_view(words, n, ranks, lo) {
+        if least::is_view(&book.rules, book.ranks, lo) {
             return Node::View(lo);
         }
         return Node::Empty;
     }
     if index[index::KNOT] != 0 {
-        if !least::founded(words, n, c) {
+        if !least::founded(&book.rules, c) {
             return Node::Empty;
         }
     }
-    Node::Open(c, pick(words, n, live, c), live)
+    Node::Open(c, pick(&book.rules, live, c), live)
 }
 
 // A view within the bounds b, or none; w is what is to be done before the bounds are at rest.
-pub fn probe(
-    words: &[u64],
-    n: usize,
-    ranks: &[u64],
-    index: &Index,
-    w: Work,
-    b: Bounds,
-) -> Option<Pair>
-    requires { (n * 8 ≤ length words.now) × (length ranks.now ≤ 64) × Chains words.now n index.now }
-    ensures { Probed words.now n ranks.now b result }
+pub fn probe(book: &Prepared<'_>, w: Work, b: Bounds) -> Option<Pair>
+    ensures { Probed book.now.rules.words.now book.now.rules.count book.now.ranks.now b result }
 {
-    match visit(words, n, ranks, index, w, b) {
+    match visit(book, w, b) {
         Node::View(v) => Some(v),
         Node::Empty => None,
         Node::Open(c, m, live) => {
             let o = bounds::out(c, m);
-            let t = index::among(index, live, c, o);
-            if let Some(v) = probe(words, n, ranks, index, t, o) {
+            let t = index::among(book.index, live, c, o);
+            if let Some(v) = probe(book, t, o) {
                 return Some(v);
             }
             let p = bounds::into(c, m);
-            let t = index::among(index, live, c, p);
-            probe(words, n, ranks, index, t, p)
+            let t = index::among(book.index, live, c, p);
+            probe(book, t, p)
         }
     }
 }
@@ -106,34 +96,25 @@ pub enum Outcome {
 }
 
 // The same search, which visits at most `fuel` nodes.
-pub fn attempt(
-    words: &[u64],
-    n: usize,
-    ranks: &[u64],
-    index: &Index,
-    w: Work,
-    b: Bounds,
-    fuel: u64,
-) -> Outcome
-    requires { (n * 8 ≤ length words.now) × (length ranks.now ≤ 64) × Chains words.now n index.now }
-    ensures { Attempted words.now n ranks.now b result }
+pub fn attempt(book: &Prepared<'_>, w: Work, b: Bounds, fuel: u64) -> Outcome
+    ensures { Attempted book.now.rules.words.now book.now.rules.count book.now.ranks.now b result }
 {
     if fuel == 0 {
         return Outcome::Stopped;
     }
-    match visit(words, n, ranks, index, w, b) {
+    match visit(book, w, b) {
         Node::View(v) => Outcome::Has(v),
         Node::Empty => Outcome::Lacks(fuel - 1),
         Node::Open(c, m, live) => {
             let o = bounds::out(c, m);
-            let t = index::among(index, live, c, o);
-            match attempt(words, n, ranks, index, t, o, fuel - 1) {
+            let t = index::among(book.index, live, c, o);
+            match attempt(book, t, o, fuel - 1) {
                 Outcome::Has(v) => Outcome::Has(v),
                 Outcome::Stopped => Outcome::Stopped,
                 Outcome::Lacks(left) => {
                     let p = bounds::into(c, m);
-                    let t = index::among(index, live, c, p);
-                    attempt(words, n, ranks, index, t, p, left)
+                    let t = index::among(book.index, live, c, p);
+                    attempt(book, t, p, left)
                 }
             }
         }
@@ -141,37 +122,21 @@ pub fn attempt(
 }
 
 // The same as probe, from shaved bounds.
-pub fn probe_shaved(
-    words: &[u64],
-    n: usize,
-    ranks: &[u64],
-    index: &Index,
-    w: Work,
-    b: Bounds,
-) -> Option<Pair>
-    requires { (n * 8 ≤ length words.now) × (length ranks.now ≤ 64) × Chains words.now n index.now }
-    ensures { Probed words.now n ranks.now b result }
+pub fn probe_shaved(book: &Prepared<'_>, w: Work, b: Bounds) -> Option<Pair>
+    ensures { Probed book.now.rules.words.now book.now.rules.count book.now.ranks.now b result }
 {
-    let rest = queue::propagate(words, n, ranks, index, w, b);
-    let r = shaving::shaved(words, n, ranks, index, rest);
-    probe(words, n, ranks, index, waiting::none(r.live), r.bounds)
+    let rest = queue::propagate(book, w, b);
+    let r = shaving::shaved(book, rest);
+    probe(book, waiting::none(r.live), r.bounds)
 }
 
 // The same as probe: from shaved bounds where the plain search has used up its fuel.
-pub fn ask(
-    words: &[u64],
-    n: usize,
-    ranks: &[u64],
-    index: &Index,
-    w: Work,
-    b: Bounds,
-) -> Option<Pair>
-    requires { (n * 8 ≤ length words.now) × (length ranks.now ≤ 64) × Chains words.now n index.now }
-    ensures { Probed words.now n ranks.now b result }
+pub fn ask(book: &Prepared<'_>, w: Work, b: Bounds) -> Option<Pair>
+    ensures { Probed book.now.rules.words.now book.now.rules.count book.now.ranks.now b result }
 {
-    match attempt(words, n, ranks, index, w, b, FUEL) {
+    match attempt(book, w, b, FUEL) {
         Outcome::Has(v) => Some(v),
         Outcome::Lacks(_) => None,
-        Outcome::Stopped => probe_shaved(words, n, ranks, index, w, b),
+        Outcome::Stopped => probe_shaved(book, w, b),
     }
 }

@@ -6,29 +6,27 @@ ghost use Rattle.queue.specs.Chains.{Chains};
 
 use bounds::Part;
 use masks::Bounds;
-use queue::index::Index;
-use queue::{Rest, index};
+use queue::{Prepared, Rest, index};
 use sets::Pair;
 
 // From bounds at rest, narrower bounds at rest.
-pub fn settled(words: &[u64], n: usize, ranks: &[u64], index: &Index, rest: Rest, o: Bounds) -> Rest
-    requires { (n * 8 ≤ length words.now) × (length ranks.now ≤ 64) × Chains words.now n index.now }
-    ensures { Propagated words.now n ranks.now o result.bounds }
+pub fn settled(book: &Prepared<'_>, rest: Rest, o: Bounds) -> Rest
+    ensures { Propagated book.now.rules.words.now book.now.rules.count book.now.ranks.now o result.bounds }
 {
-    let w = index::among(index, rest.live, rest.bounds, o);
-    queue::propagate(words, n, ranks, index, w, o)
+    let w = index::among(book.index, rest.live, rest.bounds, o);
+    queue::propagate(book, w, o)
 }
 
 // The bounds with the member m, if it is open, where no view lacks it, without m where no view has it, as far as propagation shows that.
-pub fn tried(words: &[u64], n: usize, ranks: &[u64], index: &Index, rest: Rest, m: Pair) -> Rest
-    requires { (n * 8 ≤ length words.now) × (length ranks.now ≤ 64) × Chains words.now n index.now × Atom m }
-    ensures { Propagated words.now n ranks.now rest.bounds result.bounds }
+pub fn tried(book: &Prepared<'_>, rest: Rest, m: Pair) -> Rest
+    requires { Atom m }
+    ensures { Propagated book.now.rules.words.now book.now.rules.count book.now.ranks.now rest.bounds result.bounds }
 {
     if !sets::within(m, sets::minus(rest.bounds.hi, rest.bounds.lo)) {
         return rest;
     }
-    let o = settled(words, n, ranks, index, rest, bounds::out(rest.bounds, m));
-    let p = settled(words, n, ranks, index, rest, bounds::into(rest.bounds, m));
+    let o = settled(book, rest, bounds::out(rest.bounds, m));
+    let p = settled(book, rest, bounds::into(rest.bounds, m));
     if !sets::within(o.bounds.lo, o.bounds.hi) {
         return p;
     }
@@ -39,14 +37,13 @@ pub fn tried(words: &[u64], n: usize, ranks: &[u64], index: &Index, rest: Rest, 
 }
 
 // The bounds after each open member has been tried, until nothing is left of them.
-pub fn shaved(words: &[u64], n: usize, ranks: &[u64], index: &Index, rest: Rest) -> Rest
-    requires { (n * 8 ≤ length words.now) × (length ranks.now ≤ 64) × Chains words.now n index.now }
-    ensures { Propagated words.now n ranks.now rest.bounds result.bounds }
+pub fn shaved(book: &Prepared<'_>, rest: Rest) -> Rest
+    ensures { Propagated book.now.rules.words.now book.now.rules.count book.now.ranks.now rest.bounds result.bounds }
 {
     let mut r = rest;
     for part in Part::ALL {
         for place in 0..64 {
-            r = tried(words, n, ranks, index, r, bounds::one(part, place));
+            r = tried(book, r, bounds::one(part, place));
             if !sets::within(r.bounds.lo, r.bounds.hi) {
                 return r;
             }

@@ -2,7 +2,7 @@
 ghost use Rattle.std.specs.Prelude.{◌*◌, ◌<◌, ◌≤◌, length};
 
 use bounds::Part;
-use masks::Masks;
+use masks::{Masks, Rules};
 use queue::waiting::Waiting;
 use sets::Pair;
 
@@ -126,25 +126,25 @@ pub fn better(s: Option<Best>, b: Best) -> Option<Best> {
 }
 
 // Adds the weights of the rules whose places are the members of m, counted from place `from`.
-pub fn add_rules(t: &mut Weights, words: &[u64], n: usize, from: u64, m: u64, free: Pair)
-    requires { (n * 8 ≤ length words.now) × (from ≤ 192) }
+pub fn add_rules(t: &mut Weights, rules: &Rules<'_>, from: u64, m: u64, free: Pair)
+    requires { from ≤ 192 }
 {
+    let n = rules.count;
     for i in sets::members(m) {
         let k = (from + i) as usize;
         if k >= n {
             return;
         }
-        add_rule(t, masks::masks_at(words, k), free);
+        add_rule(t, masks::masks_at(rules.words, k), free);
     }
 }
 
 // The heaviest of the members `free`, over the live rules.
-pub fn heaviest(words: &[u64], n: usize, live: Waiting, free: Pair) -> Option<Best>
-    requires { n * 8 ≤ length words.now }
+pub fn heaviest(rules: &Rules<'_>, live: Waiting, free: Pair) -> Option<Best>
 {
     let mut t: Weights = [0; 192];
     for (k, &word) in live.words.iter().enumerate() {
-        add_rules(&mut t, words, n, k as u64 * 64, word, free);
+        add_rules(&mut t, rules, k as u64 * 64, word, free);
     }
     let s = heavier(&t, Part::Held, free.held, None);
     let s = heavier(&t, Part::Denied, free.denied, s);

@@ -9,7 +9,7 @@ ghost use Rattle.queue.specs.Chains.{ChainsFrom, Chains, Chained, Named, Put, He
 use crate::index::Index;
 use crate::{index, waiting};
 use bounds::Part;
-use masks::{Bounds, Masks};
+use masks::{Bounds, Masks, Rules};
 use sets::Pair;
 
 // Places in the index: the first rules of 64 conclusions held and 64 denied; the rule after each of 256 with the same head; whether
@@ -75,28 +75,27 @@ pub fn clear(index: &mut [u64], n: usize)
 }
 
 // How many rules there are before the first with alternatives.
-pub fn simple(words: &[u64], n: usize) -> usize
-    requires { n * 8 ≤ length words.now }
-    ensures { result ≤ n }
+pub fn simple(rules: &Rules<'_>) -> usize
+    ensures { result ≤ rules.now.count }
 {
-    for k in 0..n {
-        let r = masks::masks_at(words, k);
+    for k in 0..rules.count {
+        let r = masks::masks_at(rules.words, k);
         if !masks::lone(r.head) {
             return k;
         }
     }
-    n
+    rules.count
 }
 
 // Chains the first n rules, from the last to the first; whether each has one conclusion for its head, or none.
-pub fn chained(words: &[u64], n: usize, index: &mut [u64]) -> bool
-    requires { (n * 8 ≤ length words.now) × (n ≤ 256) × (length index.old ≡ index_length) }
-    ensures { result ≡ true → ChainsFrom words.now n index.new 0 }
+pub fn chained(rules: &Rules<'_>, index: &mut [u64]) -> bool
+    requires { (rules.now.count ≤ 256) × (length index.old ≡ index_length) }
+    ensures { result ≡ true → ChainsFrom rules.now.words.now rules.now.count index.new 0 }
 {
-    clear(index, n);
+    clear(index, rules.count);
     let mut whole = true;
-    for k in (0..n).rev() {
-        if !chain(index, masks::masks_at(words, k), k) {
+    for k in (0..rules.count).rev() {
+        if !chain(index, masks::masks_at(rules.words, k), k) {
             whole = false;
         }
     }
@@ -124,26 +123,31 @@ pub fn put_heads(index: &mut [u64], r: Masks, j: u64)
 }
 
 // Puts the rules from c on into the rows of their heads, if they are not more than a row holds.
-pub fn rows(words: &[u64], n: usize, c: usize, index: &mut [u64])
-    requires { (n * 8 ≤ length words.now) × (c ≤ n) × (n ≤ 256) × (length index.old ≡ index_length) }
-    ensures { RowsPut words.now n c index.old index.new }
+pub fn rows(rules: &Rules<'_>, c: usize, index: &mut [u64])
+    requires { (c ≤ rules.now.count) × (rules.now.count ≤ 256) × (length index.old ≡ index_length) }
+    ensures { RowsPut rules.now.words.now rules.now.count c index.old index.new }
 {
+    let n = rules.count;
     if c + 64 < n {
         return;
     }
     for k in c..n {
-        put_heads(index, masks::masks_at(words, k), (k - c) as u64);
+        put_heads(index, masks::masks_at(rules.words, k), (k - c) as u64);
     }
 }
 
 // Chains the rules before the first with alternatives, and puts the others into rows.
-pub fn chains(words: &[u64], n: usize, index: &mut [u64])
-    requires { (n * 8 ≤ length words.now) × (n ≤ 256) × (length index.old ≡ index_length) }
-    ensures { Chains words.now n index.new }
+pub fn chains(rules: &Rules<'_>, index: &mut [u64])
+    requires { (rules.now.count ≤ 256) × (length index.old ≡ index_length) }
+    ensures { Chains rules.now.words.now rules.now.count index.new }
 {
-    let c = simple(words, n);
-    let whole = chained(words, c, index);
-    rows(words, n, c, index);
+    let c = simple(rules);
+    let plain = Rules {
+        words: rules.words,
+        count: c,
+    };
+    let whole = chained(&plain, index);
+    rows(rules, c, index);
     index[CUT] = c as u64;
     index[WHOLE] = u64::from(whole);
 }
@@ -170,10 +174,11 @@ pub fn with_rule(r: Masks, b: Bounds, k: usize, g: Givers) -> Givers
 }
 
 // Of the first n rules, which are in chains if the index says so, those that can give the conclusion at place i of word s.
-pub fn count_givers(words: &[u64], n: usize, index: &Index, s: Part, i: u64, b: Bounds) -> Givers
-    requires { (n * 8 ≤ length words.now) × (n ≤ 256) × (get_or index.now whole_place 0 ≡ 1 → ChainsFrom words.now n index.now 0) × (number_of s < 2) × (i < 64) }
-    ensures { Seen words.now n n (one_of (number_of s) i) b result }
+pub fn count_givers(rules: &Rules<'_>, index: &Index, s: Part, i: u64, b: Bounds) -> Givers
+    requires { (rules.now.count ≤ 256) × (get_or index.now whole_place 0 ≡ 1 → ChainsFrom rules.now.words.now rules.now.count index.now 0) × (number_of s < 2) × (i < 64) }
+    ensures { Seen rules.now.words.now rules.now.count rules.now.count (one_of (number_of s) i) b result }
 {
+    let n = rules.count;
     if index[WHOLE] != 1 {
         return Givers::Several;
     }
@@ -184,7 +189,7 @@ pub fn count_givers(words: &[u64], n: usize, index: &Index, s: Part, i: u64, b: 
         if n <= k {
             return g;
         }
-        let r = masks::masks_at(words, k);
+        let r = masks::masks_at(rules.words, k);
         if !sets::within(m, r.head) {
             return Givers::Several;
         }
@@ -214,18 +219,11 @@ pub fn weighed(r: Masks, b: Bounds, m: Pair, k: usize, g: Givers) -> Givers
 }
 
 // The givers g of m among the first c rules, and those that the row names from there on.
-pub fn more_givers(
-    words: &[u64],
-    n: usize,
-    c: usize,
-    row: u64,
-    m: Pair,
-    b: Bounds,
-    g: Givers,
-) -> Givers
-    requires { (n * 8 ≤ length words.now) × (c ≤ n) × Named words.now n c m row × Seen words.now c c m b g }
-    ensures { Seen words.now n n m b result }
+pub fn more_givers(rules: &Rules<'_>, c: usize, row: u64, m: Pair, b: Bounds, g: Givers) -> Givers
+    requires { (c ≤ rules.now.count) × Named rules.now.words.now rules.now.count c m row × Seen rules.now.words.now c c m b g }
+    ensures { Seen rules.now.words.now rules.now.count rules.now.count m b result }
 {
+    let n = rules.count;
     let mut h = g;
     for i in sets::members(row) {
         match h {
@@ -238,18 +236,23 @@ pub fn more_givers(
         if n <= k {
             return Givers::Several;
         }
-        h = weighed(masks::masks_at(words, k), b, m, k, h);
+        h = weighed(masks::masks_at(rules.words, k), b, m, k, h);
     }
     h
 }
 
 // The rules that can give the conclusion at place i of word s; perhaps several if more rules follow the chains than a row holds.
-pub fn all_givers(words: &[u64], n: usize, index: &Index, s: Part, i: u64, b: Bounds) -> Givers
-    requires { (n * 8 ≤ length words.now) × Chains words.now n index.now × (number_of s < 2) × (i < 64) }
-    ensures { Seen words.now n n (one_of (number_of s) i) b result }
+pub fn all_givers(rules: &Rules<'_>, index: &Index, s: Part, i: u64, b: Bounds) -> Givers
+    requires { Chains rules.now.words.now rules.now.count index.now × (number_of s < 2) × (i < 64) }
+    ensures { Seen rules.now.words.now rules.now.count rules.now.count (one_of (number_of s) i) b result }
 {
+    let n = rules.count;
     let c = index[CUT] as usize;
-    let g = count_givers(words, c, index, s, i, b);
+    let plain = Rules {
+        words: rules.words,
+        count: c,
+    };
+    let g = count_givers(&plain, index, s, i, b);
     if n <= c {
         return g;
     }
@@ -258,7 +261,7 @@ pub fn all_givers(words: &[u64], n: usize, index: &Index, s: Part, i: u64, b: Bo
     }
     let m = bounds::one(s, i);
     let row = index[ROWS + (s.number() * 64 + i) as usize];
-    more_givers(words, n, c, row, m, b, g)
+    more_givers(rules, c, row, m, b, g)
 }
 
 // The rule r alone can give the conclusion m: if m is sure, r fires, and its other heads are out. (B2)
@@ -275,15 +278,15 @@ pub fn sole_giver(r: Masks, m: Pair, b: Bounds) -> Bounds
 }
 
 // A conclusion that no rule can give is out; a sure one makes the rule fire that alone can give it. (d), (B2)
-pub fn support(words: &[u64], n: usize, index: &Index, s: Part, i: u64, b: Bounds) -> Bounds
-    requires { (n * 8 ≤ length words.now) × Chains words.now n index.now × (number_of s < 2) × (i < 64) }
-    ensures { Keeps (Ruled words.now n) b result }
+pub fn support(rules: &Rules<'_>, index: &Index, s: Part, i: u64, b: Bounds) -> Bounds
+    requires { Chains rules.now.words.now rules.now.count index.now × (number_of s < 2) × (i < 64) }
+    ensures { Keeps (Ruled rules.now.words.now rules.now.count) b result }
 {
     let m = bounds::one(s, i);
-    let g = all_givers(words, n, index, s, i, b);
+    let g = all_givers(rules, index, s, i, b);
     match g {
         Givers::Nobody => bounds::out(b, m),
-        Givers::One(k) => sole_giver(masks::masks_at(words, k), m, b),
+        Givers::One(k) => sole_giver(masks::masks_at(rules.words, k), m, b),
         Givers::Several => b,
     }
 }

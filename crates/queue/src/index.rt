@@ -4,7 +4,7 @@ ghost use Rattle.queue.specs.Chains.{Chains};
 
 use crate::waiting::{Waiting, Work};
 use crate::{heads, waiting};
-use masks::{Bounds, Masks};
+use masks::{Bounds, Masks, Rules};
 use sets::Pair;
 
 // Four words for each of 192 rows: rows 0 to 63 for the statements held, 64 to 127 denied, 128 to 191 for the exceptions.
@@ -89,12 +89,11 @@ pub fn put_rule(index: &mut Index, r: Masks, k: u64)
 }
 
 // The heads of the rules that need a conclusion of c.
-pub fn fed(words: &[u64], n: usize, c: Pair) -> Pair
-    requires { n * 8 ≤ length words.now }
+pub fn fed(rules: &Rules<'_>, c: Pair) -> Pair
 {
     let mut d = Pair::EMPTY;
-    for k in 0..n {
-        let r = masks::masks_at(words, k);
+    for k in 0..rules.count {
+        let r = masks::masks_at(rules.words, k);
         if !sets::apart(r.need, c) {
             d = sets::join(d, r.head);
         }
@@ -103,12 +102,11 @@ pub fn fed(words: &[u64], n: usize, c: Pair) -> Pair
 }
 
 // Conclusions can need each other in a circle: some are left when those are taken away that need none of the rest.
-pub fn circular(words: &[u64], n: usize) -> bool
-    requires { n * 8 ≤ length words.now }
+pub fn circular(rules: &Rules<'_>) -> bool
 {
     let mut c = Pair::of_statements(u64::MAX, u64::MAX);
     for _ in 0..128 {
-        let d = sets::meet(c, fed(words, n, c));
+        let d = sets::meet(c, fed(rules, c));
         if c == d {
             return c != Pair::EMPTY;
         }
@@ -118,25 +116,24 @@ pub fn circular(words: &[u64], n: usize) -> bool
 }
 
 // A rule has alternatives.
-pub fn branching(words: &[u64], n: usize) -> bool
-    requires { n * 8 ≤ length words.now }
+pub fn branching(rules: &Rules<'_>) -> bool
 {
-    heads::simple(words, n) < n
+    heads::simple(rules) < rules.count
 }
 
 // Fills an index of zeros from the first n rules.
-pub fn fill(words: &[u64], n: usize, index: &mut Index)
-    requires { (n * 8 ≤ length words.now) × (n ≤ 256) }
-    ensures { Chains words.now n index.new }
+pub fn fill(rules: &Rules<'_>, index: &mut Index)
+    requires { rules.now.count ≤ 256 }
+    ensures { Chains rules.now.words.now rules.now.count index.new }
 {
-    for k in 0..n {
-        put_rule(index, masks::masks_at(words, k), k as u64);
+    for k in 0..rules.count {
+        put_rule(index, masks::masks_at(rules.words, k), k as u64);
     }
-    if circular(words, n) {
+    if circular(rules) {
         index[CIRCLE] = 1;
     }
     if index[CIRCLE] != 0 {
-        index[KNOT] = u64::from(branching(words, n));
+        index[KNOT] = u64::from(branching(rules));
     }
-    heads::chains(words, n, index);
+    heads::chains(rules, index);
 }

@@ -8,13 +8,23 @@ ghost use Rattle.bounds.specs.Sound.{Keeps, Coherent, Ruled, Propagated};
 ghost use Rattle.queue.specs.Chains.{Chains};
 
 use index::Index;
-use masks::{Bounds, Masks};
+use masks::{Bounds, Masks, Rules};
 use sets::Pair;
 use waiting::{Waiting, Work};
 
 pub mod heads;
 pub mod index;
 pub mod waiting;
+
+// A book as the search reads it: its rules, for each exception those that it outranks, and the index of the rules.
+#[derive(Clone, Copy)]
+pub struct Prepared<'a> {
+    pub rules: Rules<'a>,
+    pub ranks: &'a [u64],
+    pub index: &'a Index,
+    ghost few: { length ranks.now ≤ 64 },
+    ghost chained: { Chains rules.words.now rules.count index.now },
+}
 
 // Bounds, and what is to be done before they are at rest.
 #[derive(Clone, Copy)]
@@ -96,10 +106,10 @@ pub fn without_rule(w: Work, j: u64, head: Pair, lo: Pair, several: bool, alive:
 }
 
 // The rules that wait, one after the other, until one has something new to say. Those before place `cut` have one head or none.
-pub fn stepped(words: &[u64], n: usize, cut: u64, q: State) -> State
-    requires { n * 8 ≤ length words.now }
-    ensures { Keeps (Ruled words.now n) q.bounds result.bounds }
+pub fn stepped(rules: &Rules<'_>, cut: u64, q: State) -> State
+    ensures { Keeps (Ruled rules.now.words.now rules.now.count) q.bounds result.bounds }
 {
+    let n = rules.count;
     let bounds = q.bounds;
     let mut work = q.work;
     for _ in 0..256 {
@@ -109,7 +119,7 @@ pub fn stepped(words: &[u64], n: usize, cut: u64, q: State) -> State
         if j as usize >= n {
             return State { bounds, work };
         }
-        let r = masks::masks_at(words, j as usize);
+        let r = masks::masks_at(rules.words, j as usize);
         let alive = masks::fires(r, bounds.lo, bounds.hi);
         work = without_rule(work, j, r.head, bounds.lo, cut <= j, alive);
         if !quiet(r, bounds, alive) {
@@ -135,9 +145,9 @@ pub fn asking(q: State, bounds: Bounds, asked: Pair) -> State
 }
 
 // The support of the conclusions asked for that are still possible, one after the other, until one changes the bounds.
-pub fn answered(words: &[u64], n: usize, index: &Index, q: State) -> State
-    requires { (n * 8 ≤ length words.now) × Chains words.now n index.now }
-    ensures { Keeps (Ruled words.now n) q.bounds result.bounds }
+pub fn answered(rules: &Rules<'_>, index: &Index, q: State) -> State
+    requires { Chains rules.now.words.now rules.now.count index.now }
+    ensures { Keeps (Ruled rules.now.words.now rules.now.count) q.bounds result.bounds }
 {
     let b = q.bounds;
     let mut asked = sets::meet(q.work.asked, b.hi);
@@ -145,7 +155,7 @@ pub fn answered(words: &[u64], n: usize, index: &Index, q: State) -> State
         let Some(i) = heads::place(asked) else {
             return asking(q, b, asked);
         };
-        let o = heads::support(words, n, index, heads::side(asked), i, b);
+        let o = heads::support(rules, index, heads::side(asked), i, b);
         asked = heads::others(asked);
         if b != o {
             return asking(q, o, asked);
@@ -155,15 +165,15 @@ pub fn answered(words: &[u64], n: usize, index: &Index, q: State) -> State
 }
 
 // One turn: what the rules say that wait, and if that is nothing new the support of what is asked for.
-pub fn turn(words: &[u64], n: usize, index: &Index, q: State) -> State
-    requires { (n * 8 ≤ length words.now) × Chains words.now n index.now }
-    ensures { Keeps (Ruled words.now n) q.bounds result.bounds }
+pub fn turn(rules: &Rules<'_>, index: &Index, q: State) -> State
+    requires { Chains rules.now.words.now rules.now.count index.now }
+    ensures { Keeps (Ruled rules.now.words.now rules.now.count) q.bounds result.bounds }
 {
-    let p = stepped(words, n, index[heads::CUT], q);
+    let p = stepped(rules, index[heads::CUT], q);
     if q.bounds != p.bounds {
         return p;
     }
-    answered(words, n, index, p)
+    answered(rules, index, p)
 }
 
 // The state p after a turn from the bounds b. If they changed: what is held is not denied, live rules that mention what differs wait, and
@@ -198,16 +208,17 @@ pub fn idle(n: usize, q: State) -> bool {
 }
 
 // Turns until nothing is to be done, or the bounds have nothing in them.
-pub fn run(words: &[u64], n: usize, index: &Index, from: State) -> State
-    requires { (n * 8 ≤ length words.now) × Chains words.now n index.now }
-    ensures { Keeps (Ruled words.now n) from.bounds result.bounds }
+pub fn run(rules: &Rules<'_>, index: &Index, from: State) -> State
+    requires { Chains rules.now.words.now rules.now.count index.now }
+    ensures { Keeps (Ruled rules.now.words.now rules.now.count) from.bounds result.bounds }
 {
+    let n = rules.count;
     let mut q = from;
     for _ in 0..100000 {
         if idle(n, q) {
             return q;
         }
-        q = moved(index, q.bounds, turn(words, n, index, q));
+        q = moved(index, q.bounds, turn(rules, index, q));
         if !sets::within(q.bounds.lo, q.bounds.hi) {
             return q;
         }
@@ -216,29 +227,28 @@ pub fn run(words: &[u64], n: usize, index: &Index, from: State) -> State
 }
 
 // What all rules together say: preferences, and the bound by a closure if these find nothing and the rules are circular.
-pub fn whole(words: &[u64], n: usize, ranks: &[u64], index: &Index, b: Bounds) -> Bounds
-    requires { (n * 8 ≤ length words.now) × (length ranks.now ≤ 64) }
-    ensures { Keeps (MaskView words.now n ranks.now) b result }
+pub fn whole(book: &Prepared<'_>, b: Bounds) -> Bounds
+    ensures { Keeps (MaskView book.now.rules.words.now book.now.rules.count book.now.ranks.now) b result }
 {
-    let o = bounds::unlinked(words, n, ranks, bounds::levels(ranks, b));
+    let index = book.index;
+    let o = bounds::unlinked(&book.rules, book.ranks, bounds::levels(book.ranks, b));
     if o != b {
         return o;
     }
     if index[index::CIRCLE] == 0 {
         return o;
     }
-    bounds::upper(words, n, o)
+    bounds::upper(&book.rules, o)
 }
 
 // Narrows the bounds by what is to be done, then by what all rules say together, in turn until nothing changes.
 // No view within the bounds is lost; how far they are narrowed, the contract does not say.
-pub fn propagate(words: &[u64], n: usize, ranks: &[u64], index: &Index, w: Work, b: Bounds) -> Rest
-    requires { (n * 8 ≤ length words.now) × (length ranks.now ≤ 64) × Chains words.now n index.now }
-    ensures { Propagated words.now n ranks.now b result.bounds }
+pub fn propagate(book: &Prepared<'_>, w: Work, b: Bounds) -> Rest
+    ensures { Propagated book.now.rules.words.now book.now.rules.count book.now.ranks.now b result.bounds }
 {
     let mut q = State { bounds: b, work: w };
     for _ in 0..512 {
-        let a = run(words, n, index, q);
+        let a = run(&book.rules, book.index, q);
         let live = a.work.live;
         let c = a.bounds;
         if !sets::within(c.lo, c.hi) {
@@ -247,7 +257,7 @@ pub fn propagate(words: &[u64], n: usize, ranks: &[u64], index: &Index, w: Work,
                 live,
             };
         }
-        let o = whole(words, n, ranks, index, c);
+        let o = whole(book, c);
         if c == o {
             return Rest {
                 bounds: bounds::narrowed(b, o),
@@ -256,7 +266,7 @@ pub fn propagate(words: &[u64], n: usize, ranks: &[u64], index: &Index, w: Work,
         }
         q = State {
             bounds: o,
-            work: index::among(index, live, c, o),
+            work: index::among(book.index, live, c, o),
         };
     }
     let live = q.work.live;

@@ -9,40 +9,21 @@ ghost use Rattle.ranges.specs.Ranges.{NoView, Wider};
 use bounds::Part;
 use masks::Bounds;
 use probe::shaving;
-use queue::index::Index;
-use queue::{Rest, index, waiting};
+use queue::{Prepared, Rest, index, waiting};
 
 // Bounds for the views with a set of exceptions from lo to hi, at rest.
-pub fn narrowed(
-    words: &[u64],
-    n: usize,
-    ranks: &[u64],
-    index: &Index,
-    root: Bounds,
-    lo: u64,
-    hi: u64,
-) -> Rest
-    requires { (n * 8 ≤ length words.now) × (length ranks.now ≤ 64) × Chains words.now n index.now }
-    ensures { Propagated words.now n ranks.now (with_sets root lo hi) result.bounds }
+pub fn narrowed(book: &Prepared<'_>, root: Bounds, lo: u64, hi: u64) -> Rest
+    ensures { Propagated book.now.rules.words.now book.now.rules.count book.now.ranks.now (with_sets root lo hi) result.bounds }
 {
     let b = bounds::with_sets(root, lo, hi);
-    queue::propagate(words, n, ranks, index, index::changed(index, root, b), b)
+    queue::propagate(book, index::changed(book.index, root, b), b)
 }
 
 // Whether propagation alone shows that no view has a set of exceptions from lo to hi.
-pub fn refuted(
-    words: &[u64],
-    n: usize,
-    ranks: &[u64],
-    index: &Index,
-    root: Bounds,
-    lo: u64,
-    hi: u64,
-) -> bool
-    requires { (n * 8 ≤ length words.now) × (length ranks.now ≤ 64) × Chains words.now n index.now }
-    ensures { result ≡ true → NoView words.now n ranks.now root lo hi }
+pub fn refuted(book: &Prepared<'_>, root: Bounds, lo: u64, hi: u64) -> bool
+    ensures { result ≡ true → NoView book.now.rules.words.now book.now.rules.count book.now.ranks.now root lo hi }
 {
-    let rest = narrowed(words, n, ranks, index, root, lo, hi);
+    let rest = narrowed(book, root, lo, hi);
     let b = rest.bounds;
     !sets::within(b.lo, b.hi)
 }
@@ -86,23 +67,15 @@ pub fn decided(b: Bounds, t: u64, e: u64) -> Bounds
 }
 
 // From bounds at rest, bounds at rest after that decision.
-pub fn settled(
-    words: &[u64],
-    n: usize,
-    ranks: &[u64],
-    index: &Index,
-    rest: Rest,
-    t: u64,
-    e: u64,
-) -> Rest
-    requires { (n * 8 ≤ length words.now) × (length ranks.now ≤ 64) × (e < 64) × Chains words.now n index.now }
+pub fn settled(book: &Prepared<'_>, rest: Rest, t: u64, e: u64) -> Rest
+    requires { e < 64 }
 {
     let b = decided(rest.bounds, t, e);
     if rest.bounds == b {
         return rest;
     }
-    let w = index::among(index, rest.live, rest.bounds, b);
-    queue::propagate(words, n, ranks, index, w, b)
+    let w = index::among(book.index, rest.live, rest.bounds, b);
+    queue::propagate(book, w, b)
 }
 
 // The exceptions that the bounds decide otherwise than t.
@@ -125,16 +98,8 @@ pub struct Conflict {
 }
 
 // The first conflict of t's decisions at the places before `end`, made one after the other from bounds at rest.
-pub fn first_conflict(
-    words: &[u64],
-    n: usize,
-    ranks: &[u64],
-    index: &Index,
-    rest: Rest,
-    t: u64,
-    end: usize,
-) -> Option<Conflict>
-    requires { (n * 8 ≤ length words.now) × (length ranks.now ≤ 64) × (end ≤ 64) × Chains words.now n index.now }
+pub fn first_conflict(book: &Prepared<'_>, rest: Rest, t: u64, end: usize) -> Option<Conflict>
+    requires { end ≤ 64 }
     ensures { IfSome result (λ c. (c.place < 64) × (c.before ≤ end)) }
 {
     let mut r = rest;
@@ -143,7 +108,7 @@ pub fn first_conflict(
             return Some(Conflict { place, before });
         }
         let place = before as u64;
-        r = settled(words, n, ranks, index, r, t, place);
+        r = settled(book, r, t, place);
         if !sets::within(r.bounds.lo, r.bounds.hi) {
             return Some(Conflict { place, before });
         }
@@ -154,28 +119,20 @@ pub fn first_conflict(
 
 // A range around t from a core: a few of t's decisions that are in conflict already. Each round adds one to the core: one that is in
 // conflict with the core and the decisions at the first places. No contract depends on this: a wrong core costs time, not truth.
-pub fn core_around(
-    words: &[u64],
-    n: usize,
-    ranks: &[u64],
-    index: &Index,
-    root: Bounds,
-    t: u64,
-) -> Range
-    requires { (n * 8 ≤ length words.now) × (length ranks.now ≤ 64) × Chains words.now n index.now }
+pub fn core_around(book: &Prepared<'_>, root: Bounds, t: u64) -> Range
 {
     let mut s = Range::ALL;
     let mut rest = Rest {
         bounds: root,
         live: waiting::everything(),
     };
-    let mut end = ranks.len();
-    for _ in ranks {
-        let Some(c) = first_conflict(words, n, ranks, index, rest, t, end) else {
+    let mut end = book.ranks.len();
+    for _ in book.ranks {
+        let Some(c) = first_conflict(book, rest, t, end) else {
             return Range { lo: t, hi: t };
         };
         s = fixed(s, t, c.place);
-        rest = settled(words, n, ranks, index, rest, t, c.place);
+        rest = settled(book, rest, t, c.place);
         if !sets::within(rest.bounds.lo, rest.bounds.hi) {
             return s;
         }
@@ -185,83 +142,64 @@ pub fn core_around(
 }
 
 // A range of sets without a view around one that has none: that from a core, if propagation shows that it has no view.
-pub fn widened(words: &[u64], n: usize, ranks: &[u64], index: &Index, root: Bounds, t: u64) -> Range
-    requires { (n * 8 ≤ length words.now) × (length ranks.now ≤ 64) × Chains words.now n index.now }
-    ensures { Wider words.now n ranks.now root (record { lo = t; hi = t }) result }
+pub fn widened(book: &Prepared<'_>, root: Bounds, t: u64) -> Range
+    ensures { Wider book.now.rules.words.now book.now.rules.count book.now.ranks.now root (record { lo = t; hi = t }) result }
 {
-    let s = core_around(words, n, ranks, index, root, t);
-    if refuted(words, n, ranks, index, root, s.lo, s.hi) {
+    let s = core_around(book, root, t);
+    if refuted(book, root, s.lo, s.hi) {
         return s;
     }
     Range { lo: t, hi: t }
 }
 
 // Whether shaving shows that no view has a set of exceptions of the range.
-pub fn barren(words: &[u64], n: usize, ranks: &[u64], index: &Index, root: Bounds, s: Range) -> bool
-    requires { (n * 8 ≤ length words.now) × (length ranks.now ≤ 64) × Chains words.now n index.now }
-    ensures { result ≡ true → NoView words.now n ranks.now root s.lo s.hi }
+pub fn barren(book: &Prepared<'_>, root: Bounds, s: Range) -> bool
+    ensures { result ≡ true → NoView book.now.rules.words.now book.now.rules.count book.now.ranks.now root s.lo s.hi }
 {
-    let rest = narrowed(words, n, ranks, index, root, s.lo, s.hi);
-    let shaved = shaving::shaved(words, n, ranks, index, rest);
+    let rest = narrowed(book, root, s.lo, s.hi);
+    let shaved = shaving::shaved(book, rest);
     let b = shaved.bounds;
     !sets::within(b.lo, b.hi)
 }
 
 // The range s where the exception at place e may be taken or not, if shaving shows that this has no view either; else s itself.
-pub fn freed(
-    words: &[u64],
-    n: usize,
-    ranks: &[u64],
-    index: &Index,
-    root: Bounds,
-    s: Range,
-    e: u64,
-) -> Range
-    requires { (n * 8 ≤ length words.now) × (length ranks.now ≤ 64) × Chains words.now n index.now × (e < 64) }
-    ensures { Wider words.now n ranks.now root s result }
+pub fn freed(book: &Prepared<'_>, root: Bounds, s: Range, e: u64) -> Range
+    requires { e < 64 }
+    ensures { Wider book.now.rules.words.now book.now.rules.count book.now.ranks.now root s result }
 {
     let bit = 1 << e;
     let wide = Range {
         lo: s.lo ^ (s.lo & bit),
         hi: s.hi | bit,
     };
-    if barren(words, n, ranks, index, root, wide) {
+    if barren(book, root, wide) {
         return wide;
     }
     s
 }
 
 // The range s after each exception has been freed in it, as far as shaving shows that no view is lost.
-pub fn all_freed(
-    words: &[u64],
-    n: usize,
-    ranks: &[u64],
-    index: &Index,
-    root: Bounds,
-    s: Range,
-) -> Range
-    requires { (n * 8 ≤ length words.now) × (length ranks.now ≤ 64) × Chains words.now n index.now }
-    ensures { Wider words.now n ranks.now root s result }
+pub fn all_freed(book: &Prepared<'_>, root: Bounds, s: Range) -> Range
+    ensures { Wider book.now.rules.words.now book.now.rules.count book.now.ranks.now root s result }
 {
     let mut r = s;
-    for e in 0..ranks.len() {
-        r = freed(words, n, ranks, index, root, r, e as u64);
+    for e in 0..book.ranks.len() {
+        r = freed(book, root, r, e as u64);
     }
     r
 }
 
 // A range of sets without a view around one that has none, by shaving: all sets if shaving shows that there is no view at all; else, where shaving alone shows
 // that t has none, t with each exception freed as far as that goes.
-pub fn shaven(words: &[u64], n: usize, ranks: &[u64], index: &Index, root: Bounds, t: u64) -> Range
-    requires { (n * 8 ≤ length words.now) × (length ranks.now ≤ 64) × Chains words.now n index.now }
-    ensures { Wider words.now n ranks.now root (record { lo = t; hi = t }) result }
+pub fn shaven(book: &Prepared<'_>, root: Bounds, t: u64) -> Range
+    ensures { Wider book.now.rules.words.now book.now.rules.count book.now.ranks.now root (record { lo = t; hi = t }) result }
 {
-    if barren(words, n, ranks, index, root, Range::ALL) {
+    if barren(book, root, Range::ALL) {
         return Range::ALL;
     }
     let own = Range { lo: t, hi: t };
-    if !barren(words, n, ranks, index, root, own) {
+    if !barren(book, root, own) {
         return own;
     }
-    all_freed(words, n, ranks, index, root, own)
+    all_freed(book, root, own)
 }

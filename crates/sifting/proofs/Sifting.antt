@@ -12,7 +12,7 @@ use Rattle.masks.proofs.Booleans.{refused, granted}
 use Rattle.bounds.specs.Sound.{Keeps}
 use Rattle.queue.specs.declared.waiting.Waiting.{Waiting}
 use Rattle.admissible.specs.Admissible.{Stands}
-use Rattle.page.specs.declared.Task.{Task}
+use Rattle.page.specs.Sought.{Sought}
 use Rattle.page.specs.declared.Node.{Node}
 use Rattle.page.specs.Orders.{PartOf}
 use Rattle.page.specs.Pages.{Page, Settled, Tried, TriedOne, Branched, Started, Listed}
@@ -29,7 +29,7 @@ use Rattle.standing.specs.Standing.{Right, StandingView}
 use Rattle.sifting.specs.Sifted.{Sifts, Asked, AllSifted}
 
 -- ---- one part of the search
-module _ (ws ranks : List ℕ) (root : Bounds) (q : Task) where
+module _ (ws ranks : List ℕ) (root : Bounds) (q : Sought) where
   abbrev Wanted : Pair → Type 0
   Wanted = StandingView ws q.rules ranks root
 

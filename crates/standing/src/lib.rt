@@ -8,11 +8,10 @@ ghost use Rattle.admissible.specs.Admissible.{Stands, Unexceeded};
 ghost use Rattle.standing.specs.Standing.{Ranked, Right, Searched, StandingIn, AttemptedIn, UnexceededAt, UnexceededIn};
 
 use crate::memory::Memory;
-use masks::Bounds;
+use masks::{Bounds, Rules};
 use probe::{Node, Outcome};
-use queue::index::Index;
 use queue::waiting::Work;
-use queue::{Rest, index, waiting};
+use queue::{Prepared, Rest, index, waiting};
 use sets::Pair;
 
 pub mod bans;
@@ -20,34 +19,25 @@ pub mod memory;
 pub mod splitting;
 
 // The lines whose steps rank in the pair: those that count in it, and those that are the same step as one of these.
-pub fn ranking(words: &[u64], n: usize, v: Pair) -> u64
-    requires { (n + 32) * 8 ≤ length words.now }
-    ensures { Ranked words.now n v result }
+pub fn ranking(rules: &Rules<'_>, v: Pair) -> u64
+    requires { (rules.now.count + 32) * 8 ≤ length rules.now.words.now }
+    ensures { Ranked rules.now.words.now rules.now.count v result }
 {
-    masks::lines::mates(words, n, masks::lines::lines_in(words, n, v, v))
+    masks::lines::mates(rules, masks::lines::lines_in(rules, v, v))
 }
 
 // No view within root leads to a member of `taken` by lines of u that count in it. What is found is remembered.
-pub fn undominated(
-    words: &[u64],
-    n: usize,
-    ranks: &[u64],
-    index: &Index,
-    root: Bounds,
-    mem: &mut Memory,
-    taken: u64,
-    u: u64,
-) -> bool
-    requires { ((n + 32) * 8 ≤ length words.now) × (length ranks.now ≤ 64) × Chains words.now n index.now }
-    ensures { Searched words.now n ranks.now root taken u mem.old mem.new result }
+pub fn undominated(book: &Prepared<'_>, root: Bounds, mem: &mut Memory, taken: u64, u: u64) -> bool
+    requires { (book.now.rules.count + 32) * 8 ≤ length book.now.rules.words.now }
+    ensures { Searched book.now.rules.words.now book.now.rules.count book.now.ranks.now root taken u mem.old mem.new result }
 {
     let rest = Rest {
         bounds: root,
         live: waiting::everything(),
     };
-    match superior::superior(words, n, ranks, index, rest, taken, u, u) {
+    match superior::superior(book, rest, taken, u, u) {
         Some(w) => {
-            memory::forbid(mem, w.taken, ranking(words, n, w));
+            memory::forbid(mem, w.taken, ranking(&book.rules, w));
             false
         }
         None => {
@@ -58,64 +48,47 @@ pub fn undominated(
 }
 
 // No view within root dominates the pair. The bounds root should be at rest.
-pub fn stands(
-    words: &[u64],
-    n: usize,
-    ranks: &[u64],
-    index: &Index,
-    root: Bounds,
-    mem: &mut Memory,
-    v: Pair,
-) -> bool
-    requires { ((n + 32) * 8 ≤ length words.now) × (length ranks.now ≤ 64) × Chains words.now n index.now }
-    ensures { Right words.now n ranks.now root mem.old → Right words.now n ranks.now root mem.new × Decides result (Stands words.now n ranks.now root v) }
+pub fn stands(book: &Prepared<'_>, root: Bounds, mem: &mut Memory, v: Pair) -> bool
+    requires { (book.now.rules.count + 32) * 8 ≤ length book.now.rules.words.now }
+    ensures { Right book.now.rules.words.now book.now.rules.count book.now.ranks.now root mem.old → Right book.now.rules.words.now book.now.rules.count book.now.ranks.now root mem.new × Decides result (Stands book.now.rules.words.now book.now.rules.count book.now.ranks.now root v) }
 {
     let taken = v.taken;
-    let m = masks::lines::lines_in(words, n, v, v);
-    let u = masks::lines::mates(words, n, m);
+    let m = masks::lines::lines_in(&book.rules, v, v);
+    let u = masks::lines::mates(&book.rules, m);
     if memory::known_free(mem, taken, u) {
         return true;
     }
-    if memory::known_barred(words, n, ranks, mem, m, taken) {
+    if memory::known_barred(&book.rules, book.ranks, mem, m, taken) {
         return false;
     }
-    undominated(words, n, ranks, index, root, mem, taken, u)
+    undominated(book, root, mem, taken, u)
 }
 
 // A view within the bounds b stands; w is what is to be done before the bounds are at rest. As probe::probe, but bans narrow the bounds of each node, what
 // lines ask is decided first, and a view that is found is asked whether it stands.
-pub fn search(
-    words: &[u64],
-    n: usize,
-    ranks: &[u64],
-    index: &Index,
-    root: Bounds,
-    w: Work,
-    b: Bounds,
-    mem: &mut Memory,
-) -> bool
-    requires { ((n + 32) * 8 ≤ length words.now) × (length ranks.now ≤ 64) × Chains words.now n index.now }
-    ensures { Right words.now n ranks.now root mem.old → Right words.now n ranks.now root mem.new × StandingIn words.now n ranks.now root b result }
+pub fn search(book: &Prepared<'_>, root: Bounds, w: Work, b: Bounds, mem: &mut Memory) -> bool
+    requires { (book.now.rules.count + 32) * 8 ≤ length book.now.rules.words.now }
+    ensures { Right book.now.rules.words.now book.now.rules.count book.now.ranks.now root mem.old → Right book.now.rules.words.now book.now.rules.count book.now.ranks.now root mem.new × StandingIn book.now.rules.words.now book.now.rules.count book.now.ranks.now root b result }
 {
-    let x = probe::visit(words, n, ranks, index, w, b);
+    let x = probe::visit(book, w, b);
     match x {
-        Node::View(v) => stands(words, n, ranks, index, root, mem, v),
+        Node::View(v) => stands(book, root, mem, v),
         Node::Empty => false,
         Node::Open(c, m, live) => {
-            let r = bans::unbanned(words, n, ranks, index, Rest { bounds: c, live }, mem);
+            let r = bans::unbanned(book, Rest { bounds: c, live }, mem);
             let d = r.bounds;
             if !sets::within(d.lo, d.hi) {
                 return false;
             }
-            let m = splitting::asked(words, n, d, m);
+            let m = splitting::asked(&book.rules, d, m);
             let o = bounds::out(d, m);
-            let t = index::among(index, r.live, d, o);
-            if search(words, n, ranks, index, root, t, o, mem) {
+            let t = index::among(book.index, r.live, d, o);
+            if search(book, root, t, o, mem) {
                 return true;
             }
             let p = bounds::into(d, m);
-            let t = index::among(index, r.live, d, p);
-            search(words, n, ranks, index, root, t, p, mem)
+            let t = index::among(book.index, r.live, d, p);
+            search(book, root, t, p, mem)
         }
     }
 }
@@ -125,49 +98,39 @@ const FUEL: u64 = 256;
 
 // The same search, which visits at most `fuel` nodes.
 // Kept: one function for this and `search` would make the fuel an Option, and `search` would have an answer `Stopped` that never comes.
-pub fn attempt(
-    words: &[u64],
-    n: usize,
-    ranks: &[u64],
-    index: &Index,
-    root: Bounds,
-    w: Work,
-    b: Bounds,
-    mem: &mut Memory,
-    fuel: u64,
-) -> Outcome
-    requires { ((n + 32) * 8 ≤ length words.now) × (length ranks.now ≤ 64) × Chains words.now n index.now }
-    ensures { Right words.now n ranks.now root mem.old → Right words.now n ranks.now root mem.new × AttemptedIn words.now n ranks.now root b result }
+pub fn attempt(book: &Prepared<'_>, root: Bounds, w: Work, b: Bounds, mem: &mut Memory, fuel: u64) -> Outcome
+    requires { (book.now.rules.count + 32) * 8 ≤ length book.now.rules.words.now }
+    ensures { Right book.now.rules.words.now book.now.rules.count book.now.ranks.now root mem.old → Right book.now.rules.words.now book.now.rules.count book.now.ranks.now root mem.new × AttemptedIn book.now.rules.words.now book.now.rules.count book.now.ranks.now root b result }
 {
     if fuel == 0 {
         return Outcome::Stopped;
     }
-    let x = probe::visit(words, n, ranks, index, w, b);
+    let x = probe::visit(book, w, b);
     match x {
         Node::View(v) => {
-            if stands(words, n, ranks, index, root, mem, v) {
+            if stands(book, root, mem, v) {
                 return Outcome::Has(v);
             }
             Outcome::Lacks(fuel - 1)
         }
         Node::Empty => Outcome::Lacks(fuel - 1),
         Node::Open(c, m, live) => {
-            let r = bans::unbanned(words, n, ranks, index, Rest { bounds: c, live }, mem);
+            let r = bans::unbanned(book, Rest { bounds: c, live }, mem);
             let d = r.bounds;
             if !sets::within(d.lo, d.hi) {
                 return Outcome::Lacks(fuel - 1);
             }
-            let m = splitting::asked(words, n, d, m);
+            let m = splitting::asked(&book.rules, d, m);
             let o = bounds::out(d, m);
-            let t = index::among(index, r.live, d, o);
-            let a = attempt(words, n, ranks, index, root, t, o, mem, fuel - 1);
+            let t = index::among(book.index, r.live, d, o);
+            let a = attempt(book, root, t, o, mem, fuel - 1);
             match a {
                 Outcome::Has(v) => Outcome::Has(v),
                 Outcome::Stopped => Outcome::Stopped,
                 Outcome::Lacks(left) => {
                     let p = bounds::into(d, m);
-                    let t = index::among(index, r.live, d, p);
-                    attempt(words, n, ranks, index, root, t, p, mem, left)
+                    let t = index::among(book.index, r.live, d, p);
+                    attempt(book, root, t, p, mem, left)
                 }
             }
         }
@@ -175,69 +138,32 @@ pub fn attempt(
 }
 
 // The same as search, from shaved bounds.
-pub fn search_shaved(
-    words: &[u64],
-    n: usize,
-    ranks: &[u64],
-    index: &Index,
-    root: Bounds,
-    w: Work,
-    b: Bounds,
-    mem: &mut Memory,
-) -> bool
-    requires { ((n + 32) * 8 ≤ length words.now) × (length ranks.now ≤ 64) × Chains words.now n index.now }
-    ensures { Right words.now n ranks.now root mem.old → Right words.now n ranks.now root mem.new × StandingIn words.now n ranks.now root b result }
+pub fn search_shaved(book: &Prepared<'_>, root: Bounds, w: Work, b: Bounds, mem: &mut Memory) -> bool
+    requires { (book.now.rules.count + 32) * 8 ≤ length book.now.rules.words.now }
+    ensures { Right book.now.rules.words.now book.now.rules.count book.now.ranks.now root mem.old → Right book.now.rules.words.now book.now.rules.count book.now.ranks.now root mem.new × StandingIn book.now.rules.words.now book.now.rules.count book.now.ranks.now root b result }
 {
-    let rest = queue::propagate(words, n, ranks, index, w, b);
-    let r = probe::shaving::shaved(words, n, ranks, index, rest);
-    search(
-        words,
-        n,
-        ranks,
-        index,
-        root,
-        waiting::none(r.live),
-        r.bounds,
-        mem,
-    )
+    let rest = queue::propagate(book, w, b);
+    let r = probe::shaving::shaved(book, rest);
+    search(book, root, waiting::none(r.live), r.bounds, mem)
 }
 
 // The same as search: from shaved bounds where the plain search has used up its fuel.
-pub fn standing(
-    words: &[u64],
-    n: usize,
-    ranks: &[u64],
-    index: &Index,
-    root: Bounds,
-    w: Work,
-    b: Bounds,
-    mem: &mut Memory,
-) -> bool
-    requires { ((n + 32) * 8 ≤ length words.now) × (length ranks.now ≤ 64) × Chains words.now n index.now }
-    ensures { Right words.now n ranks.now root mem.old → Right words.now n ranks.now root mem.new × StandingIn words.now n ranks.now root b result }
+pub fn standing(book: &Prepared<'_>, root: Bounds, w: Work, b: Bounds, mem: &mut Memory) -> bool
+    requires { (book.now.rules.count + 32) * 8 ≤ length book.now.rules.words.now }
+    ensures { Right book.now.rules.words.now book.now.rules.count book.now.ranks.now root mem.old → Right book.now.rules.words.now book.now.rules.count book.now.ranks.now root mem.new × StandingIn book.now.rules.words.now book.now.rules.count book.now.ranks.now root b result }
 {
-    let a = attempt(words, n, ranks, index, root, w, b, mem, FUEL);
+    let a = attempt(book, root, w, b, mem, FUEL);
     match a {
         Outcome::Has(_) => true,
         Outcome::Lacks(_) => false,
-        Outcome::Stopped => search_shaved(words, n, ranks, index, root, w, b, mem),
+        Outcome::Stopped => search_shaved(book, root, w, b, mem),
     }
 }
 
 // No view within bounds at rest that stands has a subset of `taken` that lacks its exception at place e.
-pub fn unexceeded_at(
-    words: &[u64],
-    n: usize,
-    ranks: &[u64],
-    index: &Index,
-    root: Bounds,
-    rest: Rest,
-    mem: &mut Memory,
-    taken: u64,
-    e: u64,
-) -> bool
-    requires { ((n + 32) * 8 ≤ length words.now) × (length ranks.now ≤ 64) × (e < 64) × Chains words.now n index.now }
-    ensures { Right words.now n ranks.now root mem.old → Right words.now n ranks.now root mem.new × Decides result (UnexceededAt words.now n ranks.now root rest.bounds taken e) }
+pub fn unexceeded_at(book: &Prepared<'_>, root: Bounds, rest: Rest, mem: &mut Memory, taken: u64, e: u64) -> bool
+    requires { ((book.now.rules.count + 32) * 8 ≤ length book.now.rules.words.now) × (e < 64) }
+    ensures { Right book.now.rules.words.now book.now.rules.count book.now.ranks.now root mem.old → Right book.now.rules.words.now book.now.rules.count book.now.ranks.now root mem.new × Decides result (UnexceededAt book.now.rules.words.now book.now.rules.count book.now.ranks.now root rest.bounds taken e) }
 {
     if (taken >> e) % 2 == 0 {
         return true;
@@ -247,27 +173,18 @@ pub fn unexceeded_at(
         return true;
     }
     let c = bounds::with_sets(b, 0, sets::cleared(taken, e));
-    let w = index::among(index, rest.live, b, c);
-    !standing(words, n, ranks, index, root, w, c, mem)
+    let w = index::among(book.index, rest.live, b, c);
+    !standing(book, root, w, c, mem)
 }
 
 // No view within bounds at rest that stands has a proper subset of `taken`: for each member there is none without it.
 // Kept: one function for this and `admissible::each_needed` would take a closure that changes the memory, with a `requires` of its own.
-pub fn each_needed(
-    words: &[u64],
-    n: usize,
-    ranks: &[u64],
-    index: &Index,
-    root: Bounds,
-    rest: Rest,
-    mem: &mut Memory,
-    taken: u64,
-) -> bool
-    requires { ((n + 32) * 8 ≤ length words.now) × (length ranks.now ≤ 64) × Chains words.now n index.now }
-    ensures { Right words.now n ranks.now root mem.old → Right words.now n ranks.now root mem.new × Decides result (UnexceededIn words.now n ranks.now root rest.bounds taken) }
+pub fn each_needed(book: &Prepared<'_>, root: Bounds, rest: Rest, mem: &mut Memory, taken: u64) -> bool
+    requires { (book.now.rules.count + 32) * 8 ≤ length book.now.rules.words.now }
+    ensures { Right book.now.rules.words.now book.now.rules.count book.now.ranks.now root mem.old → Right book.now.rules.words.now book.now.rules.count book.now.ranks.now root mem.new × Decides result (UnexceededIn book.now.rules.words.now book.now.rules.count book.now.ranks.now root rest.bounds taken) }
 {
     for e in 0..64 {
-        if !unexceeded_at(words, n, ranks, index, root, rest, mem, taken, e) {
+        if !unexceeded_at(book, root, rest, mem, taken, e) {
             return false;
         }
     }
@@ -275,19 +192,11 @@ pub fn each_needed(
 }
 
 // No view within root that stands has a proper subset of `taken`. What all subsets have in common is found first, once for all members.
-pub fn unexceeded(
-    words: &[u64],
-    n: usize,
-    ranks: &[u64],
-    index: &Index,
-    root: Bounds,
-    mem: &mut Memory,
-    taken: u64,
-) -> bool
-    requires { ((n + 32) * 8 ≤ length words.now) × (length ranks.now ≤ 64) × Chains words.now n index.now }
-    ensures { Right words.now n ranks.now root mem.old → Right words.now n ranks.now root mem.new × Decides result (Unexceeded words.now n ranks.now root taken) }
+pub fn unexceeded(book: &Prepared<'_>, root: Bounds, mem: &mut Memory, taken: u64) -> bool
+    requires { (book.now.rules.count + 32) * 8 ≤ length book.now.rules.words.now }
+    ensures { Right book.now.rules.words.now book.now.rules.count book.now.ranks.now root mem.old → Right book.now.rules.words.now book.now.rules.count book.now.ranks.now root mem.new × Decides result (Unexceeded book.now.rules.words.now book.now.rules.count book.now.ranks.now root taken) }
 {
     let b = bounds::with_sets(root, 0, taken);
-    let rest = queue::propagate(words, n, ranks, index, index::changed(index, root, b), b);
-    each_needed(words, n, ranks, index, root, rest, mem, taken)
+    let rest = queue::propagate(book, index::changed(book.index, root, b), b);
+    each_needed(book, root, rest, mem, taken)
 }

@@ -4,6 +4,8 @@ ghost use Rattle.logic.specs.Tests.{Decides};
 ghost use Rattle.masks.specs.declared.Bounds.{Bounds as BoundsOf};
 ghost use Rattle.standing.specs.Standing.{Right, Put, Banned, Freed, FreeRow, KnownFree, Crosses, KnownBarred};
 
+use masks::Rules;
+
 // How many dominating views, and how many sets that stand.
 pub const BANS: usize = 32;
 
@@ -83,20 +85,20 @@ pub fn known_free(mem: &Memory, taken: u64, lines: u64) -> bool
 }
 
 // Steps of lines of m lead from a member of t to one of s.
-pub fn crosses(words: &[u64], n: usize, ranks: &[u64], m: u64, t: u64, s: u64) -> bool
-    requires { ((n + 32) * 8 ≤ length words.now) × (length ranks.now ≤ 64) }
-    ensures { Decides result (Crosses words.now n ranks.now m t s) }
+pub fn crosses(rules: &Rules<'_>, ranks: &[u64], m: u64, t: u64, s: u64) -> bool
+    requires { ((rules.now.count + 32) * 8 ≤ length rules.now.words.now) × (length ranks.now ≤ 64) }
+    ensures { Decides result (Crosses rules.now.words.now rules.now.count ranks.now m t s) }
 {
-    t != 0 && masks::lines::reach(words, n, ranks, m, t) & s != 0
+    t != 0 && masks::lines::reach(rules, ranks, m, t) & s != 0
 }
 
 // Lines of m that some ban has lead from one of its exceptions to a member of s.
-pub fn known_barred(words: &[u64], n: usize, ranks: &[u64], mem: &Memory, m: u64, s: u64) -> bool
-    requires { ((n + 32) * 8 ≤ length words.now) × (length ranks.now ≤ 64) }
-    ensures { result ≡ true → KnownBarred words.now n ranks.now mem.now m s }
+pub fn known_barred(rules: &Rules<'_>, ranks: &[u64], mem: &Memory, m: u64, s: u64) -> bool
+    requires { ((rules.now.count + 32) * 8 ≤ length rules.now.words.now) × (length ranks.now ≤ 64) }
+    ensures { result ≡ true → KnownBarred rules.now.words.now rules.now.count ranks.now mem.now m s }
 {
     for row in &mem.bans {
-        if crosses(words, n, ranks, m & row.lines, row.taken, s) {
+        if crosses(rules, ranks, m & row.lines, row.taken, s) {
             return true;
         }
     }

@@ -2,41 +2,41 @@
 ghost use Rattle.std.specs.Prelude.{◌+◌, ◌*◌, ◌<◌, ◌≤◌, length};
 ghost use Rattle.standing.specs.Standing.{Split};
 
-use masks::{Bounds, lines};
+use masks::{Bounds, Rules, lines};
 use sets::Pair;
 
 // The pair x with the entries of line j, if that is one of m. No contract depends on this.
-pub fn with_entries(words: &[u64], n: usize, m: u64, j: usize, x: Pair) -> Pair
-    requires { ((n + 32) * 8 ≤ length words.now) × (j < 32) }
+pub fn with_entries(rules: &Rules<'_>, m: u64, j: usize, x: Pair) -> Pair
+    requires { ((rules.now.count + 32) * 8 ≤ length rules.now.words.now) × (j < 32) }
 {
     if (m >> (j as u64)) % 2 == 0 {
         return x;
     }
-    let l = masks::masks_at(words, n + j);
+    let l = masks::masks_at(rules.words, rules.count + j);
     sets::join(x, sets::join(l.need, l.bar))
 }
 
 // The entries of the lines of m. No contract depends on this.
-pub fn entries(words: &[u64], n: usize, m: u64) -> Pair
-    requires { (n + 32) * 8 ≤ length words.now }
+pub fn entries(rules: &Rules<'_>, m: u64) -> Pair
+    requires { (rules.now.count + 32) * 8 ≤ length rules.now.words.now }
 {
     let mut x = Pair::EMPTY;
     for j in 0..lines::LINES {
-        x = with_entries(words, n, m, j, x);
+        x = with_entries(rules, m, j, x);
     }
     x
 }
 
 // A member that is open in the bounds and that an open line asks for; m if there is none.
-pub fn asked(words: &[u64], n: usize, b: Bounds, m: Pair) -> Pair
-    requires { (n + 32) * 8 ≤ length words.now }
+pub fn asked(rules: &Rules<'_>, b: Bounds, m: Pair) -> Pair
+    requires { (rules.now.count + 32) * 8 ≤ length rules.now.words.now }
     ensures { Split b m result }
 {
     let lo = b.lo;
     let hi = b.hi;
-    let sure = lines::lines_in(words, n, hi, lo);
-    let may = lines::lines_in(words, n, lo, hi);
-    let x = sets::meet(entries(words, n, may ^ (may & sure)), sets::minus(hi, lo));
+    let sure = lines::lines_in(rules, hi, lo);
+    let may = lines::lines_in(rules, lo, hi);
+    let x = sets::meet(entries(rules, may ^ (may & sure)), sets::minus(hi, lo));
     let s = bounds::single(x);
     if sets::within(s, x) {
         return s;

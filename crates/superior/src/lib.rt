@@ -7,63 +7,47 @@ ghost use Rattle.masks.specs.Steps.{Chosen};
 ghost use Rattle.queue.specs.Chains.{Chains};
 ghost use Rattle.superior.specs.Superiors.{Source, Taking, TakingAt, Left, Assumed, Hopeless, Picks, Superior};
 
+use masks::Rules;
 use bounds::Part;
-use queue::index::Index;
-use queue::{Rest, index, waiting};
+use queue::{Prepared, Rest, index, waiting};
 use sets::Pair;
 
 // Exception a is one of `among`, and the lines of m lead from it to a member of t.
-pub fn source_at(words: &[u64], n: usize, ranks: &[u64], m: u64, among: u64, t: u64, a: u64) -> bool
-    requires { ((n + 32) * 8 ≤ length words.now) × (length ranks.now ≤ 64) × (a < 64) }
-    ensures { Decides result (Source words.now n ranks.now m among t a) }
+pub fn source_at(rules: &Rules<'_>, ranks: &[u64], m: u64, among: u64, t: u64, a: u64) -> bool
+    requires { ((rules.now.count + 32) * 8 ≤ length rules.now.words.now) × (length ranks.now ≤ 64) × (a < 64) }
+    ensures { Decides result (Source rules.now.words.now rules.now.count ranks.now m among t a) }
 {
-    (among >> a) % 2 != 0 && masks::lines::reach(words, n, ranks, m, 1 << a) & t != 0
+    (among >> a) % 2 != 0 && masks::lines::reach(rules, ranks, m, 1 << a) & t != 0
 }
 
 // The exceptions of `among` from which the lines of m lead to a member of t.
-pub fn sources(words: &[u64], n: usize, ranks: &[u64], m: u64, among: u64, t: u64) -> u64
-    requires { ((n + 32) * 8 ≤ length words.now) × (length ranks.now ≤ 64) }
-    ensures { Chosen (Source words.now n ranks.now m among t) 64 result }
+pub fn sources(rules: &Rules<'_>, ranks: &[u64], m: u64, among: u64, t: u64) -> u64
+    requires { ((rules.now.count + 32) * 8 ≤ length rules.now.words.now) × (length ranks.now ≤ 64) }
+    ensures { Chosen (Source rules.now.words.now rules.now.count ranks.now m among t) 64 result }
 {
-    masks::lines::passing(64, |a| source_at(words, n, ranks, m, among, t, a as u64))
+    masks::lines::passing(64, |a| source_at(rules, ranks, m, among, t, a as u64))
 }
 
 // A view within the bounds that takes exception a, if it is one of s.
-pub fn taking_at(
-    words: &[u64],
-    n: usize,
-    ranks: &[u64],
-    index: &Index,
-    rest: Rest,
-    s: u64,
-    a: u64,
-) -> Option<Pair>
-    requires { (n * 8 ≤ length words.now) × (length ranks.now ≤ 64) × (a < 64) × Chains words.now n index.now }
-    ensures { TakingAt words.now n ranks.now rest.bounds s a result }
+pub fn taking_at(book: &Prepared<'_>, rest: Rest, s: u64, a: u64) -> Option<Pair>
+    requires { a < 64 }
+    ensures { TakingAt book.now.rules.words.now book.now.rules.count book.now.ranks.now rest.bounds s a result }
 {
     if (s >> a) % 2 == 0 {
         return None;
     }
     let b = rest.bounds;
     let c = bounds::into(b, bounds::one(Part::Taken, a));
-    let w = index::among(index, rest.live, b, c);
-    probe::ask(words, n, ranks, index, w, c)
+    let w = index::among(book.index, rest.live, b, c);
+    probe::ask(book, w, c)
 }
 
 // A view within the bounds that takes one of the exceptions of s, or none.
-pub fn taking(
-    words: &[u64],
-    n: usize,
-    ranks: &[u64],
-    index: &Index,
-    rest: Rest,
-    s: u64,
-) -> Option<Pair>
-    requires { (n * 8 ≤ length words.now) × (length ranks.now ≤ 64) × Chains words.now n index.now }
-    ensures { Taking words.now n ranks.now rest.bounds s 64 result }
+pub fn taking(book: &Prepared<'_>, rest: Rest, s: u64) -> Option<Pair>
+    ensures { Taking book.now.rules.words.now book.now.rules.count book.now.ranks.now rest.bounds s 64 result }
 {
     for a in 0..64 {
-        if let Some(v) = taking_at(words, n, ranks, index, rest, s, a) {
+        if let Some(v) = taking_at(book, rest, s, a) {
             return Some(v);
         }
     }
@@ -71,9 +55,8 @@ pub fn taking(
 }
 
 // The bounds without the exceptions of s, at rest.
-pub fn left(words: &[u64], n: usize, ranks: &[u64], index: &Index, rest: Rest, s: u64) -> Rest
-    requires { (n * 8 ≤ length words.now) × (length ranks.now ≤ 64) × Chains words.now n index.now }
-    ensures { Left words.now n ranks.now rest.bounds s result.bounds }
+pub fn left(book: &Prepared<'_>, rest: Rest, s: u64) -> Rest
+    ensures { Left book.now.rules.words.now book.now.rules.count book.now.ranks.now rest.bounds s result.bounds }
 {
     let b = rest.bounds;
     let c = bounds::out(
@@ -83,65 +66,43 @@ pub fn left(words: &[u64], n: usize, ranks: &[u64], index: &Index, rest: Rest, s
             ..Pair::EMPTY
         },
     );
-    queue::propagate(
-        words,
-        n,
-        ranks,
-        index,
-        index::among(index, rest.live, b, c),
-        c,
-    )
+    queue::propagate(book, index::among(book.index, rest.live, b, c), c)
 }
 
 // The bounds where the body of line j holds, at rest.
-pub fn assumed(words: &[u64], n: usize, ranks: &[u64], index: &Index, rest: Rest, j: usize) -> Rest
-    requires { ((n + 32) * 8 ≤ length words.now) × (length ranks.now ≤ 64) × (j < 32) × Chains words.now n index.now }
-    ensures { Assumed words.now n ranks.now rest.bounds j result.bounds }
+pub fn assumed(book: &Prepared<'_>, rest: Rest, j: usize) -> Rest
+    requires { ((book.now.rules.count + 32) * 8 ≤ length book.now.rules.words.now) × (j < 32) }
+    ensures { Assumed book.now.rules.words.now book.now.rules.count book.now.ranks.now rest.bounds j result.bounds }
 {
     let b = rest.bounds;
-    let l = masks::masks_at(words, n + j);
+    let l = masks::masks_at(book.rules.words, book.rules.count + j);
     let c = bounds::into(bounds::out(b, l.bar), l.need);
-    queue::propagate(
-        words,
-        n,
-        ranks,
-        index,
-        index::among(index, rest.live, b, c),
-        c,
-    )
+    queue::propagate(book, index::among(book.index, rest.live, b, c), c)
 }
 
 // How many lines may be decided before it is asked whether there is any hope.
 const PATIENCE: u32 = 4;
 
 // After many decisions: no view within the bounds takes an exception from which lines of m lead to t.
-pub fn hopeless(
-    words: &[u64],
-    n: usize,
-    ranks: &[u64],
-    index: &Index,
-    rest: Rest,
-    m: u64,
-    t: u64,
-    decided: u64,
-) -> bool
-    requires { ((n + 32) * 8 ≤ length words.now) × (length ranks.now ≤ 64) × Chains words.now n index.now }
-    ensures { Hopeless words.now n ranks.now rest.bounds m t result }
+pub fn hopeless(book: &Prepared<'_>, rest: Rest, m: u64, t: u64, decided: u64) -> bool
+    requires { (book.now.rules.count + 32) * 8 ≤ length book.now.rules.words.now }
+    ensures { Hopeless book.now.rules.words.now book.now.rules.count book.now.ranks.now rest.bounds m t result }
 {
     if decided.count_ones() < PATIENCE {
         return false;
     }
-    let s = sources(words, n, ranks, m, rest.bounds.hi.taken, t);
-    taking(words, n, ranks, index, rest, s).is_none()
+    let s = sources(&book.rules, book.ranks, m, rest.bounds.hi.taken, t);
+    taking(book, rest, s).is_none()
 }
 
 // The lines that end in a member of k. No contract depends on this.
-pub fn ending(words: &[u64], n: usize, k: u64) -> u64
-    requires { (n + 32) * 8 ≤ length words.now }
+pub fn ending(rules: &Rules<'_>, k: u64) -> u64
+    requires { (rules.now.count + 32) * 8 ≤ length rules.now.words.now }
 {
+    let n = rules.count;
     let mut e: u64 = 0;
     for j in 0..32 {
-        if masks::masks_at(words, n + j).head.denied & k != 0 {
+        if masks::masks_at(rules.words, n + j).head.denied & k != 0 {
             e |= 1 << j;
         }
     }
@@ -149,11 +110,11 @@ pub fn ending(words: &[u64], n: usize, k: u64) -> u64
 }
 
 // A line of m: one that ends in a member of k, if there is one.
-pub fn line_to_try(words: &[u64], n: usize, m: u64, k: u64) -> u64
-    requires { (n + 32) * 8 ≤ length words.now }
+pub fn line_to_try(rules: &Rules<'_>, m: u64, k: u64) -> u64
+    requires { (rules.now.count + 32) * 8 ≤ length rules.now.words.now }
     ensures { Picks m result }
 {
-    let near = m & ending(words, n, k);
+    let near = m & ending(rules, k);
     if near != 0 {
         sets::low(near)
     } else {
@@ -163,18 +124,9 @@ pub fn line_to_try(words: &[u64], n: usize, m: u64, k: u64) -> u64
 
 // A view within bounds at rest from whose exceptions P lines and lines lead to a member of t, or none. Of `usable`, the lines of `free` may be
 // used, and those that surely count within the bounds.
-pub fn superior(
-    words: &[u64],
-    n: usize,
-    ranks: &[u64],
-    index: &Index,
-    rest: Rest,
-    t: u64,
-    usable: u64,
-    free: u64,
-) -> Option<Pair>
-    requires { ((n + 32) * 8 ≤ length words.now) × (length ranks.now ≤ 64) × Chains words.now n index.now }
-    ensures { Superior words.now n ranks.now rest.bounds t usable free result }
+pub fn superior(book: &Prepared<'_>, rest: Rest, t: u64, usable: u64, free: u64) -> Option<Pair>
+    requires { (book.now.rules.count + 32) * 8 ≤ length book.now.rules.words.now }
+    ensures { Superior book.now.rules.words.now book.now.rules.count book.now.ranks.now rest.bounds t usable free result }
 {
     let b = rest.bounds;
     let lo = b.lo;
@@ -182,14 +134,14 @@ pub fn superior(
     if !sets::within(lo, hi) {
         return None;
     }
-    let sure = masks::lines::lines_in(words, n, hi, lo) & usable;
-    let may = masks::lines::lines_in(words, n, lo, hi) & free;
-    let far = masks::lines::reach(words, n, ranks, sure | may, hi.taken);
+    let sure = masks::lines::lines_in(&book.rules, hi, lo) & usable;
+    let may = masks::lines::lines_in(&book.rules, lo, hi) & free;
+    let far = masks::lines::reach(&book.rules, book.ranks, sure | may, hi.taken);
     if far & t == 0 {
         return None;
     }
-    let s = sources(words, n, ranks, sure, hi.taken, t);
-    if let Some(v) = taking(words, n, ranks, index, rest, s) {
+    let s = sources(&book.rules, book.ranks, sure, hi.taken, t);
+    if let Some(v) = taking(book, rest, s) {
         return Some(v);
     }
     let m = may ^ (may & sure);
@@ -197,15 +149,15 @@ pub fn superior(
         return None;
     }
     let decided = usable ^ (usable & free);
-    if hopeless(words, n, ranks, index, rest, sure | may, t, decided) {
+    if hopeless(book, rest, sure | may, t, decided) {
         return None;
     }
-    let j = line_to_try(words, n, m, t | s);
+    let j = line_to_try(&book.rules, m, t | s);
     let less = sets::cleared(free, j);
-    let others = left(words, n, ranks, index, rest, s);
-    let inner = assumed(words, n, ranks, index, others, j as usize);
-    if let Some(v) = superior(words, n, ranks, index, inner, t, usable, less) {
+    let others = left(book, rest, s);
+    let inner = assumed(book, others, j as usize);
+    if let Some(v) = superior(book, inner, t, usable, less) {
         return Some(v);
     }
-    superior(words, n, ranks, index, others, t, usable, less)
+    superior(book, others, t, usable, less)
 }

@@ -5,7 +5,7 @@ ghost use Rattle.std.specs.Prelude.{◌*◌, ◌≤◌, length};
 ghost use Rattle.logic.specs.Tests.{Decides};
 ghost use Rattle.bridge.specs.Answers.{OfAll, Obeys, MaskAnswers, Satisfies, MaskBodies};
 
-use masks::{Bounds, Masks};
+use masks::{Bounds, Masks, Rules};
 use sets::Pair;
 
 // The pair is to this rule what an answer set is to every rule: it has one of its heads if it satisfies its body; a constraint has none.
@@ -19,27 +19,26 @@ fn obeys(r: Masks, v: Pair) -> bool
 }
 
 // The same of the first n rules.
-fn obeys_all(words: &[u64], n: usize, v: Pair) -> bool
-    requires { n * 8 ≤ length words.now }
-    ensures { Decides result (OfAll (Obeys v) words.now n) }
+fn obeys_all(rules: &Rules<'_>, v: Pair) -> bool
+    ensures { Decides result (OfAll (Obeys v) rules.now.words.now rules.now.count) }
 {
-    (0..n).all(|k| obeys(masks::masks_at(words, k), v))
+    (0..rules.count).all(|k| obeys(masks::masks_at(rules.words, k), v))
 }
 
 // The pair's S is an answer set of the plain rules with those of its T added; where it is not, the verdict is 1.
-pub fn is_answer(words: &[u64], n: usize, v: Pair) -> bool
-    requires { (n * 8 ≤ length words.now) × (n ≤ 256) }
-    ensures { Decides result (MaskAnswers words.now n v) }
+pub fn is_answer(rules: &Rules<'_>, v: Pair) -> bool
+    requires { rules.now.count ≤ 256 }
+    ensures { Decides result (MaskAnswers rules.now.words.now rules.now.count v) }
 {
     let held = v.held;
     let denied = v.denied;
     if held & denied != 0 {
         return false;
     }
-    if !obeys_all(words, n, v) {
+    if !obeys_all(rules, v) {
         return false;
     }
-    least::founded(words, n, Bounds { lo: v, hi: v })
+    least::founded(rules, Bounds { lo: v, hi: v })
 }
 
 // The pair does not take the rule, or satisfies its body.
@@ -53,9 +52,8 @@ fn satisfies(r: Masks, v: Pair) -> bool
 }
 
 // Every body in the pair's T is satisfied by its S; where one is not, the verdict is 3.
-pub fn bodies(words: &[u64], n: usize, v: Pair) -> bool
-    requires { n * 8 ≤ length words.now }
-    ensures { Decides result (MaskBodies words.now n v) }
+pub fn bodies(rules: &Rules<'_>, v: Pair) -> bool
+    ensures { Decides result (MaskBodies rules.now.words.now rules.now.count v) }
 {
-    (0..n).all(|k| satisfies(masks::masks_at(words, k), v))
+    (0..rules.count).all(|k| satisfies(masks::masks_at(rules.words, k), v))
 }

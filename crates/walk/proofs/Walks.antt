@@ -21,7 +21,7 @@ use Rattle.order.specs.Formula.{set_at}
 use Rattle.order.proofs.Rule.{order-rule}
 use Rattle.masks.specs.declared.Bounds.{Bounds}
 use Rattle.bounds.proofs.Ranges.{in-root, set-above, set_below}
-use Rattle.page.specs.declared.Task.{Task}
+use Rattle.page.specs.Sought.{Sought}
 use Rattle.page.specs.Pages.{Page, Fits}
 use Rattle.page.proofs.Pages.{page-none, page-full, page-append}
 use Rattle.meaning.specs.Books.{Book}
@@ -59,7 +59,7 @@ module _ (root : Bounds) (t : ℕ) (m : List ℕ) where
       none (short k) f = k (zero_minus _ _ (contained-within _ _ f))
 
 -- No resolution has such a set.
-module _ (ws ranks : List ℕ) (root : Bounds) (q : Task) (t : ℕ) (after known : Bool) (H : Type 0) (k : ℕ) (m : List ℕ) (w : Memory) (o : List ℕ) (h : k ≤ q.room) where
+module _ (ws ranks : List ℕ) (root : Bounds) (q : Sought) (t : ℕ) (after known : Bool) (H : Type 0) (k : ℕ) (m : List ℕ) (w : Memory) (o : List ℕ) (h : k ≤ q.room) where
   pub set-ruled-out : RuledOut root m t → SetListed ws ranks root q t after known H k m m w w o o k
   set-ruled-out (marked x) = set-none ws ranks root q t after known H k m m o h w w (marks-same ws q.rules ranks root m) (λ r. r) (λ b s r e f. f.told t x) (λ b s r y. y.right t x)
   set-ruled-out (beyond x) = set-viewless ws ranks root q t after known H k m m o h w (marks-same ws q.rules ranks root m)
@@ -110,7 +110,7 @@ module _ (ws : List ℕ) (n : ℕ) (ranks : List ℕ) (root : Bounds) (wide : �
 
 -- ---- all sets
 -- The loop of the walk at place j: marks are right and tell of the places before j, and the page has all that stands at those places.
-pub record Going (ws ranks : List ℕ) (root : Bounds) (q : Task) (wide first : ℕ) (known : Bool) (at : ℕ) (m : List ℕ) (w : Memory) (o : List ℕ) (j k : ℕ) (n : List ℕ) (v : Memory) (p : List ℕ) : Type 0 where
+pub record Going (ws ranks : List ℕ) (root : Bounds) (q : Sought) (wide first : ℕ) (known : Bool) (at : ℕ) (m : List ℕ) (w : Memory) (o : List ℕ) (j k : ℕ) (n : List ℕ) (v : Memory) (p : List ℕ) : Type 0 where
   pub from : first ≤ j
   pub to : j ≤ 2 ^ wide
   pub fits : Fits ws ranks p q k
@@ -123,7 +123,7 @@ pub record Going (ws ranks : List ℕ) (root : Bounds) (q : Task) (wide first : 
       → (ys : List Pair) × Part b from (Passed wide j) ys × Page q.room 0 start p ys k
 
 -- The walk between the root's sets, of which those before `past` are still to be looked at: at the next place, or at the end.
-pub record Walking (ws ranks : List ℕ) (root : Bounds) (q : Task) (wide first : ℕ) (known : Bool) (at : ℕ) (m : List ℕ) (w : Memory) (o : List ℕ) (past : ℕ) (next : Option Position) (k : ℕ) (n : List ℕ) (v : Memory) (p : List ℕ) : Type 0 where
+pub record Walking (ws ranks : List ℕ) (root : Bounds) (q : Sought) (wide first : ℕ) (known : Bool) (at : ℕ) (m : List ℕ) (w : Memory) (o : List ℕ) (past : ℕ) (next : Option Position) (k : ℕ) (n : List ℕ) (v : Memory) (p : List ℕ) : Type 0 where
   pub some : (r : Position) → next ≡ Some r → Going ws ranks root q wide first known at m w o r.place k n v p × AtPlace wide r × (r.place < past)
   pub none : next ≡ None → (j : ℕ) × (past ≤ j) × Going ws ranks root q wide first known at m w o j k n v p
 
@@ -142,10 +142,10 @@ above j d = omega arith
 inner : (j i : ℕ) → j + 1 ≤ i → j ≤ i
 inner j i h = omega arith
 
-pub fits-again : (ws ranks o o' : List ℕ) (q : Task) (at r : ℕ) → Fits ws ranks o q at → length o' ≡ length o → r ≤ q.room → Fits ws ranks o' q r
+pub fits-again : (ws ranks o o' : List ℕ) (q : Sought) (at r : ℕ) → Fits ws ranks o q at → length o' ≡ length o → r ≤ q.room → Fits ws ranks o' q r
 fits-again ws ranks o o' q at r f e h = record { suits = f.suits; place = h; long = rw e f.long }
 
-module _ (ws ranks : List ℕ) (root : Bounds) (q : Task) (wide : ℕ) (small : wide ≤ exceptions) (first : ℕ) (known : Bool) (at : ℕ) (m : List ℕ) (w : Memory) (o : List ℕ) where
+module _ (ws ranks : List ℕ) (root : Bounds) (q : Sought) (wide : ℕ) (small : wide ≤ exceptions) (first : ℕ) (known : Bool) (at : ℕ) (m : List ℕ) (w : Memory) (o : List ℕ) where
   pub going-first : Fits ws ranks o q at → first ≤ 2 ^ wide → Going ws ranks root q wide first known at m w o first at m w o
   going-first f h = record {
     from = le_refl first;
@@ -261,7 +261,7 @@ module _ (ws ranks : List ℕ) (root : Bounds) (q : Task) (wide : ℕ) (small : 
 clear-right : (b : Book) (m : List ℕ) → Clear m → RightMarks b m
 clear-right b m c = record { right = λ t x. absurd (c.none t x) }
 
-module _ (ws ranks : List ℕ) (root : Bounds) (q : Task) (wide : ℕ) (small : wide ≤ exceptions) (m : List ℕ) (c : Clear m) (w : Memory) (empty : Right ws q.rules ranks root w) (o : List ℕ) where
+module _ (ws ranks : List ℕ) (root : Bounds) (q : Sought) (wide : ℕ) (small : wide ≤ exceptions) (m : List ℕ) (c : Clear m) (w : Memory) (empty : Right ws q.rules ranks root w) (o : List ℕ) where
   pub first-walked : (a : Bool) → a ≡ false → 2 ^ wide ≤ marks_in m → (o' : List ℕ) (r : ℕ) → Walked ws ranks root q wide 0 true 0 m w o o' r → Paged ws ranks root q wide a o o' r
   unfolding beginning
   first-walked a n h o' r x = rw n record {

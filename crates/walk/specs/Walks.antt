@@ -4,7 +4,7 @@ use Rattle.sets.specs.declared.Pair.{Pair}
 use Rattle.sets.specs.Sets.{without}
 use Rattle.order.specs.Formula.{set_at}
 use Rattle.masks.specs.declared.Bounds.{Bounds}
-use Rattle.page.specs.declared.Task.{Task}
+use Rattle.page.specs.Sought.{Sought}
 use Rattle.page.specs.Pages.{Page}
 use Rattle.meaning.specs.Books.{Book}
 use Rattle.meaning.specs.Order.{Point, start, at, LawfulPoint, Later, AllLater}
@@ -65,16 +65,16 @@ pub record Ready (ws : List ℕ) (n : ℕ) (ranks : List ℕ) (root : Bounds) (x
 
 -- The walk from place j of the sets of x exceptions, in a book that has no more: with the page of all that stands at the places before it, it makes
 -- the page of all later resolutions.
-pub record Walked (ws ranks : List ℕ) (root : Bounds) (q : Task) (x j : ℕ) (known : Bool) (k : ℕ) (m : List ℕ) (w : Memory) (o o' : List ℕ) (r : ℕ) : Type 0 where
+pub record Walked (ws ranks : List ℕ) (root : Bounds) (q : Sought) (x j : ℕ) (known : Bool) (k : ℕ) (m : List ℕ) (w : Memory) (o o' : List ℕ) (r : ℕ) : Type 0 where
   pub whole : (b : Book) (from : Point) → Serves b ws ranks root q → length b.exceptions ≤ x → RightMarks b m → Right ws q.rules ranks root w → (known ≡ true → Ready ws q.rules ranks root x j m) → LawfulPoint b from → Beyond x from j
       → (blank : List ℕ) (xs : List Pair) → Part b from (Passed x j) xs → Page q.room 0 blank o xs k
       → (zs : List Pair) × AllLater b from zs × Page q.room 0 blank o' zs r
 
 -- Where a page begins: before the first pair, or after the task's point.
-unfoldable pub beginning : Bool → Task → Point
+unfoldable pub beginning : Bool → Sought → Point
 beginning false q = start
 beginning true q = at q.point
 
 -- The page of the first resolutions after the beginning, in a book of at most x exceptions.
-pub record Paged (ws ranks : List ℕ) (root : Bounds) (q : Task) (x : ℕ) (after : Bool) (o o' : List ℕ) (r : ℕ) : Type 0 where
+pub record Paged (ws ranks : List ℕ) (root : Bounds) (q : Sought) (x : ℕ) (after : Bool) (o o' : List ℕ) (r : ℕ) : Type 0 where
   pub page : (b : Book) → Serves b ws ranks root q → length b.exceptions ≤ x → LawfulPoint b (beginning after q) → (zs : List Pair) × AllLater b (beginning after q) zs × Page q.room 0 o o' zs r

@@ -3,7 +3,7 @@ use borrow.Author.Rules.{rules}
 use Rattle.few.proofs.collect.Goals as goal
 
 pub returns-then-r-ne0 : goal.returns-then-r-ne0
-returns-then-r-ne0 c = collected-is _ _ _ _ _ _ _ _ _ c.gather-r.ensures c.requires.3 (search rules)
+returns-then-r-ne0 c = collected-is _ _ _ _ _ _ _ _ _ c.gather-r.ensures c.requires (search rules)
 
 pub returns-then-r-ne0-2 : goal.returns-then-r-ne0-2
 returns-then-r-ne0-2 c = collected-full _ _ _ _ _ _ _ _ _ c.gather-r.ensures (search rules)

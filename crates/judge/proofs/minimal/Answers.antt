@@ -3,7 +3,7 @@ use borrow.Author.Rules.{rules}
 use Rattle.judge.proofs.minimal.Goals as goal
 
 pub minimal-requires : goal.minimal-requires
-minimal-requires c = ((c.lined.ensures.yes (search rules)).room, search rules, search rules)
+minimal-requires c = (c.lined.ensures.yes (search rules)).room
 
 pub returns-then-lined : goal.returns-then-lined
 returns-then-lined c = smallest-lined _ _ _ _ _ _ c.minimal.ensures

@@ -3,7 +3,7 @@ use borrow.Author.Rules.{rules}
 use Rattle.judge.proofs.undominated.Goals as goal
 
 pub undominated-requires : goal.undominated-requires
-undominated-requires c = ((c.lined.ensures.yes (search rules)).room, search rules, search rules)
+undominated-requires c = (c.lined.ensures.yes (search rules)).room
 
 pub returns-then-lined : goal.returns-then-lined
 returns-then-lined c = free-lined _ _ _ _ _ _ c.undominated.ensures

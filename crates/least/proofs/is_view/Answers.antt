@@ -21,7 +21,7 @@ pub returns-then-eq : goal.returns-then-eq
 returns-then-eq c = view-reached _ _ _ _ _ c.in-Some.ensures _ (search rules) c.level.ensures (search rules) (granted c.uncrossed.ensures (search rules)) _ refl _ (c.in-Some.ensures.below _ refl) _ (equal-is c.eq.ensures) (search rules)
 
 pub grown-d-requires : goal.grown-d-requires
-grown-d-requires c = (c.requires.0, c.in-Some.ensures.below _ refl)
+grown-d-requires c = c.in-Some.ensures.below _ refl
 
 pub returns-then-eq-2 : goal.returns-then-eq-2
 returns-then-eq-2 c = view-reached _ _ _ _ _ c.in-Some.ensures _ (search rules) c.level.ensures (search rules) (granted c.uncrossed.ensures (search rules)) _ refl _ c.grown-d.ensures _ (equal-is c.eq-2.ensures) (search rules)

@@ -1,3 +1,4 @@
+use Rattle.page.specs.Sought.{sought}
 use Rattle.std.proofs.Common.{◌-◌, ◌*◌}
 use Rattle.masks.specs.Views.{MaskView}
 use Rattle.page.proofs.Search.{Trying}
@@ -10,4 +11,4 @@ abbrev pub decreases-try_value : goal.decreases-try_value
 decreases-try_value l = l.left * 2 - 1
 
 abbrev pub invariant-settle-loop-value : goal.invariant-settle-loop-value
-invariant-settle-loop-value l = Trying (MaskView l.words l.task.rules l.ranks) l.task (l.a.left - 1) l.next l.initial.r.at l.initial.out l.value-index l.r.at l.out
+invariant-settle-loop-value l = Trying (MaskView l.book.rules.words.now l.book.rules.count l.book.ranks.now) (sought l.book.rules.count l.task) (l.a.left - 1) l.next l.initial.r.at l.initial.out l.value-index l.r.at l.out

@@ -3,10 +3,10 @@ use Rattle.probe.proofs.Halves.{out-less, into_less, probed-view, probed-empty, 
 use Rattle.probe.proofs.+probe.Goals as goal
 
 pub probe-requires : goal.probe-requires
-probe-requires t c = let h = out-less c.visit.ensures _ _ _ c.in-Open.is _ c.out-o.ensures in (omega (arith, c.decreases), c.requires)
+probe-requires t c = let h = out-less c.visit.ensures _ _ _ c.in-Open.is _ c.out-o.ensures in (omega (arith, c.decreases), tt)
 
 pub probe-requires-in-Open : goal.probe-requires-in-Open
-probe-requires-in-Open t c = let h = into_less c.visit.ensures _ _ _ c.in-Open.is _ c.into-p.ensures in (omega (arith, c.decreases), c.requires)
+probe-requires-in-Open t c = let h = into_less c.visit.ensures _ _ _ c.in-Open.is _ c.into-p.ensures in (omega (arith, c.decreases), tt)
 
 pub returns-in-View : goal.returns-in-View
 returns-in-View t c = probed-view c.visit.ensures _ (search rules)

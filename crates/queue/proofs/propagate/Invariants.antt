@@ -3,4 +3,4 @@ use Rattle.bounds.specs.Sound.{Keeps}
 use Rattle.queue.proofs.propagate.Given as goal
 
 abbrev pub invariant-loop : goal.invariant-loop
-invariant-loop l = Keeps (MaskView l.words l.n l.ranks) l.b l.q.bounds
+invariant-loop l = Keeps (MaskView l.book.rules.words.now l.book.rules.count l.book.ranks.now) l.b l.q.bounds

@@ -13,13 +13,13 @@ pub returns-then-hopeless : goal.returns-then-hopeless
 returns-then-hopeless t c = none-hopeless _ _ _ _ _ _ _ _ _ c.lines_in.ensures c.lines_in-2.ensures _ c.hopeless.ensures (search rules)
 
 pub assumed-inner-requires : goal.assumed-inner-requires
-assumed-inner-requires t c = let p = c.requires in let q = low-line _ _ _ _ _ _ _ _ c.lines_in-2.ensures (search rules) c.line_to_try-j.ensures in (p.0, p.1, q.0, p.2)
+assumed-inner-requires t c = let q = low-line _ _ _ _ _ _ _ _ c.lines_in-2.ensures (search rules) c.line_to_try-j.ensures in (c.requires, q.0)
 
 pub superior-requires : goal.superior-requires
-superior-requires t c = let p = c.requires in let q = low-line _ _ _ _ _ _ _ _ c.lines_in-2.ensures (search rules) c.line_to_try-j.ensures in let h = (without_is _ _ _ c.cleared-less.ensures).less q.1 in (omega (arith, c.decreases), p)
+superior-requires t c = let q = low-line _ _ _ _ _ _ _ _ c.lines_in-2.ensures (search rules) c.line_to_try-j.ensures in let h = (without_is _ _ _ c.cleared-less.ensures).less q.1 in (omega (arith, c.decreases), c.requires)
 
 pub superior-requires-2 : goal.superior-requires-2
-superior-requires-2 t c = let p = c.requires in let q = low-line _ _ _ _ _ _ _ _ c.lines_in-2.ensures (search rules) c.line_to_try-j.ensures in let h = (without_is _ _ _ c.cleared-less.ensures).less q.1 in (omega (arith, c.decreases), p)
+superior-requires-2 t c = let q = low-line _ _ _ _ _ _ _ _ c.lines_in-2.ensures (search rules) c.line_to_try-j.ensures in let h = (without_is _ _ _ c.cleared-less.ensures).less q.1 in (omega (arith, c.decreases), c.requires)
 
 pub returns-in-Some : goal.returns-in-Some
 returns-in-Some t c = found-source _ _ _ _ _ _ _ _ _ c.lines_in.ensures c.lines_in-2.ensures _ c.sources-s.ensures _ c.taking.ensures _ (search rules)

@@ -8,5 +8,5 @@ use Rattle.verdict.proofs.bodies.Goals as goal
 pub returns : goal.returns
 returns c =
     all-decides (Satisfies _) _ _ _
-    (cases_from_all _ _ _ (λ k. Satisfies c.args.v (masks_at c.args.words.now k)) (λ k. Satisfies c.args.v (masks_at c.args.words.now k) → ⊥) c.all.ensures.ran
-    (YieldsList-from_range 0 c.args.n c.args.n refl (omega arith)) (λ x q k. search rules) (λ x q k. search rules))
+    (cases_from_all _ _ _ (λ k. Satisfies c.args.v (masks_at c.args.rules.now.words.now k)) (λ k. Satisfies c.args.v (masks_at c.args.rules.now.words.now k) → ⊥) c.all.ensures.ran
+    (YieldsList-from_range 0 c.args.rules.now.count c.args.rules.now.count refl (omega arith)) (λ x q k. search rules) (λ x q k. search rules))

@@ -5,7 +5,7 @@ use borrow.Author.Rules.{rules}
 use Rattle.walk.proofs.page_with.Goals as goal
 
 pub after_with-requires : goal.after_with-requires
-after_with-requires c = let p = c.requires in (p.0, p.1, p.2, p.3, p.4, p.5, search rules, c.nothing-memory.ensures _ _ _ _)
+after_with-requires c = (c.requires.0, c.requires.1, c.requires.2, c.requires.3, c.requires.4, search rules, c.nothing-memory.ensures _ _ _ _)
 
 pub returns-then-after : goal.returns-then-after
 returns-then-after c = let e : c.args.after ≡ true = search rules in rw e c.after_with.ensures

@@ -21,7 +21,7 @@ pub loop-next-init : goal.loop-next-init
 loop-next-init c = (walking-on _ _ _ _ _ c.requires.1 _ _ _ _ _ _ _ _ _ _ _ _ (going-in _ _ _ _ _ c.requires.1 _ _ _ _ _ _ _ c.spanned-s.ensures c.requires.0 c.requires.2 _ c.max-first.ensures (omega (arith, c.spanned-s.ensures.to))) _ refl _ c.past_ruled_out-next.ensures c.spanned-s.ensures.to, omega (arith, c.if-task-at))
 
 pub list_set-r-requires : goal.list_set-r-requires
-list_set-r-requires c = let g = c.loop-next.invariant.0.some _ c.in-Some.is in (g.0.fits, lt_of_lt_of_le (set-inside _ c.requires.1 _ g.1 (omega (arith, c.spanned-s.ensures.to, g.2))) (rw c.loop-next.auto.marks c.requires.3), c.requires.4, rw c.loop-next.auto.store c.requires.5)
+list_set-r-requires c = let g = c.loop-next.invariant.0.some _ c.in-Some.is in (g.0.fits, lt_of_lt_of_le (set-inside _ c.requires.1 _ g.1 (omega (arith, c.spanned-s.ensures.to, g.2))) (rw c.loop-next.auto.marks c.requires.3), rw c.loop-next.auto.store c.requires.4)
 
 pub returns-then-task-r : goal.returns-then-task-r
 returns-then-task-r c = let g = c.loop-next.invariant.0.some _ c.in-Some.is in let h : c.in-Some.p.place < 2 ^ c.args.x = omega (arith, c.spanned-s.ensures.to, g.2) in walked-full _ _ _ _ _ c.requires.1 _ _ _ _ _ _ _ _ _ _ _ (going_next _ _ _ _ _ c.requires.1 _ _ _ _ _ _ _ _ _ _ _ g.0 h _ (g.1.is h) _ _ _ _ c.loop-next.invariant.1 c.list_set-r.ensures c.list_set-r.auto.out) (search rules)

@@ -10,7 +10,7 @@ loop-k-init c = (refl, gathered_none _ _ _)
 
 pub loop-k-preserved : goal.loop-k-preserved
 loop-k-preserved c =
-    let f = c.loop-k.invariant.1.few in let l = c.loop-k.invariant.0 in let p = c.requires.1 in
+    let f = c.loop-k.invariant.1.few in let l = c.loop-k.invariant.0 in let p = c.requires in
     elim c.if-can_ask.branch [
       | then-can_ask w ↦ rw (w.rows-is, w.m-is) (
         w.put.auto.rows ∙ l,

@@ -6,7 +6,7 @@ pub loop-part-init : goal.loop-part-init
 loop-part-init c = shave-none _ _ _ _
 
 pub tried-r-requires : goal.tried-r-requires
-tried-r-requires c = (c.requires.0, c.requires.1, c.requires.2, rw c.one.ensures (one-atom _ _))
+tried-r-requires c = rw c.one.ensures (one-atom _ _)
 
 pub returns-then-not-within : goal.returns-then-not-within
 returns-then-not-within c = shave-more c.loop-place.invariant c.tried-r.ensures

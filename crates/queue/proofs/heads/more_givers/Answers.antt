@@ -5,7 +5,7 @@ use Rattle.queue.proofs.Rows.{row-begin, row-turn, row-end}
 use Rattle.queue.proofs.heads.more_givers.Goals as goal
 
 pub loop-i-init : goal.loop-i-init
-loop-i-init c = rw (c.into_iter-i-iterator.ensures.into_iter_gives, c.members-i-items.ensures) (row-begin _ _ _ _ _ _ _ (search rules) c.requires.2 c.requires.3)
+loop-i-init c = rw (c.into_iter-i-iterator.ensures.into_iter_gives, c.members-i-items.ensures) (row-begin _ _ _ _ _ _ _ (search rules) c.requires.1 c.requires.2)
 
 pub returns-in-Several : goal.returns-in-Several
 returns-in-Several c = seen-several _ _ _ _ _ _ (search rules)

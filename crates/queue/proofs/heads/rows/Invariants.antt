@@ -6,4 +6,4 @@ use Rattle.queue.proofs.Rows.{RowsTo}
 use Rattle.queue.proofs.heads.rows.Given as goal
 
 abbrev pub invariant-loop-k : goal.invariant-loop-k
-invariant-loop-k l = (l.n ≤ l.c + 64) × (length l.index ≡ index_length) × RowsTo l.words l.n l.c l.initial.index l.k l.index
+invariant-loop-k l = (l.rules.count ≤ l.c + 64) × (length l.index ≡ index_length) × RowsTo l.rules.words.now l.rules.count l.c l.initial.index l.k l.index
