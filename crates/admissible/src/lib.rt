@@ -4,17 +4,17 @@
 ghost use Rattle.std.specs.Prelude.{◌*◌, ◌<◌, ◌≤◌, length};
 ghost use Rattle.logic.specs.Tests.{Decides};
 ghost use Rattle.queue.specs.Chains.{Chains};
-ghost use Rattle.admissible.specs.Admissible.{Minimal, MinimalAt, Undominated, UndominatedAt, Admissible};
+ghost use Rattle.admissible.specs.InBook.{Admissible, Minimal, MinimalAt, Undominated, UndominatedAt};
 
 use bounds::Part;
 use masks::Bounds;
-use queue::{Prepared, index};
 use queue::waiting::Waiting;
+use queue::{Prepared, index};
 
 // No view within root has a subset of `taken` that lacks its exception at place e. The bounds root are at rest with these live rules.
 pub fn minimal_at(book: &Prepared<'_>, live: Waiting, root: Bounds, taken: u64, e: u64) -> bool
     requires { e < 64 }
-    ensures { Decides result (MinimalAt book.now.rules.words.now book.now.rules.count book.now.ranks.now root taken e) }
+    ensures { Decides result (MinimalAt book.now root taken e) }
 {
     if (taken >> e) % 2 == 0 {
         return true;
@@ -29,7 +29,7 @@ pub fn minimal_at(book: &Prepared<'_>, live: Waiting, root: Bounds, taken: u64, 
 
 // No view within root has a proper subset of `taken`: for each member there is none without it.
 pub fn each_needed(book: &Prepared<'_>, live: Waiting, root: Bounds, taken: u64) -> bool
-    ensures { Decides result (Minimal book.now.rules.words.now book.now.rules.count book.now.ranks.now root taken) }
+    ensures { Decides result (Minimal book.now root taken) }
 {
     for e in 0..64 {
         if !minimal_at(book, live, root, taken, e) {
@@ -41,7 +41,7 @@ pub fn each_needed(book: &Prepared<'_>, live: Waiting, root: Bounds, taken: u64)
 
 // No view within root has a proper subset of `taken`. What all subsets have in common is found first, once for all members.
 pub fn minimal(book: &Prepared<'_>, root: Bounds, taken: u64) -> bool
-    ensures { Decides result (Minimal book.now.rules.words.now book.now.rules.count book.now.ranks.now root taken) }
+    ensures { Decides result (Minimal book.now root taken) }
 {
     let b = bounds::with_sets(root, 0, taken);
     let rest = queue::propagate(book, index::changed(book.index, root, b), b);
@@ -51,7 +51,7 @@ pub fn minimal(book: &Prepared<'_>, root: Bounds, taken: u64) -> bool
 // No view within root takes the exception at place a, if that outranks a member of `taken`.
 pub fn undominated_at(book: &Prepared<'_>, root: Bounds, taken: u64, rank: u64, a: u64) -> bool
     requires { a < 64 }
-    ensures { Decides result (UndominatedAt book.now.rules.words.now book.now.rules.count book.now.ranks.now root taken rank a) }
+    ensures { Decides result (UndominatedAt book.now root taken rank a) }
 {
     if rank & taken == 0 {
         return true;
@@ -63,7 +63,7 @@ pub fn undominated_at(book: &Prepared<'_>, root: Bounds, taken: u64, rank: u64, 
 
 // No view within root takes an exception that outranks a member of `taken`.
 pub fn undominated(book: &Prepared<'_>, root: Bounds, taken: u64) -> bool
-    ensures { Decides result (Undominated book.now.rules.words.now book.now.rules.count book.now.ranks.now root taken) }
+    ensures { Decides result (Undominated book.now root taken) }
 {
     for (a, &rank) in book.ranks.iter().enumerate() {
         if !undominated_at(book, root, taken, rank, a as u64) {
@@ -75,7 +75,7 @@ pub fn undominated(book: &Prepared<'_>, root: Bounds, taken: u64) -> bool
 
 // The set is one that a resolution can have, among the views within root. The bounds root should be at rest.
 pub fn admissible(book: &Prepared<'_>, root: Bounds, taken: u64) -> bool
-    ensures { Decides result (Admissible book.now.rules.words.now book.now.rules.count book.now.ranks.now root taken) }
+    ensures { Decides result (Admissible book.now root taken) }
 {
     minimal(book, root, taken) && undominated(book, root, taken)
 }

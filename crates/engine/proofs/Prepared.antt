@@ -24,7 +24,7 @@ use Rattle.page.specs.Pages.{Page}
 use Rattle.page.proofs.Pages.{flat-length}
 use Rattle.meaning.specs.Books.{Book}
 use Rattle.meaning.specs.Meant.{book_of}
-use Rattle.meaning.specs.Order.{Point, LawfulPoint, AllLater}
+use Rattle.meaning.specs.Order.{Point, start, at, LawfulPoint, AllLater}
 use Rattle.meaning.specs.Twins.Next.{page_from}
 use Rattle.meaning.proofs.Meant.{exceptions-count}
 use Rattle.meaning.proofs.Pages.{page-is}
@@ -106,3 +106,10 @@ module _ (s : Shape) (ws ranks : List ℕ) (root : Bounds) (q : Sought) (i : Roo
     unfolding beginning
     page_is false f = pages-are false f
     page_is true f = pages-are true f
+
+    -- The same of the first page, and of one after a pair.
+    pub first-is : Paged ws ranks root q s.exceptions false o o' r → PageIs s ws ranks start o o' r
+    first-is f = page_is false f
+
+    pub after_is : Paged ws ranks root q s.exceptions true o o' r → PageIs s ws ranks (at q.point) o o' r
+    after_is f = page_is true f

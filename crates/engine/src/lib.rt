@@ -4,15 +4,13 @@
 ghost use Rattle.std.specs.Prelude.{◌+◌, ◌^◌, ◌<◌, ◌≤◌, length, take, ◌≡◌};
 ghost use Rattle.book.specs.Counts.{InLimits};
 ghost use Rattle.meaning.specs.Order.{start, at as at_pair};
-ghost use Rattle.queue.specs.Chains.{Chains};
 ghost use Rattle.bridge.specs.Rows.{rule_count};
 ghost use Rattle.engine.specs.Loaded.{RootIs, VerdictIs, PageIs, since};
 
 use book::{Book, Shape};
-use masks::Bounds;
+use masks::{Bounds, Rules};
 use page::Task;
-use queue::index::Index;
-use queue::{index, waiting};
+use queue::{Prepared, index, waiting};
 use sets::Pair;
 
 // The words of a book's rules and after them of its Q lines, and those of its ranks. Of the ranks the search is lent those of the book's own
@@ -38,23 +36,11 @@ fn rules(s: Shape) -> usize
 }
 
 // The bounds of the book's views, where every search begins.
-pub fn root_of(words: &Words, ranks: &[u64], index: &Index, s: Shape) -> Bounds
-    requires { InLimits s × (length ranks.now ≤ 64) × Chains words.now (rule_count s) index.now }
-    ensures { RootIs s words.now ranks.now result }
+pub fn root_of(book: &Prepared<'_>, s: Shape) -> Bounds
+    requires { InLimits s × (book.now.rules.count ≡ rule_count s) }
+    ensures { RootIs s book.now.rules.words.now book.now.ranks.now result }
 {
-    let b = prepare::root(s);
-    let rest = queue::propagate(words, rules(s), ranks, index, waiting::all(), b);
-    rest.bounds
-}
-
-// Those bounds, after the index of the book's rules was filled.
-fn begun(words: &Words, own: &[u64], s: Shape, index: &mut Index) -> Bounds
-    requires { InLimits s × (length own.now ≤ 64) }
-    ensures chains { Chains words.now (rule_count s) index.new }
-    ensures root { RootIs s words.now own.now result }
-{
-    index::fill(words, rules(s), index);
-    root_of(words, own, index, s)
+    queue::propagate(book, waiting::all(), prepare::root(s)).bounds
 }
 
 // The verdict on a lawful pair of a prepared book.
@@ -62,10 +48,19 @@ pub fn verdict_in(words: &Words, ranks: &Ranks, s: Shape, p: Pair) -> u32
     requires { InLimits s }
     ensures { VerdictIs s words.now ranks.now p result }
 {
-    let own = own(ranks, s.exceptions);
+    let count = rules(s);
+    let rules = Rules { words, count };
     let mut index = [0u64; index::LENGTH];
-    let root = begun(words, own, s, &mut index);
-    judge::verdict(words, rules(s), own, &index, root, p).number()
+    index::fill(&rules, &mut index);
+    let ranks = own(ranks, s.exceptions);
+    let index = &index;
+    let book = Prepared {
+        rules,
+        ranks,
+        index,
+    };
+    let root = root_of(&book, s);
+    judge::verdict(&book, root, p).number()
 }
 
 // The first resolutions of a prepared book; where `after` is true the first later than the point. As many as the lent slice has room for.
@@ -80,16 +75,24 @@ fn page_in(
     requires { InLimits s × (point.taken < 2 ^ s.exceptions) }
     ensures { PageIs s words.now ranks.now (since after point) out.old out.new result }
 {
-    let own = own(ranks, s.exceptions);
+    let count = rules(s);
+    let rules = Rules { words, count };
     let mut index = [0u64; index::LENGTH];
-    let root = begun(words, own, s, &mut index);
+    index::fill(&rules, &mut index);
+    let ranks = own(ranks, s.exceptions);
+    let index = &index;
+    let book = Prepared {
+        rules,
+        ranks,
+        index,
+    };
+    let root = root_of(&book, s);
     let task = Task {
-        rules: rules(s),
         statements: s.statements as u64,
         room: out.len() / 3,
         point,
     };
-    walk::page(words, own, &index, root, s.exceptions, task, after, out)
+    walk::page(&book, root, s.exceptions, task, after, out)
 }
 
 // The first resolutions of a prepared book, as many as the lent slice has room for.

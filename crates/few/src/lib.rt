@@ -3,10 +3,11 @@
 
 ghost use Rattle.std.specs.Prelude.{◌≡◌, ◌⊎◌, false, ◌+◌, ◌*◌, ◌<◌, ◌≤◌, length};
 ghost use Rattle.queue.specs.Chains.{Chains};
-ghost use Rattle.masks.specs.Views.{MaskView};
-ghost use Rattle.page.specs.Sought.{sought};
-ghost use Rattle.page.specs.Pages.{pair_at, Fits, Listed};
-ghost use Rattle.few.specs.Few.{most, Gathered, Collected, Sooner, Follows, Leads, FirstOf, PutSorted, AllListed};
+ghost use Rattle.page.specs.Pages.{pair_at, Listed};
+ghost use Rattle.few.specs.Few.{most, Sooner, Follows, Leads, FirstOf, PutSorted};
+ghost use Rattle.few.specs.InBook.{AllListed, Collected, Gathered};
+ghost use Rattle.page.specs.InBook.{Fits, asked};
+ghost use Rattle.queue.specs.InBook.{MaskView};
 
 use masks::Bounds;
 use page::Task;
@@ -38,9 +39,16 @@ pub struct Place {
 
 // Puts the views within the bounds b into the store from a place on, as the search finds them, up to place `cap` or until the fuel is used up.
 // Answers the place after them and the fuel that is left; w is what is to be done before the bounds are at rest.
-pub fn gather(book: &Prepared<'_>, w: Work, b: Bounds, store: &mut [u64], cap: usize, place: Place) -> Place
+pub fn gather(
+    book: &Prepared<'_>,
+    w: Work,
+    b: Bounds,
+    store: &mut [u64],
+    cap: usize,
+    place: Place,
+) -> Place
     requires { (cap * 3 ≤ length store.old) × (place.at ≤ cap) }
-    ensures { Gathered book.now.rules.words.now book.now.rules.count book.now.ranks.now b cap place.at place.fuel store.old store.new result }
+    ensures { Gathered book.now b cap place.at place.fuel store.old store.new result }
 {
     let k = place.at;
     if cap <= k {
@@ -79,7 +87,7 @@ pub struct Stored {
 // fuel, the store counts as full if there is any view: one that was found, or that a search from shaved bounds finds.
 pub fn collect(book: &Prepared<'_>, rest: Rest, store: &mut [u64], cap: usize, fuel: u64) -> Stored
     requires { cap * 3 ≤ length store.old }
-    ensures { Collected book.now.rules.words.now book.now.rules.count book.now.ranks.now rest.bounds cap store.new result.count }
+    ensures { Collected book.now rest.bounds cap store.new result.count }
 {
     let w = waiting::none(rest.live);
     let r = gather(book, w, rest.bounds, store, cap, Place { at: 0, fuel });
@@ -199,9 +207,20 @@ pub fn put_sorted(store: &[u64], k: usize, room: usize, out: &mut [u64], at: usi
 // Puts all views with these exceptions on the page from place `at` on, in the order of pairs until it is full; where `after` is true only those
 // later than the task's point. None of those views may be beyond the bounds at rest. Where k is less than `cap`, they are the first k pairs of
 // the store. Answers the place after them.
-pub fn list(book: &Prepared<'_>, task: Task, taken: u64, rest: Rest, store: &[u64], cap: usize, k: usize, after: bool, out: &mut [u64], at: usize) -> usize
-    requires { (Fits book.now.rules.words.now book.now.ranks.now out.old (sought book.now.rules.count task) at) × (cap * 3 ≤ length store.now) }
-    ensures { Listed (MaskView book.now.rules.words.now book.now.rules.count book.now.ranks.now) (sought book.now.rules.count task) taken rest.bounds after at out.old out.new result ⊎ ((after ≡ false) × (k < cap) × AllListed book.now.rules.words.now book.now.ranks.now (sought book.now.rules.count task) rest.bounds store.now k at out.old out.new result) }
+pub fn list(
+    book: &Prepared<'_>,
+    task: Task,
+    taken: u64,
+    rest: Rest,
+    store: &[u64],
+    cap: usize,
+    k: usize,
+    after: bool,
+    out: &mut [u64],
+    at: usize,
+) -> usize
+    requires { (Fits book.now out.old task at) × (cap * 3 ≤ length store.now) }
+    ensures { Listed (MaskView book.now) (asked book.now task) taken rest.bounds after at out.old out.new result ⊎ ((after ≡ false) × (k < cap) × AllListed book.now task rest.bounds store.now k at out.old out.new result) }
 {
     if !after && k < cap {
         return put_sorted(store, k, task.room, out, at);

@@ -5,10 +5,11 @@ ghost use Rattle.std.specs.Prelude.{◌≡◌, ◌*◌, ◌≤◌, length};
 ghost use Rattle.logic.specs.Tests.{Decides};
 ghost use Rattle.masks.specs.Views.{Level, Lined, Uncrossed};
 ghost use Rattle.queue.specs.Chains.{Chains};
-ghost use Rattle.judge.specs.Judged.{number_of, Judged, Free, Smallest};
+ghost use Rattle.judge.specs.Judged.{number_of};
+ghost use Rattle.judge.specs.InBook.{Free, Judged, Smallest};
 
-use queue::Prepared;
 use masks::{Bounds, Rules};
+use queue::Prepared;
 use sets::Pair;
 
 mod lined;
@@ -27,7 +28,7 @@ fn unranked(rules: &Rules<'_>, ranks: &[u64], p: Pair) -> bool
 
 // No view dominates the pair. Without lines the set of exceptions alone decides.
 fn undominated(book: &Prepared<'_>, root: Bounds, p: Pair) -> bool
-    ensures { Free book.now.rules.words.now book.now.rules.count book.now.ranks.now root p result }
+    ensures { Free book.now root p result }
 {
     if masks::lines::lined(&book.rules) {
         return lined::undominated(book, root, p);
@@ -38,7 +39,7 @@ fn undominated(book: &Prepared<'_>, root: Bounds, p: Pair) -> bool
 // No undominated view has a proper subset of the exceptions of the pair, which is undominated. Without lines a view with a subset of an undominated set is
 // undominated, so all views are asked.
 fn minimal(book: &Prepared<'_>, root: Bounds, p: Pair) -> bool
-    ensures { Smallest book.now.rules.words.now book.now.rules.count book.now.ranks.now root p result }
+    ensures { Smallest book.now root p result }
 {
     if masks::lines::lined(&book.rules) {
         return lined::minimal(book, root, p.taken);
@@ -69,7 +70,7 @@ impl Judgement {
 // The verdict, the first that applies: 1 no answer set; 2 a member of T beside its superior; 3 a body in T unsatisfied; 4 dominated;
 // 5 some undominated view has a proper subset of T; 0 a resolution. The bounds root have the book's views.
 pub fn verdict(book: &Prepared<'_>, root: Bounds, p: Pair) -> Judgement
-    ensures { Judged book.now.rules.words.now book.now.rules.count book.now.ranks.now root p (number_of result) }
+    ensures { Judged book.now root p (number_of result) }
 {
     if !verdict::is_answer(&book.rules, p) {
         return Judgement::NoAnswerSet;

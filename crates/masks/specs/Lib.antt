@@ -1,3 +1,4 @@
 pub mod Views
 pub mod Closures
 pub mod Steps
+pub mod OfRules

@@ -1,8 +1,9 @@
 // Which exceptions preference lines lead to: steps of P lines, as words, and of Q lines, which stand after the rules.
-ghost use Rattle.std.specs.Prelude.{ℕ, ◌+◌, ◌*◌, ◌<◌, ◌≤◌, length};
+ghost use Rattle.std.specs.Prelude.{ℕ, ◌<◌, ◌≤◌, length};
 ghost use Rattle.logic.specs.Tests.{Decides};
 ghost use Rattle.masks.specs.Views.{Alike, masks_at, Fires, Lined, Uncrossed};
 ghost use Rattle.masks.specs.Steps.{Grown, ByRanks, ByLine, ByLines, Passed, Reached, Chosen, Passing, Counting, Mates, MatesOf};
+ghost use Rattle.masks.specs.OfRules.{HasLines};
 
 use crate::Rules;
 use sets::Pair;
@@ -34,7 +35,7 @@ pub fn by_ranks(ranks: &[u64], t: u64, o: u64) -> u64
 
 // The set o with what line j leads to from members of t and of o, if it is one of m. The lines stand from row n on.
 pub fn by_line(rules: &Rules<'_>, m: u64, j: usize, t: u64, o: u64) -> u64
-    requires { ((rules.now.count + 32) * 8 ≤ length rules.now.words.now) × (j < 32) }
+    requires { HasLines rules.now × (j < 32) }
     ensures { ByLine rules.now.words.now rules.now.count m j t o result }
 {
     if (m >> (j as u64)) % 2 == 0 {
@@ -46,7 +47,7 @@ pub fn by_line(rules: &Rules<'_>, m: u64, j: usize, t: u64, o: u64) -> u64
 
 // The set o with what the lines of m lead to from members of t and of o.
 pub fn by_lines(rules: &Rules<'_>, m: u64, t: u64, o: u64) -> u64
-    requires { (rules.now.count + 32) * 8 ≤ length rules.now.words.now }
+    requires { HasLines rules.now }
     ensures { ByLines rules.now.words.now rules.now.count m 32 t o result }
 {
     let mut p = o;
@@ -58,7 +59,7 @@ pub fn by_lines(rules: &Rules<'_>, m: u64, t: u64, o: u64) -> u64
 
 // One pass over all steps.
 pub fn pass(rules: &Rules<'_>, ranks: &[u64], m: u64, t: u64, o: u64) -> u64
-    requires { ((rules.now.count + 32) * 8 ≤ length rules.now.words.now) × (length ranks.now ≤ 64) }
+    requires { HasLines rules.now × (length ranks.now ≤ 64) }
     ensures { Passed rules.now.words.now rules.now.count ranks.now m t o result }
 {
     by_lines(rules, m, t, by_ranks(ranks, t, o))
@@ -66,7 +67,7 @@ pub fn pass(rules: &Rules<'_>, ranks: &[u64], m: u64, t: u64, o: u64) -> u64
 
 // The exceptions that steps lead to from a member of t, one or more of them.
 pub fn reach(rules: &Rules<'_>, ranks: &[u64], m: u64, t: u64) -> u64
-    requires { ((rules.now.count + 32) * 8 ≤ length rules.now.words.now) × (length ranks.now ≤ 64) }
+    requires { HasLines rules.now × (length ranks.now ≤ 64) }
     ensures { Reached rules.now.words.now rules.now.count ranks.now m t result }
 {
     let mut o: u64 = 0;
@@ -98,24 +99,30 @@ pub fn passing<F: Fn(usize) -> bool>(n: usize, test: F) -> u64
 // The lines whose needed entries are in c and whose barred ones are not in v: with the upper and the lower end of bounds those that surely count
 // within them, with the lower and the upper end those that may.
 pub fn lines_in(rules: &Rules<'_>, v: Pair, c: Pair) -> u64
-    requires { (rules.now.count + 32) * 8 ≤ length rules.now.words.now }
+    requires { HasLines rules.now }
     ensures { Counting rules.now.words.now rules.now.count v c result }
 {
-    passing(LINES, |j| crate::fires(crate::masks_at(rules.words, rules.count + j), v, c))
+    passing(
+        LINES,
+        |j| crate::fires(crate::masks_at(rules.words, rules.count + j), v, c),
+    )
 }
 
 // The lines that are the same step as line i.
 pub fn twins(rules: &Rules<'_>, i: usize) -> u64
-    requires { ((rules.now.count + 32) * 8 ≤ length rules.now.words.now) × (i < 32) }
+    requires { HasLines rules.now × (i < 32) }
     ensures { Chosen (Alike rules.now.words.now rules.now.count i) 32 result }
 {
     let head = crate::masks_at(rules.words, rules.count + i).head;
-    passing(LINES, |j| crate::masks_at(rules.words, rules.count + j).head == head)
+    passing(
+        LINES,
+        |j| crate::masks_at(rules.words, rules.count + j).head == head,
+    )
 }
 
 // The set o with the lines that are the same step as line i, if that is one of m.
 pub fn mates_of(rules: &Rules<'_>, m: u64, i: usize, o: u64) -> u64
-    requires { ((rules.now.count + 32) * 8 ≤ length rules.now.words.now) × (i < 32) }
+    requires { HasLines rules.now × (i < 32) }
     ensures { MatesOf rules.now.words.now rules.now.count m i o result }
 {
     if (m >> (i as u64)) % 2 == 0 {
@@ -126,7 +133,7 @@ pub fn mates_of(rules: &Rules<'_>, m: u64, i: usize, o: u64) -> u64
 
 // The lines that are the same step as a line of m.
 pub fn mates(rules: &Rules<'_>, m: u64) -> u64
-    requires { (rules.now.count + 32) * 8 ≤ length rules.now.words.now }
+    requires { HasLines rules.now }
     ensures { Mates rules.now.words.now rules.now.count m 32 result }
 {
     let mut o: u64 = 0;

@@ -1,16 +1,18 @@
 // The resolutions with one set of exceptions.
 #![tactic(auto)]
 
-ghost use Rattle.std.specs.Prelude.{◌≡◌, ◌+◌, ◌*◌, ◌<◌, ◌≤◌, true, false, length};
+ghost use Rattle.std.specs.Prelude.{◌*◌, ◌<◌, ◌≤◌, length};
 ghost use Rattle.masks.specs.Views.{Lined};
-ghost use Rattle.bounds.specs.Sound.{Propagated, with_sets};
+ghost use Rattle.bounds.specs.Sound.{with_sets};
 ghost use Rattle.queue.specs.Chains.{Chains};
 ghost use Rattle.page.specs.Sought.{sought};
-ghost use Rattle.page.specs.Pages.{Fits};
 ghost use Rattle.few.specs.Few.{most};
 ghost use Rattle.marking.specs.Marks.{marks_in, Struck, Marked, all_ones};
-ghost use Rattle.ranges.specs.Ranges.{NoView};
-ghost use Rattle.one_set.specs.Plans.{HasView, MarksRight, Rests, Gathered, Admits, Looked, NoneBelow, SetListed, OpenListed};
+ghost use Rattle.one_set.specs.InBook.{Admits, Gathered, HasView, Looked, MarksRight, NoneBelow, OpenListed, Rests, SetListed};
+ghost use Rattle.page.specs.InBook.{Fits};
+ghost use Rattle.queue.specs.InBook.{Propagated};
+ghost use Rattle.ranges.specs.InBook.{NoView};
+ghost use Rattle.masks.specs.OfRules.{HasLines};
 
 use marking::Strike;
 use masks::Bounds;
@@ -105,9 +107,15 @@ pub fn mark_viewless(s: Range, marks: &mut [u64]) -> u64
 
 // Marks a range of sets around t, which has no view, if there is credit for it: widening takes sixteen looks of it, and each set newly marked
 // earns one.
-pub fn mark_around(book: &Prepared<'_>, root: Bounds, t: u64, effort: &mut Effort, marks: &mut [u64])
+pub fn mark_around(
+    book: &Prepared<'_>,
+    root: Bounds,
+    t: u64,
+    effort: &mut Effort,
+    marks: &mut [u64],
+)
     requires { 0 < length marks.old }
-    ensures { NoView book.now.rules.words.now book.now.rules.count book.now.ranks.now root t t → MarksRight book.now.rules.words.now book.now.rules.count book.now.ranks.now root marks.old marks.new }
+    ensures { NoView book.now root t t → MarksRight book.now root marks.old marks.new }
 {
     if effort.credit < WIDENING {
         return;
@@ -128,9 +136,16 @@ const FUEL: u64 = 4096;
 const GLANCE: u64 = 256;
 
 // Marks a range of sets around t, which has no view as a search has found that has visited so many nodes, once such searches have visited many.
-pub fn mark_shaven(book: &Prepared<'_>, root: Bounds, t: u64, visited: u64, effort: &mut Effort, marks: &mut [u64])
+pub fn mark_shaven(
+    book: &Prepared<'_>,
+    root: Bounds,
+    t: u64,
+    visited: u64,
+    effort: &mut Effort,
+    marks: &mut [u64],
+)
     requires { 0 < length marks.old }
-    ensures { NoView book.now.rules.words.now book.now.rules.count book.now.ranks.now root t t → MarksRight book.now.rules.words.now book.now.rules.count book.now.ranks.now root marks.old marks.new }
+    ensures { NoView book.now root t t → MarksRight book.now root marks.old marks.new }
 {
     effort.doubt = effort.doubt.after(visited);
     if effort.doubt != Doubt::AtOnce {
@@ -144,9 +159,17 @@ pub fn mark_shaven(book: &Prepared<'_>, root: Bounds, t: u64, visited: u64, effo
 }
 
 // The views with the set t, if there is one: up to `cap` of them are gathered in the store. Around a set without one a range is marked.
-pub fn gathered(book: &Prepared<'_>, root: Bounds, t: u64, effort: &mut Effort, marks: &mut [u64], store: &mut [u64], cap: usize) -> Option<Views>
+pub fn gathered(
+    book: &Prepared<'_>,
+    root: Bounds,
+    t: u64,
+    effort: &mut Effort,
+    marks: &mut [u64],
+    store: &mut [u64],
+    cap: usize,
+) -> Option<Views>
     requires { (0 < length marks.old) × (cap * 3 ≤ length store.old) × (0 < cap) }
-    ensures { Gathered book.now.rules.words.now book.now.rules.count book.now.ranks.now root t cap marks.old marks.new store.new result }
+    ensures { Gathered book.now root t cap marks.old marks.new store.new result }
 {
     let rest = ranges::narrowed(book, root, t, t);
     let b = rest.bounds;
@@ -169,7 +192,7 @@ pub fn gathered(book: &Prepared<'_>, root: Bounds, t: u64, effort: &mut Effort, 
 // `known` is true, every set before t in the order has been walked with these marks: if a view had a proper subset of t, then t would be marked.
 pub fn tested(book: &Prepared<'_>, root: Bounds, t: u64, known: bool, marks: &mut [u64]) -> bool
     requires { t < marks_in marks.old }
-    ensures { (Lined book.now.rules.words.now book.now.rules.count → ⊥) → HasView book.now.rules.words.now book.now.rules.count book.now.ranks.now root t → Admits book.now.rules.words.now book.now.rules.count book.now.ranks.now root t known marks.old marks.new result }
+    ensures { (Lined book.now.rules.words.now book.now.rules.count → ⊥) → HasView book.now root t → Admits book.now root t known marks.old marks.new result }
 {
     marking::mark_surpassed(book.ranks, t, marks);
     if marking::is_marked(marks, t) {
@@ -183,9 +206,21 @@ pub fn tested(book: &Prepared<'_>, root: Bounds, t: u64, known: bool, marks: &mu
 
 // Puts the resolutions with the set t on the page, in a book without Q lines; where `after` is true only those later than the task's point, which has that set.
 // Where `known` is true, every set before t has been walked with these marks.
-pub fn list_plain(book: &Prepared<'_>, root: Bounds, task: Task, t: u64, after: bool, known: bool, at: usize, effort: &mut Effort, marks: &mut [u64], store: &mut [u64], out: &mut [u64]) -> usize
-    requires { Fits book.now.rules.words.now book.now.ranks.now out.old (sought book.now.rules.count task) at × (t < marks_in marks.old) × (most * 3 ≤ length store.old) }
-    ensures { (Lined book.now.rules.words.now book.now.rules.count → ⊥) → (w : _) → SetListed book.now.rules.words.now book.now.ranks.now root (sought book.now.rules.count task) t after known (Rests book.now.rules.words.now book.now.rules.count book.now.ranks.now root t known marks.old) at marks.old marks.new w w out.old out.new result }
+pub fn list_plain(
+    book: &Prepared<'_>,
+    root: Bounds,
+    task: Task,
+    t: u64,
+    after: bool,
+    known: bool,
+    at: usize,
+    effort: &mut Effort,
+    marks: &mut [u64],
+    store: &mut [u64],
+    out: &mut [u64],
+) -> usize
+    requires { Fits book.now out.old task at × (t < marks_in marks.old) × (most * 3 ≤ length store.old) }
+    ensures { (Lined book.now.rules.words.now book.now.rules.count → ⊥) → (w : _) → SetListed book.now root task t after known (Rests book.now root t known marks.old) at marks.old marks.new w w out.old out.new result }
 {
     let cap = few::limit(task.room - at, after);
     let Some(views) = gathered(book, root, t, effort, marks, store, cap) else {
@@ -194,14 +229,36 @@ pub fn list_plain(book: &Prepared<'_>, root: Bounds, task: Task, t: u64, after: 
     if !tested(book, root, t, known, marks) {
         return at;
     }
-    few::list(book, task, t, views.rest, store, cap, views.count, after, out, at)
+    few::list(
+        book,
+        task,
+        t,
+        views.rest,
+        store,
+        cap,
+        views.count,
+        after,
+        out,
+        at,
+    )
 }
 
 // Puts the views with the set t that stand on the page, later ones than the task's point where `after` is true. Where all were asked for and there is
 // one, the sets that it surpasses are marked. None of the views with that set may be beyond the bounds at rest.
-pub fn list_open(book: &Prepared<'_>, root: Bounds, task: Task, t: u64, rest: Rest, after: bool, marks: &mut [u64], memory: &mut Memory, out: &mut [u64], at: usize) -> usize
-    requires { Fits book.now.rules.words.now book.now.ranks.now out.old (sought book.now.rules.count task) at × (0 < length marks.old) × ((book.now.rules.count + 32) * 8 ≤ length book.now.rules.words.now) }
-    ensures { OpenListed book.now.rules.words.now book.now.ranks.now root (sought book.now.rules.count task) t rest.bounds after at marks.old marks.new memory.old memory.new out.old out.new result }
+pub fn list_open(
+    book: &Prepared<'_>,
+    root: Bounds,
+    task: Task,
+    t: u64,
+    rest: Rest,
+    after: bool,
+    marks: &mut [u64],
+    memory: &mut Memory,
+    out: &mut [u64],
+    at: usize,
+) -> usize
+    requires { Fits book.now out.old task at × (0 < length marks.old) × HasLines book.now.rules }
+    ensures { OpenListed book.now root task t rest.bounds after at marks.old marks.new memory.old memory.new out.old out.new result }
 {
     let r = sifting::list_standing(book, root, task, t, rest, after, memory, out, at);
     if after {
@@ -231,9 +288,17 @@ pub fn mark_above(t: u64, marks: &mut [u64])
 
 // Bounds at rest for the views with the set t, if one of them stands, from shaved bounds: `rest` has those bounds, whose search has used up its fuel. Where
 // shaving alone shows that there is no view, a range around the set is marked.
-pub fn look_harder(book: &Prepared<'_>, root: Bounds, t: u64, rest: Rest, effort: &mut Effort, marks: &mut [u64], memory: &mut Memory) -> Option<Rest>
-    requires { ((book.now.rules.count + 32) * 8 ≤ length book.now.rules.words.now) × (0 < length marks.old) }
-    ensures { Propagated book.now.rules.words.now book.now.rules.count book.now.ranks.now (with_sets root t t) rest.bounds → Looked book.now.rules.words.now book.now.rules.count book.now.ranks.now root t marks.old marks.new memory.old memory.new result }
+pub fn look_harder(
+    book: &Prepared<'_>,
+    root: Bounds,
+    t: u64,
+    rest: Rest,
+    effort: &mut Effort,
+    marks: &mut [u64],
+    memory: &mut Memory,
+) -> Option<Rest>
+    requires { HasLines book.now.rules × (0 < length marks.old) }
+    ensures { Propagated book.now (with_sets root t t) rest.bounds → Looked book.now root t marks.old marks.new memory.old memory.new result }
 {
     let s = probe::shaving::shaved(book, rest);
     let b = s.bounds;
@@ -250,9 +315,16 @@ pub fn look_harder(book: &Prepared<'_>, root: Bounds, t: u64, rest: Rest, effort
 
 // Bounds at rest for the views with the set t, if one of them stands. Around a set without a view a range is marked; remembered views may dominate all that
 // have the set.
-pub fn look(book: &Prepared<'_>, root: Bounds, t: u64, effort: &mut Effort, marks: &mut [u64], memory: &mut Memory) -> Option<Rest>
-    requires { ((book.now.rules.count + 32) * 8 ≤ length book.now.rules.words.now) × (0 < length marks.old) }
-    ensures { Looked book.now.rules.words.now book.now.rules.count book.now.ranks.now root t marks.old marks.new memory.old memory.new result }
+pub fn look(
+    book: &Prepared<'_>,
+    root: Bounds,
+    t: u64,
+    effort: &mut Effort,
+    marks: &mut [u64],
+    memory: &mut Memory,
+) -> Option<Rest>
+    requires { HasLines book.now.rules × (0 < length marks.old) }
+    ensures { Looked book.now root t marks.old marks.new memory.old memory.new result }
 {
     let rest = ranges::narrowed(book, root, t, t);
     let b = rest.bounds;
@@ -273,9 +345,15 @@ pub fn look(book: &Prepared<'_>, root: Bounds, t: u64, effort: &mut Effort, mark
 }
 
 // No view that stands has a proper subset of t. Where `known` is true that is known from the marks, if t is not marked.
-pub fn none_below(book: &Prepared<'_>, root: Bounds, memory: &mut Memory, t: u64, known: bool) -> bool
-    requires { (book.now.rules.count + 32) * 8 ≤ length book.now.rules.words.now }
-    ensures { NoneBelow book.now.rules.words.now book.now.rules.count book.now.ranks.now root t known memory.old memory.new result }
+pub fn none_below(
+    book: &Prepared<'_>,
+    root: Bounds,
+    memory: &mut Memory,
+    t: u64,
+    known: bool,
+) -> bool
+    requires { HasLines book.now.rules }
+    ensures { NoneBelow book.now root t known memory.old memory.new result }
 {
     if !known {
         return standing::unexceeded(book, root, memory, t);
@@ -285,9 +363,21 @@ pub fn none_below(book: &Prepared<'_>, root: Bounds, memory: &mut Memory, t: u64
 
 // Puts the resolutions with the set t on the page, in a book with Q lines; where `after` is true only those later than the task's point, which has that set.
 // Where `known` is true, every set before t has been walked with these marks.
-pub fn list_lined(book: &Prepared<'_>, root: Bounds, task: Task, t: u64, after: bool, known: bool, at: usize, effort: &mut Effort, marks: &mut [u64], memory: &mut Memory, out: &mut [u64]) -> usize
-    requires { Fits book.now.rules.words.now book.now.ranks.now out.old (sought book.now.rules.count task) at × (t < marks_in marks.old) × ((book.now.rules.count + 32) * 8 ≤ length book.now.rules.words.now) }
-    ensures { SetListed book.now.rules.words.now book.now.ranks.now root (sought book.now.rules.count task) t after known (Rests book.now.rules.words.now book.now.rules.count book.now.ranks.now root t known marks.old) at marks.old marks.new memory.old memory.new out.old out.new result }
+pub fn list_lined(
+    book: &Prepared<'_>,
+    root: Bounds,
+    task: Task,
+    t: u64,
+    after: bool,
+    known: bool,
+    at: usize,
+    effort: &mut Effort,
+    marks: &mut [u64],
+    memory: &mut Memory,
+    out: &mut [u64],
+) -> usize
+    requires { Fits book.now out.old task at × (t < marks_in marks.old) × HasLines book.now.rules }
+    ensures { SetListed book.now root task t after known (Rests book.now root t known marks.old) at marks.old marks.new memory.old memory.new out.old out.new result }
 {
     if marking::is_marked(marks, t) {
         return at;
@@ -304,12 +394,29 @@ pub fn list_lined(book: &Prepared<'_>, root: Bounds, task: Task, t: u64, after: 
 
 // Puts the resolutions with the set t on the page; where `after` is true only those later than the task's point, which has that set. Where
 // `known` is true, every set before t has been walked with these marks.
-pub fn list_set(book: &Prepared<'_>, root: Bounds, task: Task, t: u64, after: bool, known: bool, at: usize, effort: &mut Effort, marks: &mut [u64], memory: &mut Memory, store: &mut [u64], out: &mut [u64]) -> usize
-    requires { Fits book.now.rules.words.now book.now.ranks.now out.old (sought book.now.rules.count task) at × (t < marks_in marks.old) × (most * 3 ≤ length store.old) }
-    ensures { SetListed book.now.rules.words.now book.now.ranks.now root (sought book.now.rules.count task) t after known (Rests book.now.rules.words.now book.now.rules.count book.now.ranks.now root t known marks.old) at marks.old marks.new memory.old memory.new out.old out.new result }
+pub fn list_set(
+    book: &Prepared<'_>,
+    root: Bounds,
+    task: Task,
+    t: u64,
+    after: bool,
+    known: bool,
+    at: usize,
+    effort: &mut Effort,
+    marks: &mut [u64],
+    memory: &mut Memory,
+    store: &mut [u64],
+    out: &mut [u64],
+) -> usize
+    requires { Fits book.now out.old task at × (t < marks_in marks.old) × (most * 3 ≤ length store.old) }
+    ensures { SetListed book.now root task t after known (Rests book.now root t known marks.old) at marks.old marks.new memory.old memory.new out.old out.new result }
 {
     if masks::lines::lined(&book.rules) {
-        return list_lined(book, root, task, t, after, known, at, effort, marks, memory, out);
+        return list_lined(
+            book, root, task, t, after, known, at, effort, marks, memory, out,
+        );
     }
-    list_plain(book, root, task, t, after, known, at, effort, marks, store, out)
+    list_plain(
+        book, root, task, t, after, known, at, effort, marks, store, out,
+    )
 }

@@ -4,14 +4,16 @@
 ghost use Rattle.std.specs.Prelude.{None, ◌≡◌, ◌+◌, ◌-◌, ◌*◌, ◌<◌, ◌≤◌, [], ◌∷◌, length, ◌==◌, nat_lt};
 ghost use Rattle.std.proofs.lemmas.List.Edits.{sets};
 ghost use Rattle.logic.specs.Tests.{both};
-ghost use Rattle.masks.specs.Views.{MaskView};
+ghost use Rattle.masks.specs.Views.{MaskView as MaskViewOf};
 ghost use Rattle.bounds.specs.Sound.{Keeps};
 ghost use Rattle.queue.specs.Chains.{Chains};
 ghost use Rattle.meaning.specs.Order.{value as value_of};
 ghost use Rattle.page.specs.Orders.{number, about as about_of, said as said_of, given as given_of};
 ghost use Rattle.sets.specs.Pairs.{flat};
 ghost use Rattle.page.specs.Sought.{sought};
-ghost use Rattle.page.specs.Pages.{pair_at, Giving, ViewGiving, Barren, Fits, BranchReady, Ready, GoneOn, Settled, TriedOne, Branched, Started, Listed};
+ghost use Rattle.page.specs.Pages.{pair_at, Giving, Fits as FitsOf, GoneOn, Settled, TriedOne, Started, Listed};
+ghost use Rattle.page.specs.InBook.{Barren, BranchReady, Branched, Fits, Ready, ViewGiving, asked};
+ghost use Rattle.queue.specs.InBook.{MaskView};
 
 use bounds::Part;
 use masks::{Bounds, Rules};
@@ -121,7 +123,7 @@ pub fn fixed(b: Bounds, i: u64, value: Value) -> Bounds
 // The same for the views among them: propagated, unless that is b or has nothing in it.
 pub fn narrow(book: &Prepared<'_>, live: Waiting, b: Bounds, i: u64, value: Value) -> Rest
     requires { (0 < i) × (i ≤ 64) }
-    ensures { Keeps (ViewGiving book.now.rules.words.now book.now.rules.count book.now.ranks.now i (number value)) b result.bounds }
+    ensures { Keeps (ViewGiving book.now i (number value)) b result.bounds }
 {
     let c = fixed(b, i, value);
     if b == c || !sets::within(c.lo, c.hi) {
@@ -147,8 +149,15 @@ pub fn still(equal: bool, value: Value, own: Value) -> bool
 
 // Whether any view is within the bounds: asked only after many branches without a find, not where the point's own branch goes on, and not
 // where the hint is within them. If the answer is that there is none, that is so; what is found may be no more than the hint.
-pub fn glimpse(book: &Prepared<'_>, dry: u64, equal: bool, live: Waiting, b: Bounds, hint: Pair) -> Option<Pair>
-    ensures { result ≡ None → Barren book.now.rules.words.now book.now.rules.count book.now.ranks.now b }
+pub fn glimpse(
+    book: &Prepared<'_>,
+    dry: u64,
+    equal: bool,
+    live: Waiting,
+    b: Bounds,
+    hint: Pair,
+) -> Option<Pair>
+    ensures { result ≡ None → Barren book.now b }
 {
     if dry < MANY || equal || (sets::within(b.lo, hint) && sets::within(hint, b.hi)) {
         return Some(hint);
@@ -158,9 +167,16 @@ pub fn glimpse(book: &Prepared<'_>, dry: u64, equal: bool, live: Waiting, b: Bou
 
 // The branch of a value at a statement that `left` others follow: the node that the search goes on from, or none if the value comes before the
 // point's own, forced conclusions clash, or the branch is barren.
-pub fn branch_of(book: &Prepared<'_>, task: Task, left: u64, value: Value, node: Node, dry: u64) -> Option<Node>
-    requires { BranchReady book.now.rules.words.now book.now.ranks.now (sought book.now.rules.count task) left (number value) }
-    ensures { Branched book.now.rules.words.now book.now.ranks.now (sought book.now.rules.count task) left (number value) node result }
+pub fn branch_of(
+    book: &Prepared<'_>,
+    task: Task,
+    left: u64,
+    value: Value,
+    node: Node,
+    dry: u64,
+) -> Option<Node>
+    requires { BranchReady book.now task left (number value) }
+    ensures { Branched book.now task left (number value) node result }
 {
     let i = task.statements - left;
     let own = value_at(task.point, i);
@@ -222,9 +238,16 @@ pub fn pair_at(pairs: &[u64], k: usize) -> Pair
 }
 
 // Every statement is settled: the pair is put on the page if it is a view and not the point itself.
-pub fn finish(rules: &Rules<'_>, ranks: &[u64], task: Task, node: Node, out: &mut [u64], place: Place) -> Place
-    requires { (Fits rules.now.words.now ranks.now out.old (sought rules.now.count task) place.at) × (place.at < task.room) × (rules.now.count ≤ 256) }
-    ensures { Settled (MaskView rules.now.words.now rules.now.count ranks.now) (sought rules.now.count task) 0 node place.at out.old out.new result.at }
+pub fn finish(
+    rules: &Rules<'_>,
+    ranks: &[u64],
+    task: Task,
+    node: Node,
+    out: &mut [u64],
+    place: Place,
+) -> Place
+    requires { (FitsOf rules.now.words.now ranks.now out.old (sought rules.now.count task) place.at) × (place.at < task.room) × (rules.now.count ≤ 256) }
+    ensures { Settled (MaskViewOf rules.now.words.now rules.now.count ranks.now) (sought rules.now.count task) 0 node place.at out.old out.new result.at }
 {
     if node.equal {
         return place;
@@ -266,9 +289,16 @@ pub fn ahead(node: Node, n: u64, left: u64) -> Stretch
 // Settles the last `left` statements: puts the views that come from the node on the page, in order, and answers the place after them. Statements
 // that the bounds have settled are passed over.
 #[cycle(settle_try_value)]
-pub fn settle(book: &Prepared<'_>, task: Task, left: u64, node: Node, out: &mut [u64], place: Place) -> Place
-    requires { (Ready book.now.rules.words.now book.now.ranks.now out.old (sought book.now.rules.count task) left place.at) × (place.at < task.room) }
-    ensures { Settled (MaskView book.now.rules.words.now book.now.rules.count book.now.ranks.now) (sought book.now.rules.count task) left node place.at out.old out.new result.at }
+pub fn settle(
+    book: &Prepared<'_>,
+    task: Task,
+    left: u64,
+    node: Node,
+    out: &mut [u64],
+    place: Place,
+) -> Place
+    requires { (Ready book.now out.old task left place.at) × (place.at < task.room) }
+    ensures { Settled (MaskView book.now) (asked book.now task) left node place.at out.old out.new result.at }
 {
     let a = ahead(node, task.statements, left);
     let pair = a.pair;
@@ -285,9 +315,17 @@ pub fn settle(book: &Prepared<'_>, task: Task, left: u64, node: Node, out: &mut 
 
 // Tries a value of the first statement left. What a branch takes on the stack is here, once for each statement.
 #[cycle(settle_try_value)]
-pub fn try_value(book: &Prepared<'_>, task: Task, left: u64, value: Value, node: Node, out: &mut [u64], place: Place) -> Place
-    requires { (Ready book.now.rules.words.now book.now.ranks.now out.old (sought book.now.rules.count task) left place.at) × (0 < left) }
-    ensures { TriedOne (MaskView book.now.rules.words.now book.now.rules.count book.now.ranks.now) (sought book.now.rules.count task) (left - 1) (number value) node place.at out.old out.new result.at }
+pub fn try_value(
+    book: &Prepared<'_>,
+    task: Task,
+    left: u64,
+    value: Value,
+    node: Node,
+    out: &mut [u64],
+    place: Place,
+) -> Place
+    requires { (Ready book.now out.old task left place.at) × (0 < left) }
+    ensures { TriedOne (MaskView book.now) (asked book.now task) (left - 1) (number value) node place.at out.old out.new result.at }
 {
     if task.room <= place.at {
         return place;
@@ -331,9 +369,17 @@ pub fn start(taken: u64, rest: Rest, equal: bool) -> Node
 // Puts all views with these exceptions on the page from place `at` on, in the order of pairs until the page is full;
 // where `after` is true only those later than the point, which takes these exceptions. None of those views may be beyond the bounds at rest.
 // Answers the place after them.
-pub fn list_views(book: &Prepared<'_>, task: Task, taken: u64, rest: Rest, after: bool, out: &mut [u64], at: usize) -> usize
-    requires { Fits book.now.rules.words.now book.now.ranks.now out.old (sought book.now.rules.count task) at }
-    ensures { Listed (MaskView book.now.rules.words.now book.now.rules.count book.now.ranks.now) (sought book.now.rules.count task) taken rest.bounds after at out.old out.new result }
+pub fn list_views(
+    book: &Prepared<'_>,
+    task: Task,
+    taken: u64,
+    rest: Rest,
+    after: bool,
+    out: &mut [u64],
+    at: usize,
+) -> usize
+    requires { Fits book.now out.old task at }
+    ensures { Listed (MaskView book.now) (asked book.now task) taken rest.bounds after at out.old out.new result }
 {
     if task.room <= at {
         return at;

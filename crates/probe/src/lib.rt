@@ -5,7 +5,7 @@ ghost use Rattle.std.specs.Prelude.{◌*◌, ◌≤◌, length};
 ghost use Rattle.sets.specs.Pairs.{minus_of};
 ghost use Rattle.bounds.specs.Singles.{Picked};
 ghost use Rattle.queue.specs.Chains.{Chains};
-ghost use Rattle.probe.specs.Probes.{Opened, Probed, Attempted};
+ghost use Rattle.probe.specs.InBook.{Attempted, Opened, Probed};
 
 use masks::{Bounds, Rules};
 use queue::waiting::{Waiting, Work};
@@ -39,7 +39,7 @@ pub fn pick(rules: &Rules<'_>, live: Waiting, c: Bounds) -> Pair
 
 // One node of the search.
 pub fn visit(book: &Prepared<'_>, w: Work, b: Bounds) -> Node
-    ensures { Opened book.now.rules.words.now book.now.rules.count book.now.ranks.now b result }
+    ensures { Opened book.now b result }
 {
     let index = book.index;
     let rest = queue::propagate(book, w, b);
@@ -66,7 +66,7 @@ pub fn visit(book: &Prepared<'_>, w: Work, b: Bounds) -> Node
 
 // A view within the bounds b, or none; w is what is to be done before the bounds are at rest.
 pub fn probe(book: &Prepared<'_>, w: Work, b: Bounds) -> Option<Pair>
-    ensures { Probed book.now.rules.words.now book.now.rules.count book.now.ranks.now b result }
+    ensures { Probed book.now b result }
 {
     match visit(book, w, b) {
         Node::View(v) => Some(v),
@@ -97,7 +97,7 @@ pub enum Outcome {
 
 // The same search, which visits at most `fuel` nodes.
 pub fn attempt(book: &Prepared<'_>, w: Work, b: Bounds, fuel: u64) -> Outcome
-    ensures { Attempted book.now.rules.words.now book.now.rules.count book.now.ranks.now b result }
+    ensures { Attempted book.now b result }
 {
     if fuel == 0 {
         return Outcome::Stopped;
@@ -123,7 +123,7 @@ pub fn attempt(book: &Prepared<'_>, w: Work, b: Bounds, fuel: u64) -> Outcome
 
 // The same as probe, from shaved bounds.
 pub fn probe_shaved(book: &Prepared<'_>, w: Work, b: Bounds) -> Option<Pair>
-    ensures { Probed book.now.rules.words.now book.now.rules.count book.now.ranks.now b result }
+    ensures { Probed book.now b result }
 {
     let rest = queue::propagate(book, w, b);
     let r = shaving::shaved(book, rest);
@@ -132,7 +132,7 @@ pub fn probe_shaved(book: &Prepared<'_>, w: Work, b: Bounds) -> Option<Pair>
 
 // The same as probe: from shaved bounds where the plain search has used up its fuel.
 pub fn ask(book: &Prepared<'_>, w: Work, b: Bounds) -> Option<Pair>
-    ensures { Probed book.now.rules.words.now book.now.rules.count book.now.ranks.now b result }
+    ensures { Probed book.now b result }
 {
     match attempt(book, w, b, FUEL) {
         Outcome::Has(v) => Some(v),

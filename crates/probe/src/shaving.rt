@@ -1,8 +1,8 @@
 // Shaving: each member that is open in bounds at rest is tried both ways, and what propagation alone refutes is taken away.
 ghost use Rattle.std.specs.Prelude.{◌*◌, ◌≤◌, length};
 ghost use Rattle.sets.specs.Pairs.{Atom};
-ghost use Rattle.bounds.specs.Sound.{Propagated};
 ghost use Rattle.queue.specs.Chains.{Chains};
+ghost use Rattle.queue.specs.InBook.{Propagated};
 
 use bounds::Part;
 use masks::Bounds;
@@ -11,7 +11,7 @@ use sets::Pair;
 
 // From bounds at rest, narrower bounds at rest.
 pub fn settled(book: &Prepared<'_>, rest: Rest, o: Bounds) -> Rest
-    ensures { Propagated book.now.rules.words.now book.now.rules.count book.now.ranks.now o result.bounds }
+    ensures { Propagated book.now o result.bounds }
 {
     let w = index::among(book.index, rest.live, rest.bounds, o);
     queue::propagate(book, w, o)
@@ -20,7 +20,7 @@ pub fn settled(book: &Prepared<'_>, rest: Rest, o: Bounds) -> Rest
 // The bounds with the member m, if it is open, where no view lacks it, without m where no view has it, as far as propagation shows that.
 pub fn tried(book: &Prepared<'_>, rest: Rest, m: Pair) -> Rest
     requires { Atom m }
-    ensures { Propagated book.now.rules.words.now book.now.rules.count book.now.ranks.now rest.bounds result.bounds }
+    ensures { Propagated book.now rest.bounds result.bounds }
 {
     if !sets::within(m, sets::minus(rest.bounds.hi, rest.bounds.lo)) {
         return rest;
@@ -38,7 +38,7 @@ pub fn tried(book: &Prepared<'_>, rest: Rest, m: Pair) -> Rest
 
 // The bounds after each open member has been tried, until nothing is left of them.
 pub fn shaved(book: &Prepared<'_>, rest: Rest) -> Rest
-    ensures { Propagated book.now.rules.words.now book.now.rules.count book.now.ranks.now rest.bounds result.bounds }
+    ensures { Propagated book.now rest.bounds result.bounds }
 {
     let mut r = rest;
     for part in Part::ALL {

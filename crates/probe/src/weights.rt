@@ -140,8 +140,7 @@ pub fn add_rules(t: &mut Weights, rules: &Rules<'_>, from: u64, m: u64, free: Pa
 }
 
 // The heaviest of the members `free`, over the live rules.
-pub fn heaviest(rules: &Rules<'_>, live: Waiting, free: Pair) -> Option<Best>
-{
+pub fn heaviest(rules: &Rules<'_>, live: Waiting, free: Pair) -> Option<Best> {
     let mut t: Weights = [0; 192];
     for (k, &word) in live.words.iter().enumerate() {
         add_rules(&mut t, rules, k as u64 * 64, word, free);

@@ -89,8 +89,7 @@ pub fn put_rule(index: &mut Index, r: Masks, k: u64)
 }
 
 // The heads of the rules that need a conclusion of c.
-pub fn fed(rules: &Rules<'_>, c: Pair) -> Pair
-{
+pub fn fed(rules: &Rules<'_>, c: Pair) -> Pair {
     let mut d = Pair::EMPTY;
     for k in 0..rules.count {
         let r = masks::masks_at(rules.words, k);
@@ -102,8 +101,7 @@ pub fn fed(rules: &Rules<'_>, c: Pair) -> Pair
 }
 
 // Conclusions can need each other in a circle: some are left when those are taken away that need none of the rest.
-pub fn circular(rules: &Rules<'_>) -> bool
-{
+pub fn circular(rules: &Rules<'_>) -> bool {
     let mut c = Pair::of_statements(u64::MAX, u64::MAX);
     for _ in 0..128 {
         let d = sets::meet(c, fed(rules, c));
@@ -116,8 +114,7 @@ pub fn circular(rules: &Rules<'_>) -> bool
 }
 
 // A rule has alternatives.
-pub fn branching(rules: &Rules<'_>) -> bool
-{
+pub fn branching(rules: &Rules<'_>) -> bool {
     heads::simple(rules) < rules.count
 }
 

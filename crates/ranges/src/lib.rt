@@ -2,9 +2,10 @@
 #![tactic(auto)]
 
 ghost use Rattle.std.specs.Prelude.{◌≡◌, true, ◌*◌, ◌<◌, ◌≤◌, length, IfSome};
-ghost use Rattle.bounds.specs.Sound.{Propagated, with_sets};
+ghost use Rattle.bounds.specs.Sound.{with_sets};
 ghost use Rattle.queue.specs.Chains.{Chains};
-ghost use Rattle.ranges.specs.Ranges.{NoView, Wider};
+ghost use Rattle.queue.specs.InBook.{Propagated};
+ghost use Rattle.ranges.specs.InBook.{NoView, Wider};
 
 use bounds::Part;
 use masks::Bounds;
@@ -13,7 +14,7 @@ use queue::{Prepared, Rest, index, waiting};
 
 // Bounds for the views with a set of exceptions from lo to hi, at rest.
 pub fn narrowed(book: &Prepared<'_>, root: Bounds, lo: u64, hi: u64) -> Rest
-    ensures { Propagated book.now.rules.words.now book.now.rules.count book.now.ranks.now (with_sets root lo hi) result.bounds }
+    ensures { Propagated book.now (with_sets root lo hi) result.bounds }
 {
     let b = bounds::with_sets(root, lo, hi);
     queue::propagate(book, index::changed(book.index, root, b), b)
@@ -21,7 +22,7 @@ pub fn narrowed(book: &Prepared<'_>, root: Bounds, lo: u64, hi: u64) -> Rest
 
 // Whether propagation alone shows that no view has a set of exceptions from lo to hi.
 pub fn refuted(book: &Prepared<'_>, root: Bounds, lo: u64, hi: u64) -> bool
-    ensures { result ≡ true → NoView book.now.rules.words.now book.now.rules.count book.now.ranks.now root lo hi }
+    ensures { result ≡ true → NoView book.now root lo hi }
 {
     let rest = narrowed(book, root, lo, hi);
     let b = rest.bounds;
@@ -119,8 +120,7 @@ pub fn first_conflict(book: &Prepared<'_>, rest: Rest, t: u64, end: usize) -> Op
 
 // A range around t from a core: a few of t's decisions that are in conflict already. Each round adds one to the core: one that is in
 // conflict with the core and the decisions at the first places. No contract depends on this: a wrong core costs time, not truth.
-pub fn core_around(book: &Prepared<'_>, root: Bounds, t: u64) -> Range
-{
+pub fn core_around(book: &Prepared<'_>, root: Bounds, t: u64) -> Range {
     let mut s = Range::ALL;
     let mut rest = Rest {
         bounds: root,
@@ -143,7 +143,7 @@ pub fn core_around(book: &Prepared<'_>, root: Bounds, t: u64) -> Range
 
 // A range of sets without a view around one that has none: that from a core, if propagation shows that it has no view.
 pub fn widened(book: &Prepared<'_>, root: Bounds, t: u64) -> Range
-    ensures { Wider book.now.rules.words.now book.now.rules.count book.now.ranks.now root (record { lo = t; hi = t }) result }
+    ensures { Wider book.now root (record { lo = t; hi = t }) result }
 {
     let s = core_around(book, root, t);
     if refuted(book, root, s.lo, s.hi) {
@@ -154,7 +154,7 @@ pub fn widened(book: &Prepared<'_>, root: Bounds, t: u64) -> Range
 
 // Whether shaving shows that no view has a set of exceptions of the range.
 pub fn barren(book: &Prepared<'_>, root: Bounds, s: Range) -> bool
-    ensures { result ≡ true → NoView book.now.rules.words.now book.now.rules.count book.now.ranks.now root s.lo s.hi }
+    ensures { result ≡ true → NoView book.now root s.lo s.hi }
 {
     let rest = narrowed(book, root, s.lo, s.hi);
     let shaved = shaving::shaved(book, rest);
@@ -165,7 +165,7 @@ pub fn barren(book: &Prepared<'_>, root: Bounds, s: Range) -> bool
 // The range s where the exception at place e may be taken or not, if shaving shows that this has no view either; else s itself.
 pub fn freed(book: &Prepared<'_>, root: Bounds, s: Range, e: u64) -> Range
     requires { e < 64 }
-    ensures { Wider book.now.rules.words.now book.now.rules.count book.now.ranks.now root s result }
+    ensures { Wider book.now root s result }
 {
     let bit = 1 << e;
     let wide = Range {
@@ -180,7 +180,7 @@ pub fn freed(book: &Prepared<'_>, root: Bounds, s: Range, e: u64) -> Range
 
 // The range s after each exception has been freed in it, as far as shaving shows that no view is lost.
 pub fn all_freed(book: &Prepared<'_>, root: Bounds, s: Range) -> Range
-    ensures { Wider book.now.rules.words.now book.now.rules.count book.now.ranks.now root s result }
+    ensures { Wider book.now root s result }
 {
     let mut r = s;
     for e in 0..book.ranks.len() {
@@ -192,7 +192,7 @@ pub fn all_freed(book: &Prepared<'_>, root: Bounds, s: Range) -> Range
 // A range of sets without a view around one that has none, by shaving: all sets if shaving shows that there is no view at all; else, where shaving alone shows
 // that t has none, t with each exception freed as far as that goes.
 pub fn shaven(book: &Prepared<'_>, root: Bounds, t: u64) -> Range
-    ensures { Wider book.now.rules.words.now book.now.rules.count book.now.ranks.now root (record { lo = t; hi = t }) result }
+    ensures { Wider book.now root (record { lo = t; hi = t }) result }
 {
     if barren(book, root, Range::ALL) {
         return Range::ALL;

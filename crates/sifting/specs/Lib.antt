@@ -1,1 +1,2 @@
 pub mod Sifted
+pub mod InBook

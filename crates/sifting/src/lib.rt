@@ -2,14 +2,15 @@
 // views which a remembered one dominates are passed over many at a time; a view that is left is asked whether it stands.
 #![tactic(auto)]
 
-ghost use Rattle.std.specs.Prelude.{◌+◌, ◌-◌, ◌*◌, ◌<◌, ◌≤◌, length};
+ghost use Rattle.std.specs.Prelude.{◌-◌, ◌<◌};
 ghost use Rattle.bounds.specs.Sound.{Keeps};
 ghost use Rattle.queue.specs.Chains.{Chains};
 ghost use Rattle.page.specs.Orders.{number};
-ghost use Rattle.page.specs.Sought.{sought};
-ghost use Rattle.page.specs.Pages.{Fits, Ready, Settled, TriedOne};
-ghost use Rattle.standing.specs.Standing.{Right, StandingView};
-ghost use Rattle.sifting.specs.Sifted.{Sifts, AllSifted};
+ghost use Rattle.page.specs.Pages.{Settled, TriedOne};
+ghost use Rattle.page.specs.InBook.{Fits, Ready, asked};
+ghost use Rattle.sifting.specs.InBook.{AllSifted, Sifts};
+ghost use Rattle.standing.specs.InBook.{Right, StandingView};
+ghost use Rattle.masks.specs.OfRules.{HasLines};
 
 use masks::Bounds;
 use page::{Node, Place, Task, Value};
@@ -17,9 +18,17 @@ use queue::{Prepared, Rest};
 use standing::memory::Memory;
 
 // Every statement is settled: the pair is put on the page if it is a view that stands and not the point itself.
-pub fn finish(book: &Prepared<'_>, root: Bounds, task: Task, node: Node, memory: &mut Memory, out: &mut [u64], place: Place) -> Place
-    requires { Fits book.now.rules.words.now book.now.ranks.now out.old (sought book.now.rules.count task) place.at × (place.at < task.room) × ((book.now.rules.count + 32) * 8 ≤ length book.now.rules.words.now) }
-    ensures { Sifts book.now.rules.words.now book.now.ranks.now root (sought book.now.rules.count task) memory.old memory.new result.at (Settled (StandingView book.now.rules.words.now book.now.rules.count book.now.ranks.now root) (sought book.now.rules.count task) 0 node place.at out.old out.new result.at) }
+pub fn finish(
+    book: &Prepared<'_>,
+    root: Bounds,
+    task: Task,
+    node: Node,
+    memory: &mut Memory,
+    out: &mut [u64],
+    place: Place,
+) -> Place
+    requires { Fits book.now out.old task place.at × (place.at < task.room) × HasLines book.now.rules }
+    ensures { Sifts book.now root task memory.old memory.new result.at (Settled (StandingView book.now root) (asked book.now task) 0 node place.at out.old out.new result.at) }
 {
     if node.equal {
         return place;
@@ -36,8 +45,8 @@ pub fn finish(book: &Prepared<'_>, root: Bounds, task: Task, node: Node, memory:
 
 // The bounds of a node without views that a remembered view dominates, unless they are those it came from.
 pub fn lessened(book: &Prepared<'_>, from: Bounds, node: Node, memory: &Memory) -> Rest
-    requires { (book.now.rules.count + 32) * 8 ≤ length book.now.rules.words.now }
-    ensures { (root : _) → Right book.now.rules.words.now book.now.rules.count book.now.ranks.now root memory.now → Keeps (StandingView book.now.rules.words.now book.now.rules.count book.now.ranks.now root) node.bounds result.bounds }
+    requires { HasLines book.now.rules }
+    ensures { (root : _) → Right book.now root memory.now → Keeps (StandingView book.now root) node.bounds result.bounds }
 {
     let b = node.bounds;
     let live = node.live;
@@ -52,9 +61,18 @@ pub fn lessened(book: &Prepared<'_>, from: Bounds, node: Node, memory: &Memory) 
 // Kept: one function for this and `page::settle` would take a trait for the property, the memory, the last test and the narrowing, of which `page` needs
 // the test alone; `page::settle` besides passes over settled statements.
 #[cycle(settle_try_value)]
-pub fn settle(book: &Prepared<'_>, root: Bounds, task: Task, left: u64, node: Node, memory: &mut Memory, out: &mut [u64], place: Place) -> Place
-    requires { Ready book.now.rules.words.now book.now.ranks.now out.old (sought book.now.rules.count task) left place.at × (place.at < task.room) × ((book.now.rules.count + 32) * 8 ≤ length book.now.rules.words.now) }
-    ensures { Sifts book.now.rules.words.now book.now.ranks.now root (sought book.now.rules.count task) memory.old memory.new result.at (Settled (StandingView book.now.rules.words.now book.now.rules.count book.now.ranks.now root) (sought book.now.rules.count task) left node place.at out.old out.new result.at) }
+pub fn settle(
+    book: &Prepared<'_>,
+    root: Bounds,
+    task: Task,
+    left: u64,
+    node: Node,
+    memory: &mut Memory,
+    out: &mut [u64],
+    place: Place,
+) -> Place
+    requires { Ready book.now out.old task left place.at × (place.at < task.room) × HasLines book.now.rules }
+    ensures { Sifts book.now root task memory.old memory.new result.at (Settled (StandingView book.now root) (asked book.now task) left node place.at out.old out.new result.at) }
 {
     if left == 0 {
         return finish(book, root, task, node, memory, out, place);
@@ -68,9 +86,19 @@ pub fn settle(book: &Prepared<'_>, root: Bounds, task: Task, left: u64, node: No
 
 // Tries a value of the first statement left. What a branch takes on the stack is here, once for each statement.
 #[cycle(settle_try_value)]
-pub fn try_value(book: &Prepared<'_>, root: Bounds, task: Task, left: u64, value: Value, node: Node, memory: &mut Memory, out: &mut [u64], place: Place) -> Place
-    requires { Ready book.now.rules.words.now book.now.ranks.now out.old (sought book.now.rules.count task) left place.at × (0 < left) × ((book.now.rules.count + 32) * 8 ≤ length book.now.rules.words.now) }
-    ensures { Sifts book.now.rules.words.now book.now.ranks.now root (sought book.now.rules.count task) memory.old memory.new result.at (TriedOne (StandingView book.now.rules.words.now book.now.rules.count book.now.ranks.now root) (sought book.now.rules.count task) (left - 1) (number value) node place.at out.old out.new result.at) }
+pub fn try_value(
+    book: &Prepared<'_>,
+    root: Bounds,
+    task: Task,
+    left: u64,
+    value: Value,
+    node: Node,
+    memory: &mut Memory,
+    out: &mut [u64],
+    place: Place,
+) -> Place
+    requires { Ready book.now out.old task left place.at × (0 < left) × HasLines book.now.rules }
+    ensures { Sifts book.now root task memory.old memory.new result.at (TriedOne (StandingView book.now root) (asked book.now task) (left - 1) (number value) node place.at out.old out.new result.at) }
 {
     if task.room <= place.at {
         return place;
@@ -96,15 +124,24 @@ pub fn try_value(book: &Prepared<'_>, root: Bounds, task: Task, left: u64, value
 
 // Puts all views with the set t that stand on the page from place `at` on, in the order of pairs until it is full; where `after` is true only those later than
 // the task's point. None of the views with that set may be beyond the bounds at rest. Answers the place after them.
-pub fn list_standing(book: &Prepared<'_>, root: Bounds, task: Task, t: u64, rest: Rest, after: bool, memory: &mut Memory, out: &mut [u64], at: usize) -> usize
-    requires { Fits book.now.rules.words.now book.now.ranks.now out.old (sought book.now.rules.count task) at × ((book.now.rules.count + 32) * 8 ≤ length book.now.rules.words.now) }
-    ensures { AllSifted book.now.rules.words.now book.now.ranks.now root (sought book.now.rules.count task) t rest.bounds after at memory.old memory.new out.old out.new result }
+pub fn list_standing(
+    book: &Prepared<'_>,
+    root: Bounds,
+    task: Task,
+    t: u64,
+    rest: Rest,
+    after: bool,
+    memory: &mut Memory,
+    out: &mut [u64],
+    at: usize,
+) -> usize
+    requires { Fits book.now out.old task at × HasLines book.now.rules }
+    ensures { AllSifted book.now root task t rest.bounds after at memory.old memory.new out.old out.new result }
 {
     if task.room <= at {
         return at;
     }
     let node = page::start(t, rest, after);
     let place = Place { at, dry: 0 };
-    settle(book, root, task, task.statements, node, memory, out, place)
-    .at
+    settle(book, root, task, task.statements, node, memory, out, place).at
 }

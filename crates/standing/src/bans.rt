@@ -1,12 +1,15 @@
 // Bounds without pairs that a remembered view dominates: sound steps on bounds, as those of crate bounds are.
-ghost use Rattle.std.specs.Prelude.{◌≡◌, true, ◌+◌, ◌*◌, ◌<◌, ◌≤◌, length};
+ghost use Rattle.std.specs.Prelude.{◌≡◌, true, ◌<◌, ◌≤◌, length};
 ghost use Rattle.bounds.specs.Sound.{In, Keeps};
 ghost use Rattle.masks.specs.declared.Bounds.{Bounds as BoundsOf};
 ghost use Rattle.sets.specs.declared.Pair.{Pair as PairOf};
-ghost use Rattle.masks.specs.Views.{MaskView};
 ghost use Rattle.queue.specs.Chains.{Chains};
-ghost use Rattle.admissible.specs.Admissible.{Stands};
-ghost use Rattle.standing.specs.Standing.{Right, Failing, ShutAt, Shut, Spared, StandingView, Unbanned};
+ghost use Rattle.admissible.specs.Admissible.{Stands as StandsOf};
+ghost use Rattle.standing.specs.Standing.{Right as RightOf, Failing, ShutAt, Shut, Spared};
+ghost use Rattle.admissible.specs.InBook.{Stands};
+ghost use Rattle.queue.specs.InBook.{MaskView};
+ghost use Rattle.standing.specs.InBook.{Right, StandingView, Unbanned};
+ghost use Rattle.masks.specs.OfRules.{HasLines};
 
 use crate::memory::Memory;
 use masks::{Bounds, Masks, Rules};
@@ -26,7 +29,7 @@ pub fn fails_body(r: Masks, b: Bounds) -> Bounds
 
 // Line j does not count, if it is one of m and leads from a member of s to one of t.
 pub fn shut_at(rules: &Rules<'_>, m: u64, s: u64, t: u64, j: usize, b: Bounds) -> Bounds
-    requires { ((rules.now.count + 32) * 8 ≤ length rules.now.words.now) × (j < 32) }
+    requires { HasLines rules.now × (j < 32) }
     ensures { Keeps (ShutAt rules.now.words.now rules.now.count m s t j) b result }
 {
     if (m >> (j as u64)) % 2 == 0 {
@@ -41,7 +44,7 @@ pub fn shut_at(rules: &Rules<'_>, m: u64, s: u64, t: u64, j: usize, b: Bounds) -
 
 // No line of m that leads from a member of s to one of t counts.
 pub fn shut(rules: &Rules<'_>, m: u64, s: u64, t: u64, b: Bounds) -> Bounds
-    requires { (rules.now.count + 32) * 8 ≤ length rules.now.words.now }
+    requires { HasLines rules.now }
     ensures { Keeps (Shut rules.now.words.now rules.now.count m s t) b result }
 {
     let mut o = b;
@@ -53,8 +56,16 @@ pub fn shut(rules: &Rules<'_>, m: u64, s: u64, t: u64, b: Bounds) -> Bounds
 
 // The bounds without pairs that the ban bars. The lines of `sure` count within them, those of `may` perhaps: what sure lines of the ban lead to is
 // not taken, and no line of the ban leads from there to what is surely taken.
-pub fn by_ban(rules: &Rules<'_>, ranks: &[u64], taken: u64, lines: u64, sure: u64, may: u64, b: Bounds) -> Bounds
-    requires { ((rules.now.count + 32) * 8 ≤ length rules.now.words.now) × (length ranks.now ≤ 64) }
+pub fn by_ban(
+    rules: &Rules<'_>,
+    ranks: &[u64],
+    taken: u64,
+    lines: u64,
+    sure: u64,
+    may: u64,
+    b: Bounds,
+) -> Bounds
+    requires { HasLines rules.now × (length ranks.now ≤ 64) }
     ensures { Keeps (Spared rules.now.words.now rules.now.count ranks.now sure taken lines) b result }
 {
     if taken == 0 {
@@ -78,8 +89,8 @@ pub fn by_ban(rules: &Rules<'_>, ranks: &[u64], taken: u64, lines: u64, sure: u6
 
 // The bounds without pairs that a remembered view dominates.
 pub fn by_bans(rules: &Rules<'_>, ranks: &[u64], mem: &Memory, b: Bounds) -> Bounds
-    requires { ((rules.now.count + 32) * 8 ≤ length rules.now.words.now) × (length ranks.now ≤ 64) }
-    ensures { (root : BoundsOf) → Right rules.now.words.now rules.now.count ranks.now root mem.now → Keeps (Stands rules.now.words.now rules.now.count ranks.now root) b result }
+    requires { HasLines rules.now × (length ranks.now ≤ 64) }
+    ensures { (root : BoundsOf) → RightOf rules.now.words.now rules.now.count ranks.now root mem.now → Keeps (StandsOf rules.now.words.now rules.now.count ranks.now root) b result }
 {
     if mem.next_ban == 0 {
         return b;
@@ -101,8 +112,8 @@ const ROUNDS: u64 = 4;
 
 // Bounds at rest, narrowed by bans and rules in turn.
 pub fn in_turn(book: &Prepared<'_>, rest: Rest, mem: &Memory) -> Rest
-    requires { (book.now.rules.count + 32) * 8 ≤ length book.now.rules.words.now }
-    ensures { (root : BoundsOf) → Right book.now.rules.words.now book.now.rules.count book.now.ranks.now root mem.now → Keeps (StandingView book.now.rules.words.now book.now.rules.count book.now.ranks.now root) rest.bounds result.bounds }
+    requires { HasLines book.now.rules }
+    ensures { (root : BoundsOf) → Right book.now root mem.now → Keeps (StandingView book.now root) rest.bounds result.bounds }
 {
     let mut r = rest;
     for _ in 0..ROUNDS {
@@ -122,8 +133,8 @@ pub fn in_turn(book: &Prepared<'_>, rest: Rest, mem: &Memory) -> Rest
 
 // Bounds at rest without views that a remembered view dominates; no wider than they were.
 pub fn unbanned(book: &Prepared<'_>, rest: Rest, mem: &Memory) -> Rest
-    requires { (book.now.rules.count + 32) * 8 ≤ length book.now.rules.words.now }
-    ensures { Unbanned book.now.rules.words.now book.now.rules.count book.now.ranks.now mem.now rest.bounds result.bounds }
+    requires { HasLines book.now.rules }
+    ensures { Unbanned book.now mem.now rest.bounds result.bounds }
 {
     let r = in_turn(book, rest, mem);
     let live = r.live;
@@ -135,8 +146,8 @@ pub fn unbanned(book: &Prepared<'_>, rest: Rest, mem: &Memory) -> Rest
 
 // Remembered views dominate every view within bounds at rest.
 pub fn barred(book: &Prepared<'_>, rest: Rest, mem: &Memory) -> bool
-    requires { (book.now.rules.count + 32) * 8 ≤ length book.now.rules.words.now }
-    ensures { (root : BoundsOf) → Right book.now.rules.words.now book.now.rules.count book.now.ranks.now root mem.now → result ≡ true → (v : PairOf) → MaskView book.now.rules.words.now book.now.rules.count book.now.ranks.now v → In rest.bounds v → Stands book.now.rules.words.now book.now.rules.count book.now.ranks.now root v → ⊥ }
+    requires { HasLines book.now.rules }
+    ensures { (root : BoundsOf) → Right book.now root mem.now → result ≡ true → (v : PairOf) → MaskView book.now v → In rest.bounds v → Stands book.now root v → ⊥ }
 {
     let r = unbanned(book, rest, mem);
     !sets::within(r.bounds.lo, r.bounds.hi)

@@ -1,11 +1,13 @@
 // Which pairs stand: those that no view dominates. What was found is remembered, since many pairs fall to one and the same view.
 #![tactic(auto)]
 
-ghost use Rattle.std.specs.Prelude.{◌+◌, ◌*◌, ◌<◌, ◌≤◌, length};
+ghost use Rattle.std.specs.Prelude.{◌<◌};
 ghost use Rattle.logic.specs.Tests.{Decides};
 ghost use Rattle.queue.specs.Chains.{Chains};
-ghost use Rattle.admissible.specs.Admissible.{Stands, Unexceeded};
-ghost use Rattle.standing.specs.Standing.{Ranked, Right, Searched, StandingIn, AttemptedIn, UnexceededAt, UnexceededIn};
+ghost use Rattle.standing.specs.Standing.{Ranked};
+ghost use Rattle.admissible.specs.InBook.{Stands, Unexceeded};
+ghost use Rattle.standing.specs.InBook.{AttemptedIn, Right, Searched, StandingIn, UnexceededAt, UnexceededIn};
+ghost use Rattle.masks.specs.OfRules.{HasLines};
 
 use crate::memory::Memory;
 use masks::{Bounds, Rules};
@@ -20,7 +22,7 @@ pub mod splitting;
 
 // The lines whose steps rank in the pair: those that count in it, and those that are the same step as one of these.
 pub fn ranking(rules: &Rules<'_>, v: Pair) -> u64
-    requires { (rules.now.count + 32) * 8 ≤ length rules.now.words.now }
+    requires { HasLines rules.now }
     ensures { Ranked rules.now.words.now rules.now.count v result }
 {
     masks::lines::mates(rules, masks::lines::lines_in(rules, v, v))
@@ -28,8 +30,8 @@ pub fn ranking(rules: &Rules<'_>, v: Pair) -> u64
 
 // No view within root leads to a member of `taken` by lines of u that count in it. What is found is remembered.
 pub fn undominated(book: &Prepared<'_>, root: Bounds, mem: &mut Memory, taken: u64, u: u64) -> bool
-    requires { (book.now.rules.count + 32) * 8 ≤ length book.now.rules.words.now }
-    ensures { Searched book.now.rules.words.now book.now.rules.count book.now.ranks.now root taken u mem.old mem.new result }
+    requires { HasLines book.now.rules }
+    ensures { Searched book.now root taken u mem.old mem.new result }
 {
     let rest = Rest {
         bounds: root,
@@ -49,8 +51,8 @@ pub fn undominated(book: &Prepared<'_>, root: Bounds, mem: &mut Memory, taken: u
 
 // No view within root dominates the pair. The bounds root should be at rest.
 pub fn stands(book: &Prepared<'_>, root: Bounds, mem: &mut Memory, v: Pair) -> bool
-    requires { (book.now.rules.count + 32) * 8 ≤ length book.now.rules.words.now }
-    ensures { Right book.now.rules.words.now book.now.rules.count book.now.ranks.now root mem.old → Right book.now.rules.words.now book.now.rules.count book.now.ranks.now root mem.new × Decides result (Stands book.now.rules.words.now book.now.rules.count book.now.ranks.now root v) }
+    requires { HasLines book.now.rules }
+    ensures { Right book.now root mem.old → Right book.now root mem.new × Decides result (Stands book.now root v) }
 {
     let taken = v.taken;
     let m = masks::lines::lines_in(&book.rules, v, v);
@@ -67,8 +69,8 @@ pub fn stands(book: &Prepared<'_>, root: Bounds, mem: &mut Memory, v: Pair) -> b
 // A view within the bounds b stands; w is what is to be done before the bounds are at rest. As probe::probe, but bans narrow the bounds of each node, what
 // lines ask is decided first, and a view that is found is asked whether it stands.
 pub fn search(book: &Prepared<'_>, root: Bounds, w: Work, b: Bounds, mem: &mut Memory) -> bool
-    requires { (book.now.rules.count + 32) * 8 ≤ length book.now.rules.words.now }
-    ensures { Right book.now.rules.words.now book.now.rules.count book.now.ranks.now root mem.old → Right book.now.rules.words.now book.now.rules.count book.now.ranks.now root mem.new × StandingIn book.now.rules.words.now book.now.rules.count book.now.ranks.now root b result }
+    requires { HasLines book.now.rules }
+    ensures { Right book.now root mem.old → Right book.now root mem.new × StandingIn book.now root b result }
 {
     let x = probe::visit(book, w, b);
     match x {
@@ -98,9 +100,16 @@ const FUEL: u64 = 256;
 
 // The same search, which visits at most `fuel` nodes.
 // Kept: one function for this and `search` would make the fuel an Option, and `search` would have an answer `Stopped` that never comes.
-pub fn attempt(book: &Prepared<'_>, root: Bounds, w: Work, b: Bounds, mem: &mut Memory, fuel: u64) -> Outcome
-    requires { (book.now.rules.count + 32) * 8 ≤ length book.now.rules.words.now }
-    ensures { Right book.now.rules.words.now book.now.rules.count book.now.ranks.now root mem.old → Right book.now.rules.words.now book.now.rules.count book.now.ranks.now root mem.new × AttemptedIn book.now.rules.words.now book.now.rules.count book.now.ranks.now root b result }
+pub fn attempt(
+    book: &Prepared<'_>,
+    root: Bounds,
+    w: Work,
+    b: Bounds,
+    mem: &mut Memory,
+    fuel: u64,
+) -> Outcome
+    requires { HasLines book.now.rules }
+    ensures { Right book.now root mem.old → Right book.now root mem.new × AttemptedIn book.now root b result }
 {
     if fuel == 0 {
         return Outcome::Stopped;
@@ -138,9 +147,15 @@ pub fn attempt(book: &Prepared<'_>, root: Bounds, w: Work, b: Bounds, mem: &mut 
 }
 
 // The same as search, from shaved bounds.
-pub fn search_shaved(book: &Prepared<'_>, root: Bounds, w: Work, b: Bounds, mem: &mut Memory) -> bool
-    requires { (book.now.rules.count + 32) * 8 ≤ length book.now.rules.words.now }
-    ensures { Right book.now.rules.words.now book.now.rules.count book.now.ranks.now root mem.old → Right book.now.rules.words.now book.now.rules.count book.now.ranks.now root mem.new × StandingIn book.now.rules.words.now book.now.rules.count book.now.ranks.now root b result }
+pub fn search_shaved(
+    book: &Prepared<'_>,
+    root: Bounds,
+    w: Work,
+    b: Bounds,
+    mem: &mut Memory,
+) -> bool
+    requires { HasLines book.now.rules }
+    ensures { Right book.now root mem.old → Right book.now root mem.new × StandingIn book.now root b result }
 {
     let rest = queue::propagate(book, w, b);
     let r = probe::shaving::shaved(book, rest);
@@ -149,8 +164,8 @@ pub fn search_shaved(book: &Prepared<'_>, root: Bounds, w: Work, b: Bounds, mem:
 
 // The same as search: from shaved bounds where the plain search has used up its fuel.
 pub fn standing(book: &Prepared<'_>, root: Bounds, w: Work, b: Bounds, mem: &mut Memory) -> bool
-    requires { (book.now.rules.count + 32) * 8 ≤ length book.now.rules.words.now }
-    ensures { Right book.now.rules.words.now book.now.rules.count book.now.ranks.now root mem.old → Right book.now.rules.words.now book.now.rules.count book.now.ranks.now root mem.new × StandingIn book.now.rules.words.now book.now.rules.count book.now.ranks.now root b result }
+    requires { HasLines book.now.rules }
+    ensures { Right book.now root mem.old → Right book.now root mem.new × StandingIn book.now root b result }
 {
     let a = attempt(book, root, w, b, mem, FUEL);
     match a {
@@ -161,9 +176,16 @@ pub fn standing(book: &Prepared<'_>, root: Bounds, w: Work, b: Bounds, mem: &mut
 }
 
 // No view within bounds at rest that stands has a subset of `taken` that lacks its exception at place e.
-pub fn unexceeded_at(book: &Prepared<'_>, root: Bounds, rest: Rest, mem: &mut Memory, taken: u64, e: u64) -> bool
-    requires { ((book.now.rules.count + 32) * 8 ≤ length book.now.rules.words.now) × (e < 64) }
-    ensures { Right book.now.rules.words.now book.now.rules.count book.now.ranks.now root mem.old → Right book.now.rules.words.now book.now.rules.count book.now.ranks.now root mem.new × Decides result (UnexceededAt book.now.rules.words.now book.now.rules.count book.now.ranks.now root rest.bounds taken e) }
+pub fn unexceeded_at(
+    book: &Prepared<'_>,
+    root: Bounds,
+    rest: Rest,
+    mem: &mut Memory,
+    taken: u64,
+    e: u64,
+) -> bool
+    requires { HasLines book.now.rules × (e < 64) }
+    ensures { Right book.now root mem.old → Right book.now root mem.new × Decides result (UnexceededAt book.now root rest.bounds taken e) }
 {
     if (taken >> e) % 2 == 0 {
         return true;
@@ -179,9 +201,15 @@ pub fn unexceeded_at(book: &Prepared<'_>, root: Bounds, rest: Rest, mem: &mut Me
 
 // No view within bounds at rest that stands has a proper subset of `taken`: for each member there is none without it.
 // Kept: one function for this and `admissible::each_needed` would take a closure that changes the memory, with a `requires` of its own.
-pub fn each_needed(book: &Prepared<'_>, root: Bounds, rest: Rest, mem: &mut Memory, taken: u64) -> bool
-    requires { (book.now.rules.count + 32) * 8 ≤ length book.now.rules.words.now }
-    ensures { Right book.now.rules.words.now book.now.rules.count book.now.ranks.now root mem.old → Right book.now.rules.words.now book.now.rules.count book.now.ranks.now root mem.new × Decides result (UnexceededIn book.now.rules.words.now book.now.rules.count book.now.ranks.now root rest.bounds taken) }
+pub fn each_needed(
+    book: &Prepared<'_>,
+    root: Bounds,
+    rest: Rest,
+    mem: &mut Memory,
+    taken: u64,
+) -> bool
+    requires { HasLines book.now.rules }
+    ensures { Right book.now root mem.old → Right book.now root mem.new × Decides result (UnexceededIn book.now root rest.bounds taken) }
 {
     for e in 0..64 {
         if !unexceeded_at(book, root, rest, mem, taken, e) {
@@ -193,8 +221,8 @@ pub fn each_needed(book: &Prepared<'_>, root: Bounds, rest: Rest, mem: &mut Memo
 
 // No view within root that stands has a proper subset of `taken`. What all subsets have in common is found first, once for all members.
 pub fn unexceeded(book: &Prepared<'_>, root: Bounds, mem: &mut Memory, taken: u64) -> bool
-    requires { (book.now.rules.count + 32) * 8 ≤ length book.now.rules.words.now }
-    ensures { Right book.now.rules.words.now book.now.rules.count book.now.ranks.now root mem.old → Right book.now.rules.words.now book.now.rules.count book.now.ranks.now root mem.new × Decides result (Unexceeded book.now.rules.words.now book.now.rules.count book.now.ranks.now root taken) }
+    requires { HasLines book.now.rules }
+    ensures { Right book.now root mem.old → Right book.now root mem.new × Decides result (Unexceeded book.now root taken) }
 {
     let b = bounds::with_sets(root, 0, taken);
     let rest = queue::propagate(book, index::changed(book.index, root, b), b);

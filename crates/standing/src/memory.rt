@@ -1,8 +1,9 @@
 // What is remembered while it is asked of many pairs whether they stand. Which rows give way to new ones, no contract depends on.
-ghost use Rattle.std.specs.Prelude.{◌≡◌, true, ℕ, List, ◌+◌, ◌*◌, ◌<◌, ◌≤◌, length};
+ghost use Rattle.std.specs.Prelude.{◌≡◌, true, ℕ, List, ◌<◌, ◌≤◌, length};
 ghost use Rattle.logic.specs.Tests.{Decides};
 ghost use Rattle.masks.specs.declared.Bounds.{Bounds as BoundsOf};
 ghost use Rattle.standing.specs.Standing.{Right, Put, Banned, Freed, FreeRow, KnownFree, Crosses, KnownBarred};
+ghost use Rattle.masks.specs.OfRules.{HasLines};
 
 use masks::Rules;
 
@@ -86,7 +87,7 @@ pub fn known_free(mem: &Memory, taken: u64, lines: u64) -> bool
 
 // Steps of lines of m lead from a member of t to one of s.
 pub fn crosses(rules: &Rules<'_>, ranks: &[u64], m: u64, t: u64, s: u64) -> bool
-    requires { ((rules.now.count + 32) * 8 ≤ length rules.now.words.now) × (length ranks.now ≤ 64) }
+    requires { HasLines rules.now × (length ranks.now ≤ 64) }
     ensures { Decides result (Crosses rules.now.words.now rules.now.count ranks.now m t s) }
 {
     t != 0 && masks::lines::reach(rules, ranks, m, t) & s != 0
@@ -94,7 +95,7 @@ pub fn crosses(rules: &Rules<'_>, ranks: &[u64], m: u64, t: u64, s: u64) -> bool
 
 // Lines of m that some ban has lead from one of its exceptions to a member of s.
 pub fn known_barred(rules: &Rules<'_>, ranks: &[u64], mem: &Memory, m: u64, s: u64) -> bool
-    requires { ((rules.now.count + 32) * 8 ≤ length rules.now.words.now) × (length ranks.now ≤ 64) }
+    requires { HasLines rules.now × (length ranks.now ≤ 64) }
     ensures { result ≡ true → KnownBarred rules.now.words.now rules.now.count ranks.now mem.now m s }
 {
     for row in &mem.bans {

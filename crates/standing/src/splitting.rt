@@ -1,13 +1,14 @@
 // Which member to split bounds by: one that the body of an open line asks for, since what counts then decides who dominates whom.
-ghost use Rattle.std.specs.Prelude.{◌+◌, ◌*◌, ◌<◌, ◌≤◌, length};
+ghost use Rattle.std.specs.Prelude.{◌<◌};
 ghost use Rattle.standing.specs.Standing.{Split};
+ghost use Rattle.masks.specs.OfRules.{HasLines};
 
 use masks::{Bounds, Rules, lines};
 use sets::Pair;
 
 // The pair x with the entries of line j, if that is one of m. No contract depends on this.
 pub fn with_entries(rules: &Rules<'_>, m: u64, j: usize, x: Pair) -> Pair
-    requires { ((rules.now.count + 32) * 8 ≤ length rules.now.words.now) × (j < 32) }
+    requires { HasLines rules.now × (j < 32) }
 {
     if (m >> (j as u64)) % 2 == 0 {
         return x;
@@ -18,7 +19,7 @@ pub fn with_entries(rules: &Rules<'_>, m: u64, j: usize, x: Pair) -> Pair
 
 // The entries of the lines of m. No contract depends on this.
 pub fn entries(rules: &Rules<'_>, m: u64) -> Pair
-    requires { (rules.now.count + 32) * 8 ≤ length rules.now.words.now }
+    requires { HasLines rules.now }
 {
     let mut x = Pair::EMPTY;
     for j in 0..lines::LINES {
@@ -29,7 +30,7 @@ pub fn entries(rules: &Rules<'_>, m: u64) -> Pair
 
 // A member that is open in the bounds and that an open line asks for; m if there is none.
 pub fn asked(rules: &Rules<'_>, b: Bounds, m: Pair) -> Pair
-    requires { (rules.now.count + 32) * 8 ≤ length rules.now.words.now }
+    requires { HasLines rules.now }
     ensures { Split b m result }
 {
     let lo = b.lo;

@@ -1,1 +1,2 @@
 pub mod Superiors
+pub mod InBook

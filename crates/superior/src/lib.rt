@@ -1,20 +1,22 @@
 // A view that dominates, found by the lines that it may use.
 #![tactic(auto)]
 
-ghost use Rattle.std.specs.Prelude.{◌+◌, ◌*◌, ◌<◌, ◌≤◌, length};
+ghost use Rattle.std.specs.Prelude.{◌<◌, ◌≤◌, length};
 ghost use Rattle.logic.specs.Tests.{Decides};
 ghost use Rattle.masks.specs.Steps.{Chosen};
 ghost use Rattle.queue.specs.Chains.{Chains};
-ghost use Rattle.superior.specs.Superiors.{Source, Taking, TakingAt, Left, Assumed, Hopeless, Picks, Superior};
+ghost use Rattle.superior.specs.Superiors.{Source, Picks};
+ghost use Rattle.superior.specs.InBook.{Assumed, Hopeless, Left, Superior, Taking, TakingAt};
+ghost use Rattle.masks.specs.OfRules.{HasLines};
 
-use masks::Rules;
 use bounds::Part;
+use masks::Rules;
 use queue::{Prepared, Rest, index, waiting};
 use sets::Pair;
 
 // Exception a is one of `among`, and the lines of m lead from it to a member of t.
 pub fn source_at(rules: &Rules<'_>, ranks: &[u64], m: u64, among: u64, t: u64, a: u64) -> bool
-    requires { ((rules.now.count + 32) * 8 ≤ length rules.now.words.now) × (length ranks.now ≤ 64) × (a < 64) }
+    requires { HasLines rules.now × (length ranks.now ≤ 64) × (a < 64) }
     ensures { Decides result (Source rules.now.words.now rules.now.count ranks.now m among t a) }
 {
     (among >> a) % 2 != 0 && masks::lines::reach(rules, ranks, m, 1 << a) & t != 0
@@ -22,7 +24,7 @@ pub fn source_at(rules: &Rules<'_>, ranks: &[u64], m: u64, among: u64, t: u64, a
 
 // The exceptions of `among` from which the lines of m lead to a member of t.
 pub fn sources(rules: &Rules<'_>, ranks: &[u64], m: u64, among: u64, t: u64) -> u64
-    requires { ((rules.now.count + 32) * 8 ≤ length rules.now.words.now) × (length ranks.now ≤ 64) }
+    requires { HasLines rules.now × (length ranks.now ≤ 64) }
     ensures { Chosen (Source rules.now.words.now rules.now.count ranks.now m among t) 64 result }
 {
     masks::lines::passing(64, |a| source_at(rules, ranks, m, among, t, a as u64))
@@ -31,7 +33,7 @@ pub fn sources(rules: &Rules<'_>, ranks: &[u64], m: u64, among: u64, t: u64) -> 
 // A view within the bounds that takes exception a, if it is one of s.
 pub fn taking_at(book: &Prepared<'_>, rest: Rest, s: u64, a: u64) -> Option<Pair>
     requires { a < 64 }
-    ensures { TakingAt book.now.rules.words.now book.now.rules.count book.now.ranks.now rest.bounds s a result }
+    ensures { TakingAt book.now rest.bounds s a result }
 {
     if (s >> a) % 2 == 0 {
         return None;
@@ -44,7 +46,7 @@ pub fn taking_at(book: &Prepared<'_>, rest: Rest, s: u64, a: u64) -> Option<Pair
 
 // A view within the bounds that takes one of the exceptions of s, or none.
 pub fn taking(book: &Prepared<'_>, rest: Rest, s: u64) -> Option<Pair>
-    ensures { Taking book.now.rules.words.now book.now.rules.count book.now.ranks.now rest.bounds s 64 result }
+    ensures { Taking book.now rest.bounds s 64 result }
 {
     for a in 0..64 {
         if let Some(v) = taking_at(book, rest, s, a) {
@@ -56,7 +58,7 @@ pub fn taking(book: &Prepared<'_>, rest: Rest, s: u64) -> Option<Pair>
 
 // The bounds without the exceptions of s, at rest.
 pub fn left(book: &Prepared<'_>, rest: Rest, s: u64) -> Rest
-    ensures { Left book.now.rules.words.now book.now.rules.count book.now.ranks.now rest.bounds s result.bounds }
+    ensures { Left book.now rest.bounds s result.bounds }
 {
     let b = rest.bounds;
     let c = bounds::out(
@@ -71,8 +73,8 @@ pub fn left(book: &Prepared<'_>, rest: Rest, s: u64) -> Rest
 
 // The bounds where the body of line j holds, at rest.
 pub fn assumed(book: &Prepared<'_>, rest: Rest, j: usize) -> Rest
-    requires { ((book.now.rules.count + 32) * 8 ≤ length book.now.rules.words.now) × (j < 32) }
-    ensures { Assumed book.now.rules.words.now book.now.rules.count book.now.ranks.now rest.bounds j result.bounds }
+    requires { HasLines book.now.rules × (j < 32) }
+    ensures { Assumed book.now rest.bounds j result.bounds }
 {
     let b = rest.bounds;
     let l = masks::masks_at(book.rules.words, book.rules.count + j);
@@ -85,8 +87,8 @@ const PATIENCE: u32 = 4;
 
 // After many decisions: no view within the bounds takes an exception from which lines of m lead to t.
 pub fn hopeless(book: &Prepared<'_>, rest: Rest, m: u64, t: u64, decided: u64) -> bool
-    requires { (book.now.rules.count + 32) * 8 ≤ length book.now.rules.words.now }
-    ensures { Hopeless book.now.rules.words.now book.now.rules.count book.now.ranks.now rest.bounds m t result }
+    requires { HasLines book.now.rules }
+    ensures { Hopeless book.now rest.bounds m t result }
 {
     if decided.count_ones() < PATIENCE {
         return false;
@@ -97,7 +99,7 @@ pub fn hopeless(book: &Prepared<'_>, rest: Rest, m: u64, t: u64, decided: u64) -
 
 // The lines that end in a member of k. No contract depends on this.
 pub fn ending(rules: &Rules<'_>, k: u64) -> u64
-    requires { (rules.now.count + 32) * 8 ≤ length rules.now.words.now }
+    requires { HasLines rules.now }
 {
     let n = rules.count;
     let mut e: u64 = 0;
@@ -111,7 +113,7 @@ pub fn ending(rules: &Rules<'_>, k: u64) -> u64
 
 // A line of m: one that ends in a member of k, if there is one.
 pub fn line_to_try(rules: &Rules<'_>, m: u64, k: u64) -> u64
-    requires { (rules.now.count + 32) * 8 ≤ length rules.now.words.now }
+    requires { HasLines rules.now }
     ensures { Picks m result }
 {
     let near = m & ending(rules, k);
@@ -125,8 +127,8 @@ pub fn line_to_try(rules: &Rules<'_>, m: u64, k: u64) -> u64
 // A view within bounds at rest from whose exceptions P lines and lines lead to a member of t, or none. Of `usable`, the lines of `free` may be
 // used, and those that surely count within the bounds.
 pub fn superior(book: &Prepared<'_>, rest: Rest, t: u64, usable: u64, free: u64) -> Option<Pair>
-    requires { (book.now.rules.count + 32) * 8 ≤ length book.now.rules.words.now }
-    ensures { Superior book.now.rules.words.now book.now.rules.count book.now.ranks.now rest.bounds t usable free result }
+    requires { HasLines book.now.rules }
+    ensures { Superior book.now rest.bounds t usable free result }
 {
     let b = rest.bounds;
     let lo = b.lo;

@@ -7,16 +7,17 @@ ghost use Rattle.book.specs.Limits.{exceptions};
 ghost use Rattle.marking.specs.Marks.{marks_in, Clear};
 ghost use Rattle.queue.specs.Chains.{Chains};
 ghost use Rattle.page.specs.Sought.{sought};
-ghost use Rattle.page.specs.Pages.{Fits};
 ghost use Rattle.few.specs.Few.{most};
-ghost use Rattle.standing.specs.Standing.{Right};
-ghost use Rattle.walk.specs.Walks.{RuledOut, AtPlace, Spanned, Skipped, Walked, Paged};
+ghost use Rattle.walk.specs.Walks.{RuledOut, AtPlace, Spanned, Skipped};
+ghost use Rattle.page.specs.InBook.{Fits};
+ghost use Rattle.standing.specs.InBook.{Right};
+ghost use Rattle.walk.specs.InBook.{Paged, Walked};
 
-use queue::Prepared;
 use book::Book;
 use masks::Bounds;
 use one_set::Effort;
 use page::Task;
+use queue::Prepared;
 use standing::memory;
 use standing::memory::Memory;
 
@@ -83,9 +84,22 @@ pub fn past_ruled_out(
 
 // Puts the resolutions with the sets of x exceptions from place `from` on on the page, until it is full. Where `known` is true, the sets before that
 // place have been walked with these marks.
-pub fn walk(book: &Prepared<'_>, root: Bounds, task: Task, x: usize, from: usize, known: bool, at: usize, effort: &mut Effort, marks: &mut [u64], memory: &mut Memory, store: &mut [u64], out: &mut [u64]) -> usize
-    requires { Fits book.now.rules.words.now book.now.ranks.now out.old (sought book.now.rules.count task) at × (x ≤ exceptions) × (from ≤ 2 ^ x) × (2 ^ x ≤ marks_in marks.old) × (most * 3 ≤ length store.old) }
-    ensures { Walked book.now.rules.words.now book.now.ranks.now root (sought book.now.rules.count task) x from known at marks.old memory.old out.old out.new result }
+pub fn walk(
+    book: &Prepared<'_>,
+    root: Bounds,
+    task: Task,
+    x: usize,
+    from: usize,
+    known: bool,
+    at: usize,
+    effort: &mut Effort,
+    marks: &mut [u64],
+    memory: &mut Memory,
+    store: &mut [u64],
+    out: &mut [u64],
+) -> usize
+    requires { Fits book.now out.old task at × (x ≤ exceptions) × (from ≤ 2 ^ x) × (2 ^ x ≤ marks_in marks.old) × (most * 3 ≤ length store.old) }
+    ensures { Walked book.now root task x from known at marks.old memory.old out.old out.new result }
 {
     if task.room <= at {
         return at;
@@ -99,7 +113,9 @@ pub fn walk(book: &Prepared<'_>, root: Bounds, task: Task, x: usize, from: usize
     let mut next = past_ruled_out(x, s.past, root, marks, Position { place: first, set });
     let mut r = at;
     while let Some(p) = next {
-        r = one_set::list_set(book, root, task, p.set, false, known, r, effort, marks, memory, store, out);
+        r = one_set::list_set(
+            book, root, task, p.set, false, known, r, effort, marks, memory, store, out,
+        );
         if task.room <= r {
             return r;
         }
@@ -112,31 +128,78 @@ pub fn walk(book: &Prepared<'_>, root: Bounds, task: Task, x: usize, from: usize
 
 // The page of the first resolutions later than the task's point, in a book of at most x exceptions whose views are within root: those with the point's own
 // set, unless a look is enough, then those with later ones. Nothing is marked yet.
-pub fn after_with(book: &Prepared<'_>, root: Bounds, x: usize, task: Task, effort: &mut Effort, marks: &mut [u64], memory: &mut Memory, store: &mut [u64], out: &mut [u64]) -> usize
-    requires { Fits book.now.rules.words.now book.now.ranks.now out.old (sought book.now.rules.count task) 0 × (x ≤ exceptions) × (task.point.taken < 2 ^ x) × (2 ^ x ≤ marks_in marks.old) × Clear marks.old × (most * 3 ≤ length store.old) × Right book.now.rules.words.now book.now.rules.count book.now.ranks.now root memory.old }
-    ensures { Paged book.now.rules.words.now book.now.ranks.now root (sought book.now.rules.count task) x true out.old out.new result }
+pub fn after_with(
+    book: &Prepared<'_>,
+    root: Bounds,
+    x: usize,
+    task: Task,
+    effort: &mut Effort,
+    marks: &mut [u64],
+    memory: &mut Memory,
+    store: &mut [u64],
+    out: &mut [u64],
+) -> usize
+    requires { Fits book.now out.old task 0 × (x ≤ exceptions) × (task.point.taken < 2 ^ x) × (2 ^ x ≤ marks_in marks.old) × Clear marks.old × (most * 3 ≤ length store.old) × Right book.now root memory.old }
+    ensures { Paged book.now root task x true out.old out.new result }
 {
     let t = task.point.taken;
     let next = order::place_of(x, t) + 1;
     if ruled_out(root, marks, t) {
-        return walk(book, root, task, x, next, false, 0, effort, marks, memory, store, out);
+        return walk(
+            book, root, task, x, next, false, 0, effort, marks, memory, store, out,
+        );
     }
-    let at = one_set::list_set(book, root, task, t, true, false, 0, effort, marks, memory, store, out);
-    walk(book, root, task, x, next, false, at, effort, marks, memory, store, out)
+    let at = one_set::list_set(
+        book, root, task, t, true, false, 0, effort, marks, memory, store, out,
+    );
+    walk(
+        book, root, task, x, next, false, at, effort, marks, memory, store, out,
+    )
 }
 
 // The page of the first resolutions; where `after` is true, of the first later than the task's point. Nothing is marked yet.
-pub fn page_with(book: &Prepared<'_>, root: Bounds, x: usize, task: Task, after: bool, marks: &mut [u64], out: &mut [u64]) -> usize
-    requires { Fits book.now.rules.words.now book.now.ranks.now out.old (sought book.now.rules.count task) 0 × (x ≤ exceptions) × (task.point.taken < 2 ^ x) × (2 ^ x ≤ marks_in marks.old) × Clear marks.old }
-    ensures { Paged book.now.rules.words.now book.now.ranks.now root (sought book.now.rules.count task) x after out.old out.new result }
+pub fn page_with(
+    book: &Prepared<'_>,
+    root: Bounds,
+    x: usize,
+    task: Task,
+    after: bool,
+    marks: &mut [u64],
+    out: &mut [u64],
+) -> usize
+    requires { Fits book.now out.old task 0 × (x ≤ exceptions) × (task.point.taken < 2 ^ x) × (2 ^ x ≤ marks_in marks.old) × Clear marks.old }
+    ensures { Paged book.now root task x after out.old out.new result }
 {
     let mut memory = memory::nothing();
     let mut store = [0u64; few::MOST * 3];
     let mut effort = Effort::fresh();
     if after {
-        return after_with(book, root, x, task, &mut effort, marks, &mut memory, &mut store, out);
+        return after_with(
+            book,
+            root,
+            x,
+            task,
+            &mut effort,
+            marks,
+            &mut memory,
+            &mut store,
+            out,
+        );
     }
-    walk(book, root, task, x, 0, true, 0, &mut effort, marks, &mut memory, &mut store, out)
+    walk(
+        book,
+        root,
+        task,
+        x,
+        0,
+        true,
+        0,
+        &mut effort,
+        marks,
+        &mut memory,
+        &mut store,
+        out,
+    )
 }
 
 // How many exceptions have sets for one word of marks, and for 64 words.
@@ -160,18 +223,33 @@ fn words_for(x: usize) -> usize
 }
 
 // The page, with marks in the first words of an array of W, which is cleared.
-fn page_of<const W: usize>(book: &Prepared<'_>, root: Bounds, x: usize, task: Task, after: bool, used: usize, out: &mut [u64]) -> usize
-    requires { Fits book.now.rules.words.now book.now.ranks.now out.old (sought book.now.rules.count task) 0 × (x ≤ exceptions) × (task.point.taken < 2 ^ x) × (used ≤ W) × (W ≤ 1025) × (2 ^ x ≤ 64 * (used - 1)) }
-    ensures { Paged book.now.rules.words.now book.now.ranks.now root (sought book.now.rules.count task) x after out.old out.new result }
+fn page_of<const W: usize>(
+    book: &Prepared<'_>,
+    root: Bounds,
+    x: usize,
+    task: Task,
+    after: bool,
+    used: usize,
+    out: &mut [u64],
+) -> usize
+    requires { Fits book.now out.old task 0 × (x ≤ exceptions) × (task.point.taken < 2 ^ x) × (used ≤ W) × (W ≤ 1025) × (2 ^ x ≤ 64 * (used - 1)) }
+    ensures { Paged book.now root task x after out.old out.new result }
 {
     let mut marks = [0u64; W];
     page_with(book, root, x, task, after, &mut marks[..used], out)
 }
 
 // The page, with marks for the book's own sets: in one of three arrays, the smallest that has them all.
-pub fn page(book: &Prepared<'_>, root: Bounds, x: usize, task: Task, after: bool, out: &mut [u64]) -> usize
-    requires { Fits book.now.rules.words.now book.now.ranks.now out.old (sought book.now.rules.count task) 0 × (x ≤ exceptions) × (task.point.taken < 2 ^ x) }
-    ensures { Paged book.now.rules.words.now book.now.ranks.now root (sought book.now.rules.count task) x after out.old out.new result }
+pub fn page(
+    book: &Prepared<'_>,
+    root: Bounds,
+    x: usize,
+    task: Task,
+    after: bool,
+    out: &mut [u64],
+) -> usize
+    requires { Fits book.now out.old task 0 × (x ≤ exceptions) × (task.point.taken < 2 ^ x) }
+    ensures { Paged book.now root task x after out.old out.new result }
 {
     if x <= FEW {
         return page_of::<FEW_WORDS>(book, root, x, task, after, FEW_WORDS, out);

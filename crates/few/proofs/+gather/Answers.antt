@@ -5,10 +5,10 @@ use Rattle.few.proofs.Gathering.{store-again, gathered-view, gathered-empty, gat
 use Rattle.few.proofs.+gather.Goals as goal
 
 pub gather-j-requires : goal.gather-j-requires
-gather-j-requires t c = let h = out-less c.visit-x.ensures _ _ _ c.in-Open.is _ c.out-o.ensures in (omega (arith, c.decreases), (c.args.book.now.rules.room, c.args.book.now.few, c.args.book.now.chained, c.requires.0, c.requires.1))
+gather-j-requires t c = let h = out-less c.visit-x.ensures _ _ _ c.in-Open.is _ c.out-o.ensures in (omega (arith, c.decreases), (c.requires.0, c.requires.1))
 
 pub gather-requires : goal.gather-requires
-gather-requires t c = let h = into_less c.visit-x.ensures _ _ _ c.in-Open.is _ c.into-p.ensures in (omega (arith, c.decreases), (c.args.book.now.rules.room, c.args.book.now.few, c.args.book.now.chained, store-again _ _ _ c.requires.0 c.gather-j.auto.store, c.gather-j.ensures.few))
+gather-requires t c = let h = into_less c.visit-x.ensures _ _ _ c.in-Open.is _ c.into-p.ensures in (omega (arith, c.decreases), (store-again _ _ _ c.requires.0 c.gather-j.auto.store, c.gather-j.ensures.few))
 
 pub returns-in-View : goal.returns-in-View
 returns-in-View t c = gathered-view _ _ _ _ _ _ _ _ _ c.visit-x.ensures (search rules) _ (search rules) _ c.put.ensures
