@@ -42,21 +42,13 @@ pub fn masks_at(words: &[u64], k: usize) -> Masks
 {
     let at = k * 8;
     Masks {
-        head: Pair {
-            taken: 0,
-            held: words[at],
-            denied: words[at + 1],
-        },
+        head: Pair::of_statements(words[at], words[at + 1]),
         need: Pair {
             taken: words[at + 4],
             held: words[at + 2],
             denied: words[at + 3],
         },
-        bar: Pair {
-            taken: 0,
-            held: words[at + 5],
-            denied: words[at + 6],
-        },
+        bar: Pair::of_statements(words[at + 5], words[at + 6]),
     }
 }
 

@@ -67,7 +67,8 @@ pub fn chain(index: &mut [u64], r: Masks, k: usize) -> bool
     true
 }
 
-// No chain has a rule yet.
+// No chain has a rule yet: n stands for none.
+// Kept: what may not change: `ChainsFrom` (specs/Chains) names the rule after each by a word of the index.
 pub fn clear(index: &mut [u64], n: usize)
     requires { length index.old ≡ index_length }
 {

@@ -4,4 +4,4 @@ use Rattle.masks.proofs.masks_at.Goals as goal
 
 pub returns : goal.returns
 unfolding masks_at
-returns c = refl
+returns c = rw (c.of_statements.ensures, c.of_statements-2.ensures) refl
