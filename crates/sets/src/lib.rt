@@ -71,7 +71,6 @@ pub fn size(a: u64) -> u32
 }
 
 // The place of the lowest one of a word, 64 if it has none.
-// Kept: the new form is no plainer where a word has members: `u64::trailing_zeros` answers 64 too, and `first` answers an Option.
 pub fn low(x: u64) -> u64
     ensures { (result ≤ 64) × Lowest x result }
 {
