@@ -1,21 +1,19 @@
 -- What is written next, and where the program stands after a part.
 use Prim.Native.Nat.{ℕ, ◌+◌, ◌-◌, ◌*◌, ◌<◌, ◌≤◌, ◌^◌}
-use mathlib.Core.Bool.{Bool, true, false}
 use mathlib.Core.List.{List}
 use mathlib.Core.Path.{◌≡◌, refl, sym, ap, ◌∙◌}
 use native.Mathlib.Omega.{arith}
 use lib.ListN.{length, take, drop, length-drop}
 use lib.Seq.{take_all, drop-drop, length-take-le}
-use Rattle.logic.proofs.Decide.{clash}
 use Rattle.logic.proofs.Stores.{drop-take}
 use Rattle.book.specs.declared.Shape.{Shape}
 use Rattle.answers.specs.Ways.{ways_of, most_lines}
-use Rattle.listing.specs.declared.Part.{Part}
-use Rattle.listing.specs.Parts.{part_bytes, Next}
-use Rattle.listing.proofs.Steps.{Step}
-use Rattle.ways.specs.declared.Stand.{Stand}
+use Rattle.std.specs.Prelude.{Option, Some, None}
+use Rattle.sets.specs.declared.Pair.{Pair}
+use Rattle.listing.specs.declared.Begun.{Begun}
+use Rattle.listing.specs.Parts.{part_bytes, Next, Begins}
+use Rattle.listing.proofs.Steps.{Step, first_ends, first_goes_on}
 use Rattle.ways.specs.declared.streams.Output.{Output}
-use Rattle.ways.specs.declared.streams.Sent.{Sent}
 use Rattle.ways.specs.Stands.{Stood}
 
 -- ---- the bytes that are left of those to be written
@@ -40,20 +38,25 @@ module _ (bs xs : List ℕ) (t i d : ℕ) (e : t ≡ i + d) (h : d ≤ length xs
 pub place-small : (i m b : ℕ) → m ≤ most_lines → i ≤ (most_lines - m) * part_bytes → b ≤ part_bytes → i + b < 2 ^ 64
 place-small i m b h g f = omega arith
 
-module _ (bs ws ranks : List ℕ) (i : ℕ) (s : Shape) (m : ℕ) (o : List ℕ) (r : Part) (w : Sent) (x : Stand) (p : Step bs ws ranks i s m o r) (fits : r.bytes ≤ length o)
-    (sent : w.whole ≡ true → w.to.taken ≡ i + length (take r.bytes o))
-    (to : x.to ≡ w.to) (ew : x.whole ≡ w.whole) (last : x.last ≡ r.last) (more : w.whole ≡ true → x.more ≡ r.full) (cut : w.whole ≡ false → x.more ≡ false) where
-  -- More is to come only after a part that was written.
-  was-written : (v : Bool) → w.whole ≡ v → x.more ≡ true → w.whole ≡ true
-  was-written true e h = e
-  was-written false e h = absurd (clash (sym (cut e) ∙ h))
+-- Where all of a part was written, the listing stands as after the part.
+pub stood : (bs ws ranks : List ℕ) (i : ℕ) (s : Shape) (m : ℕ) (o : List ℕ) (n : ℕ) (x : Option Pair) (to : Output) → Step bs ws ranks i s m o n x → n ≤ length o → to.taken ≡ i + length (take n o)
+    → Stood bs ws ranks s m (record { to = to; next = x })
+stood bs ws ranks i s m o n x to p fits e =
+    let t : to.taken ≡ i + n = e ∙ ap (λ k. i + k) (length-take-le n o fits) in
+    record {
+      fewer = p.fewer;
+      goes_on = λ q h. rw t (p.goes_on q h);
+      ends = λ h. t ∙ p.ends h;
+    }
 
-  taken_is : w.whole ≡ true → x.to.taken ≡ i + r.bytes
-  taken_is e = ap (λ (y : Output). y.taken) to ∙ sent e ∙ ap (λ k. i + k) (length-take-le r.bytes o fits)
+-- ---- the first part of a text
+module _ (bs ws ranks o : List ℕ) (r : Begun) (b : Begins bs ws ranks o r) where
+  pub first-next : Next bs 0 (take r.bytes o)
+  first-next = go r.next refl
+    where
+      go : (x : Option (Shape × Pair)) → r.next ≡ x → Next bs 0 (take r.bytes o)
+      go None e = (first_ends bs ws ranks o r b e (record { statements = 0; plain = 0; exceptions = 0; preferences = 0; conditionals = 0; alternatives = 0 })).next
+      go (Some x) e = (first_goes_on bs ws ranks o r b x.0 x.1 e).next
 
-  pub stood : Stood bs ws ranks s m x
-  stood = record {
-    fewer = λ h. p.fewer (sym (more (was-written w.whole refl h)) ∙ h);
-    goes_on = λ h. let e = was-written w.whole refl h in rw (taken_is e, last) (p.goes_on (sym (more e) ∙ h));
-    ends = λ h e. taken_is (sym ew ∙ e) ∙ p.ends (sym (more (sym ew ∙ e)) ∙ h);
-  }
+  pub first-whole : r.next ≡ None → (t : ℕ) → t ≡ 0 + length (take r.bytes o) → t ≡ length (ways_of bs)
+  first-whole h t e = omega (arith, e, ap length (b.whole h))

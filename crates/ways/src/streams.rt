@@ -1,5 +1,5 @@
 // Standard input and output. A call that a signal interrupted is made again, as long as there is patience; any other that fails is the last.
-ghost use Rattle.std.specs.Prelude.{◌+◌, ◌<◌, ◌≤◌, ◌^◌, true, false, ◌≡◌, length, take, is_none, IfErr, IsErrAnd};
+ghost use Rattle.std.specs.Prelude.{◌+◌, ◌<◌, ◌≤◌, ◌^◌, false, ◌≡◌, length, take, IfOk, IfErr, IsErrAnd};
 ghost use Rattle.std.specs.Result.{result_unwrap_or};
 ghost use Rattle.std.specs.IoError.{error_kind};
 ghost use Rattle.listing.specs.Parts.{Next};
@@ -39,30 +39,14 @@ pub fn untouched(stdout: Stdout) -> Output
     Output { stdout, taken: 0 }
 }
 
-// What a write answered, how many bytes it took, and the output after it.
-#[derive(Clone, Copy)]
-struct Wrote {
-    got: io::Result<usize>,
-    put: usize,
-    to: Output,
-}
-
-// One write. The bytes are the next of those that are printed for the text; the text stands here for this alone.
-fn write_next(text: &[u8], to: Output, bytes: &[u8]) -> Wrote
-    requires { Next text.now to.taken bytes.now × (to.taken + length bytes.now < 2 ^ 64) }
-    ensures { (result.put ≡ result_unwrap_or result.got 0) × (result.put ≤ length bytes.now) × (result.to.taken ≡ to.taken + result.put) }
+// One write, and what it answers. The bytes are the next of those that are printed for the text; the text stands here for this alone.
+fn write_next(text: &[u8], to: &mut Output, bytes: &[u8]) -> io::Result<usize>
+    requires { Next text.now to.old.taken bytes.now × (to.old.taken + length bytes.now < 2 ^ 64) }
+    ensures { (result_unwrap_or result 0 ≤ length bytes.now) × (to.new.taken ≡ to.old.taken + result_unwrap_or result 0) }
 {
-    let mut stdout = to.stdout;
-    let got = stdout.write(bytes);
-    let put = got.unwrap_or(0);
-    Wrote {
-        got,
-        put,
-        to: Output {
-            stdout,
-            taken: to.taken + put,
-        },
-    }
+    let got = to.stdout.write(bytes);
+    to.taken += got.unwrap_or(0);
+    got
 }
 
 // Why a write that took no byte and answered this is the last.
@@ -75,59 +59,32 @@ fn why(got: io::Result<usize>) -> io::Error
     }
 }
 
-// Whether all bytes were written, or why not, and the output then.
-#[derive(Clone, Copy)]
-pub struct Sent {
-    pub whole: bool,
-    pub cause: Option<io::Error>,
-    pub to: Output,
-}
-
 // Writes the bytes, which are the next of those that are printed for the text; or stops at the first write that fails, when some of them may
-// have been written.
-pub fn send(text: &[u8], to: Output, bytes: &[u8]) -> Sent
+// have been written. The output then.
+pub fn send(text: &[u8], to: Output, bytes: &[u8]) -> io::Result<Output>
     requires { Next text.now to.taken bytes.now × (to.taken + length bytes.now < 2 ^ 64) }
-    ensures taken { result.whole ≡ true → result.to.taken ≡ to.taken + length bytes.now }
-    ensures cause { result.whole ≡ is_none result.cause }
+    ensures { IfOk result (λ out. out.taken ≡ to.taken + length bytes.now) }
 {
     let mut out = to;
     let mut done = 0;
     let mut patience = PATIENCE;
     while done < bytes.len() {
-        let wrote = write_next(text, out, &bytes[done..]);
-        if wrote.put == 0 {
-            if is_last(wrote.got, patience) {
-                return Sent {
-                    whole: false,
-                    cause: Some(why(wrote.got)),
-                    to: out,
-                };
+        let got = write_next(text, &mut out, &bytes[done..]);
+        let put = got.unwrap_or(0);
+        if put == 0 {
+            if is_last(got, patience) {
+                return Err(why(got));
             }
             patience -= 1;
         }
-        done += wrote.put;
-        let next = wrote.to;
-        out = next;
+        done += put;
     }
-    Sent {
-        whole: true,
-        cause: None,
-        to: out,
-    }
+    Ok(out)
 }
 
-// What was read: how many bytes, and whether no read failed, or why one did.
-#[derive(Clone, Copy)]
-pub struct Received {
-    pub bytes: usize,
-    pub whole: bool,
-    pub cause: Option<io::Error>,
-}
-
-// Reads until the room is full or the input ends; or stops at the first read that fails.
-pub fn receive(stdin: Stdin, room: &mut [u8]) -> Received
-    ensures bytes { (result.bytes ≤ length room.new) × (result.bytes ≡ length (take result.bytes room.new)) }
-    ensures cause { result.whole ≡ is_none result.cause }
+// Reads until the room is full or the input ends, and gives how many bytes were read; or stops at the first read that fails.
+pub fn receive(stdin: Stdin, room: &mut [u8]) -> io::Result<usize>
+    ensures { IfOk result (λ bytes. (bytes ≤ length room.new) × (bytes ≡ length (take bytes room.new))) }
 {
     let mut from = stdin;
     let mut done = 0;
@@ -137,19 +94,11 @@ pub fn receive(stdin: Stdin, room: &mut [u8]) -> Received
         let put = got.unwrap_or(0);
         if put == 0 {
             if is_last(got, patience) {
-                return Received {
-                    bytes: done,
-                    whole: got.is_ok(),
-                    cause: got.err(),
-                };
+                return got.map(|_| done);
             }
             patience -= 1;
         }
         done += put;
     }
-    Received {
-        bytes: done,
-        whole: true,
-        cause: None,
-    }
+    Ok(done)
 }

@@ -7,8 +7,8 @@ use Rattle.ways.proofs.go_on.Goals as goal
 pub slice_bounds-send-end : goal.slice_bounds-send-end
 slice_bounds-send-end c = sym (length-take-le _ _ c.go_on-part.ensures.fits)
 
-pub send-sent-requires : goal.send-sent-requires
-send-sent-requires c =
+pub send-requires : goal.send-requires
+send-requires c =
     let l = c.go_on-part.ensures in
     let f = c.requires in
     let s = step _ _ _ _ _ _ _ f _ _ l in
@@ -17,6 +17,4 @@ send-sent-requires c =
 pub returns : goal.returns
 returns c =
     let l = c.go_on-part.ensures in
-    let f = c.requires in
-    let a = c.after.ensures in
-    stood _ _ _ _ _ _ _ _ c.send-sent.result c.after.result (step _ _ _ _ _ _ _ f _ _ l) l.fits c.send-sent.ensures.taken a.to_value.0 a.to_value.1 a.to_value.2 a.more_value.0 a.more_value.1
+    stood _ _ _ _ _ _ _ _ _ _ (step _ _ _ _ _ _ _ c.requires _ _ l) l.fits c.in_ok-to.ensures
