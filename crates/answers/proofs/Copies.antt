@@ -24,7 +24,7 @@ front-put l vs i j h g =
     let z : 0 + v ≡ v = omega arith in
     let own : v ≤ length (take k xs) = omega (arith, length-take k xs, length-drop i l) in
     let rest : drop v (take k xs) ++ drop k xs ≡ drop (i + v) l =
-        sym (drop-append-le v (take k xs) (drop k xs) own) ∙ ap (drop v) (take-append-drop k xs) ∙ drop-drop v i l in
+    sym (drop-append-le v (take k xs) (drop k xs) own) ∙ ap (drop v) (take-append-drop k xs) ∙ drop-drop v i l in
     rw (sets-eq vs (take k xs) 0 (omega arith), z, sets-eq vs l i (omega arith)) (ap (λ (ys : List ℕ). take i l ++ ys) (append_assoc vs (drop v (take k xs)) (drop k xs) ∙ ap (λ (ys : List ℕ). vs ++ ys) rest) ∙ sym (append_assoc (take i l) vs (drop (i + v) l)))
 
 -- What is stored from the start on, as much as there is room for, is all of it.
