@@ -12,7 +12,7 @@ use lib.ListN.{length, replicate}
 use Rattle.logic.specs.Lists.{Every}
 use Rattle.sets.specs.declared.Pair.{Pair}
 use Rattle.book.specs.declared.Shape.{Shape}
-use Rattle.std.specs.Prelude.{Result, Ok, Err}
+use Rattle.std.specs.Prelude.{Ok, Err}
 use Rattle.text.specs.Fields.{written, Misspells, Short, WellSpelt, spelt}
 use Rattle.text.specs.Lines.{lines}
 use Rattle.text.specs.Reading.{read_text, read_into, table_of}
