@@ -14,6 +14,7 @@ use Rattle.logic.proofs.Tests.{all-at}
 use Rattle.book.proofs.Counts.{many}
 use Rattle.book.specs.declared.Content.{Content}
 use Rattle.book.specs.declared.Content.TheVariants.{Edition, Statements, Literal, Exception, Total}
+use Rattle.book.specs.Faults.{number}
 use Rattle.book.specs.Kinds.{kinds, kind, unknown, fields_of, bytes, none, exception, Range, range_of, most, longest}
 use Rattle.text.specs.declared.State.{State}
 use Rattle.std.specs.Prelude.{Result, Ok, Err}
@@ -46,7 +47,7 @@ abbrev Wronged : Line → Type 0
 Wronged (line k vs) = Unit {0}
 Wronged (wrong q) = Fault q
 
-range-fault : (c : Content) (n : ℕ) → Fault (range_of c n).fault
+range-fault : (c : Content) (n : ℕ) → Fault (number (range_of c n).fault)
 unfolding range_of
 range-fault Edition n = record { low = omega arith; high = omega arith }
 range-fault Statements n = record { low = omega arith; high = omega arith }
@@ -77,10 +78,10 @@ first-spelt bs = go (first_field bs) refl
     go (Ok v) e = tt
     go (Err q) e = spelling-fault _ q ((misspelt-iff (get_or bs 0 0) (get_or bs 1 0) (get_or bs 2 0) (get_or bs 3 0) q).0 e)
 
-field-faulted : (f : Result ℤ ℕ) (r : Range) (ns : Numbers) → Spelt f → Fault r.fault → Faulted ns → Faulted (test_field f r ns)
+field-faulted : (f : Result ℤ ℕ) (r : Range) (ns : Numbers) → Spelt f → Fault (number r.fault) → Faulted ns → Faulted (test_field f r ns)
 unfolding test_field
 field-faulted (Err q) r ns s g h = s
-field-faulted (Ok v) r ns s g h = either_way Faulted (inside r v) (and_then v ns) (fault r.fault) (then-faulted v ns h) g
+field-faulted (Ok v) r ns s g h = either_way Faulted (inside r v) (and_then v ns) (fault (number r.fault)) (then-faulted v ns h) g
 
 fields-faulted : (cs : List Content) (n : ℕ) (bs : List ℕ) → Faulted (read_fields cs n bs)
 unfolding read_fields
@@ -88,14 +89,14 @@ fields-faulted [] n bs = tt
 fields-faulted (c ∷ cs) n bs = field-faulted (first_field bs) (range_of c n) (read_fields cs n (drop 4 bs)) (first-spelt bs) (range-fault c n) (fields-faulted cs n (drop 4 bs))
 
 -- A kind's own refusals have two digits at most.
-kind-refusals : (k : ℕ) → ((kind k).over < 100) × ((kind k).unfilled < 100)
+kind-refusals : (k : ℕ) → ((number (kind k).over) < 100) × ((number (kind k).unfilled) < 100)
 unfolding kind kinds unknown
 kind-refusals k = go (ltb k none) refl
   where
-    go : (b : Bool) → ltb k none ≡ b → ((kind k).over < 100) × ((kind k).unfilled < 100)
+    go : (b : Bool) → ltb k none ≡ b → ((number (kind k).over) < 100) × ((number (kind k).unfilled) < 100)
     go true p = (
-      ltb-true _ _ (all-at (λ (j : ℕ). ltb (kind j).over 100) none k refl (ltb-true k none p)),
-      ltb-true _ _ (all-at (λ (j : ℕ). ltb (kind j).unfilled 100) none k refl (ltb-true k none p)),
+      ltb-true _ _ (all-at (λ (j : ℕ). ltb (number (kind j).over) 100) none k refl (ltb-true k none p)),
+      ltb-true _ _ (all-at (λ (j : ℕ). ltb (number (kind j).unfilled) 100) none k refl (ltb-true k none p)),
     )
     go false p = let e : kind k ≡ unknown = get_or-eq_default kinds unknown {n = k} (rw many (ltb-false k none p)) in rw e (omega arith, omega arith)
 
@@ -103,8 +104,8 @@ whole-small : (st : State) (k : ℕ) (vs : List ℤ) → whole_of st k vs < 100
 unfolding whole_of
 whole-small st k vs =
     let small : ℕ → Type 0 = λ q. q < 100 in
-    either_way small (leb (kind k).limit (get_or st.counts k 0)) (kind k).over _ (kind-refusals k).0
-    (either_way small (headless (kind k) vs) (kind k).unfilled _ (kind-refusals k).1
+    either_way small (leb (kind k).limit (get_or st.counts k 0)) (number (kind k).over) _ (kind-refusals k).0
+    (either_way small (headless (kind k) vs) (number (kind k).unfilled) _ (kind-refusals k).1
     (either_way small (missing (get_or st.counts exception 0) (kind k) vs) 10 _ (omega arith)
     (either_way small (miscounted st.rows (kind k) vs) 11 0 (omega arith) (omega arith))))
 

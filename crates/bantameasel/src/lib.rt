@@ -35,7 +35,7 @@ pub extern "C" fn bantameasel_read(text: &[u8], table: &mut [i32]) -> BookAnswer
     ensures value { result ≡ book_in (read_answer (read_with table.old text.now)) }
     ensures table_after { table.new ≡ read_into table.old (read_with table.old text.now) }
 {
-    across::book_in(read::read(text, table))
+    read::read(text, table).into()
 }
 
 // Write: the number table to the text in front of the lent slice.
@@ -44,7 +44,7 @@ pub extern "C" fn bantameasel_write(table: &[i32], text: &mut [u8]) -> Amount
     ensures value { result ≡ amount_in (length_of (write_answer (write_with text.old table.now))) }
     ensures text_after { text.new ≡ write_into text.old (write_with text.old table.now) }
 {
-    across::length_in(write::write(table, text))
+    write::write(table, text).into()
 }
 
 // Judge: the verdict on a pair.
@@ -53,7 +53,7 @@ pub extern "C" fn bantameasel_judge(text: &[u8], p: Pair) -> VerdictAnswer
     ensures value { result ≡ verdict_in (judge_answer text.now p) }
     ensures means { Means turned Judges text.now (at p) (verdict_from result) }
 {
-    across::verdict_in(operations::judge(text, p))
+    operations::judge(text, p).into()
 }
 
 // First: the first resolution, or End.
@@ -62,7 +62,7 @@ pub extern "C" fn bantameasel_first(text: &[u8]) -> PairAnswer
     ensures value { result ≡ answer_in (first_answer text.now) }
     ensures means { Means refused FirstLater text.now start (answer_from result) }
 {
-    across::pair_in(operations::first(text))
+    operations::first(text).into()
 }
 
 // After: the first resolution later than a pair, or End.
@@ -71,7 +71,7 @@ pub extern "C" fn bantameasel_after(text: &[u8], p: Pair) -> PairAnswer
     ensures value { result ≡ answer_in (after_answer text.now p) }
     ensures means { Means refused FirstLater text.now (at p) (answer_from result) }
 {
-    across::pair_in(operations::after(text, p))
+    operations::after(text, p).into()
 }
 
 // Line: the line of a pair in front of the lent slice.
@@ -80,7 +80,7 @@ pub extern "C" fn bantameasel_line(text: &[u8], p: Pair, line: &mut [u8]) -> Amo
     ensures value { result ≡ amount_in (counted (line_answer text.now p (length line.old))) }
     ensures line_after { line.new ≡ left (λ (l : List ℕ). l) line.old (line_answer text.now p (length line.old)) }
 {
-    across::length_in(line::line(text, p, line))
+    line::line(text, p, line).into()
 }
 
 // A page of the first resolutions.
@@ -89,7 +89,7 @@ pub extern "C" fn bantameasel_first_page(text: &[u8], pairs: &mut [u64]) -> Amou
     ensures value { result ≡ amount_in (counted (first_page text.now (length pairs.old))) }
     ensures pairs_after { pairs.new ≡ left flat pairs.old (first_page text.now (length pairs.old)) }
 {
-    across::count_in(operations::first_page(text, pairs))
+    operations::first_page(text, pairs).into()
 }
 
 // A page of the first resolutions later than a pair.
@@ -98,7 +98,7 @@ pub extern "C" fn bantameasel_page_after(text: &[u8], p: Pair, pairs: &mut [u64]
     ensures value { result ≡ amount_in (counted (page_after text.now p (length pairs.old))) }
     ensures pairs_after { pairs.new ≡ left flat pairs.old (page_after text.now p (length pairs.old)) }
 {
-    across::count_in(operations::page_after(text, p, pairs))
+    operations::page_after(text, p, pairs).into()
 }
 
 // Set: a pair under a name in a store of stopping points.
@@ -108,7 +108,7 @@ pub extern "C" fn bantameasel_set(store: &mut [u8], name: Name, p: Pair) -> Done
     ensures store_after { store.new ≡ leaves store.old (set_told (store_of store.old) name.bytes p) }
     ensures meant { Meant (λ (t : Told (List Entry)). done_of (kept_is t)) (Sets name.bytes p) store.old name.bytes result store.new }
 {
-    across::done_in(points::set_point(store, name, p))
+    points::set_point(store, name, p).into()
 }
 
 // Go: the pair under a name.
@@ -117,7 +117,7 @@ pub extern "C" fn bantameasel_go(store: &[u8], name: Name) -> PairAnswer
     ensures value { result ≡ gone_of (went_is (go_told (store_of store.now) name.bytes)) }
     ensures of_store { OfStore (Goes name.bytes) store.now name.bytes (gone_from result) }
 {
-    across::gone_in(points::go_to(store, name))
+    points::go_to(store, name).into()
 }
 
 // Drop: a name and its pair taken out.
@@ -127,5 +127,5 @@ pub extern "C" fn bantameasel_drop(store: &mut [u8], name: Name) -> Done
     ensures store_after { store.new ≡ leaves store.old (drop_told (store_of store.old) name.bytes) }
     ensures meant { Meant (λ (t : Told (List Entry)). done_of (kept_is t)) (Drops name.bytes) store.old name.bytes result store.new }
 {
-    across::done_in(points::drop_point(store, name))
+    points::drop_point(store, name).into()
 }

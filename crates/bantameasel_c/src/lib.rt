@@ -1,5 +1,6 @@
 // The static library for programs in C (include/bantameasel.h): each function of the crate bantameasel under its own name, with the same clauses, word
 // for word. A crate is a library or a static library, not both: here stands no more than a call of each.
+// Kept: the C interface; a static library exports its own functions alone, so each stands here once more, with its clauses.
 #![tactic(auto)]
 
 ghost use Rattle.std.specs.Prelude.{◌≡◌, List, ℕ, length};

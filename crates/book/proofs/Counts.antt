@@ -3,7 +3,7 @@ use mathlib.Core.Path.{◌≡◌, refl, ap, ◌∙◌}
 use mathlib.Core.Bool.{Bool, true, false}
 use mathlib.Core.List.{List, ◌∷◌}
 use Prim.Native.Nat.{ℕ, zero, suc, ◌+◌, ◌-◌, ◌*◌, ◌<◌, ◌≤◌}
-use native.Mathlib.Nat.{add-zero, mul-le-mul_right}
+use native.Mathlib.Nat.{add-zero, mul-le-mul_left, mul-le-mul_right}
 use native.Mathlib.Numerals.{add-one}
 use native.Mathlib.Omega.{arith}
 use lib.Dec.{eqb, ltb, leb}
@@ -13,12 +13,10 @@ use borrow.Author.Tests.{eqb-true, eqb-false, ltb-true, ltb-false, leb-true}
 use Rattle.logic.specs.Tests.{pick}
 use Rattle.logic.proofs.Tests.{all-at}
 use Rattle.book.specs.declared.Kind.{Kind}
-use Rattle.book.specs.declared.Measure.{Measure}
-use Rattle.book.specs.declared.Measure.TheVariants.{Rows, Numbers, Bytes}
 use Rattle.book.specs.declared.Shape.{Shape}
 use Rattle.book.specs.Limits as limit
 use Rattle.book.specs.Kinds.{kinds, kind, unknown, bytes, row_once, first, last, plain, alternative, exception, preference, conditional, none, widest, most}
-use Rattle.book.specs.Counts.{counts_of, front_of, all_counts, count_at, sum_to, measured, InLimits}
+use Rattle.book.specs.Counts.{counts_of, front_of, all_counts, count_at, sum_to, numbers_each, InLimits}
 
 pub many : length kinds ≡ none
 unfolding kinds
@@ -112,14 +110,29 @@ sum-up f s k h = let q : k + (none - k) ≡ none = omega arith in rw q at (sum_s
 pub sum-small : (f : Kind → ℕ) (s : Shape) (k n c y : ℕ) → InLimits s → k < none → n ≡ sum_to f s k → c ≡ count_at s k → y ≡ f (kind k) → n + c * y ≤ most f kinds
 sum-small f s k n c y l h e ec ey = omega (arith, sum-next f s k n c y e ec ey, add-one k, sum-most f s (k + 1) l (omega arith))
 
-pub measured-most : (m : Measure) → most (measured m) kinds ≤ 100000
-unfolding most kinds bytes row_once pick
-measured-most Rows = omega arith
-measured-most Numbers = omega arith
-measured-most Bytes = omega arith
+pub rows-most : most row_once kinds ≤ 100000
+unfolding most kinds row_once pick
+rows-most = omega arith
 
-pub measured-is : (m v : Measure) (x : Kind) (n : ℕ) → m ≡ v → n ≡ measured v x → n ≡ measured m x
-measured-is m v x n e h = rw e h
+pub numbers-most : most numbers_each kinds ≤ 100000
+unfolding most kinds
+numbers-most = omega arith
+
+pub bytes-most : most bytes kinds ≤ 100000
+unfolding most kinds bytes
+bytes-most = omega arith
+
+hundreds-most : most (λ x. 100) kinds ≤ 100000
+unfolding most kinds
+hundreds-most = omega arith
+
+-- The same of what is not more than 100 for each line.
+pub sum-hundreds : (s : Shape) (k n c y : ℕ) → n ≤ sum_to (λ x. 100) s k → c ≡ count_at s k → y ≤ 100 → n + c * y ≤ sum_to (λ x. 100) s (k + 1)
+unfolding sum_to
+sum-hundreds s k n c y h e g = rw (add-one k, ← e) (omega (arith, h, mul-le-mul_left c g))
+
+pub hundreds-small : (s : Shape) (k : ℕ) → InLimits s → k < none → sum_to (λ x. 100) s (k + 1) ≤ 100000
+hundreds-small s k l h = omega (arith, add-one k, sum-most (λ x. 100) s (k + 1) l (omega arith), hundreds-most)
 
 -- All lines of a book in the limits come to no more than all that a book may have.
 pub sum-all : (f : Kind → ℕ) (s : Shape) → InLimits s → sum_to f s none ≤ most f kinds
@@ -138,6 +151,15 @@ pub narrow : (k : ℕ) → k < none → (kind k).fields ≤ widest
 unfolding kinds kind unknown
 narrow k h = leb-true (kind k).fields widest (all-at (λ (j : ℕ). leb (kind j).fields widest) none k refl h)
 
+-- Nor does it give many numbers to the table.
+pub numbers-narrow : (k : ℕ) → k < none → (kind k).numbers ≤ widest
+unfolding kinds kind unknown
+numbers-narrow k h = leb-true (kind k).numbers widest (all-at (λ (j : ℕ). leb (kind j).numbers widest) none k refl h)
+
+pub bytes-narrow : (k : ℕ) → k < none → bytes (kind k) ≤ 100
+unfolding bytes
+bytes-narrow k h = omega (arith, narrow k h)
+
 pub kind-small : (x : Kind) (k : ℕ) → x ≡ kind k → k < none → x.fields ≤ widest
 kind-small x k e h = rw e (narrow k h)
 
@@ -145,13 +167,13 @@ pub line-bytes-is : (x : Kind) (k : ℕ) → x ≡ kind k → 2 + 4 * x.fields �
 unfolding bytes
 line-bytes-is x k e = rw e
 
-pub once-yes : (x : Kind) (k : ℕ) → x ≡ kind k → x.row ≡ true → 1 ≡ row_once (kind k)
+pub once-small : (x : Kind) → row_once x ≤ 1
 unfolding row_once pick
-once-yes x k e r = rw (← e, r)
-
-pub once-no : (x : Kind) (k : ℕ) → x ≡ kind k → x.row ≡ false → 0 ≡ row_once (kind k)
-unfolding row_once pick
-once-no x k e r = rw (← e, r)
+once-small x = go x.row
+  where
+    go : (b : Bool) → pick b 1 0 ≤ 1
+    go true = omega arith
+    go false = omega arith
 
 pub count-is : (s : Shape) (k : ℕ) (cs : List ℕ) → cs ≡ all_counts s → get_or cs k 0 ≡ count_at s k
 unfolding count_at

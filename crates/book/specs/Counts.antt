@@ -2,8 +2,6 @@
 -- limits. From reading to the prepared book nothing else repeats the counts of a shape one by one; `book_of` gives each its meaning.
 use Rattle.std.specs.Prelude.{ℕ, zero, suc, ◌+◌, ◌*◌, ◌≤◌, List, [], ◌∷◌, ◌++◌, get_or}
 use Rattle.book.specs.declared.Kind.{Kind}
-use Rattle.book.specs.declared.Measure.{Measure}
-use Rattle.book.specs.declared.Measure.TheVariants.{Rows, Numbers, Bytes}
 use Rattle.book.specs.declared.Shape.{Shape}
 use Rattle.book.specs.Limits as limit
 use Rattle.book.specs.Kinds.{kind, bytes, row_once, plain, alternative, exception, preference, conditional, none}
@@ -40,25 +38,23 @@ unfoldable pub sum_to : (Kind → ℕ) → Shape → ℕ → ℕ
 sum_to f s zero = 0
 sum_to f s (suc k) = sum_to f s k + count_at s k * f (kind k)
 
--- What a line comes to, by its kind: a row of the number table or none, numbers of the table, bytes.
-abbrev pub measured : Measure → Kind → ℕ
-measured Rows x = row_once x
-measured Numbers x = x.numbers
-measured Bytes x = bytes x
+-- The numbers that a line of a kind gives to the number table.
+abbrev pub numbers_each : Kind → ℕ
+numbers_each x = x.numbers
 
 -- Where the rows of the kind at place k begin among the numbers of all rows, and how many these are.
 abbrev pub start_of : Shape → ℕ → ℕ
-start_of s k = sum_to (measured Numbers) s k
+start_of s k = sum_to numbers_each s k
 
 abbrev pub row_numbers : Shape → ℕ
 row_numbers s = start_of s none
 
 -- How many rows there are, which Z counts; and how many bytes the text has.
 abbrev pub total : Shape → ℕ
-total s = sum_to (measured Rows) s none
+total s = sum_to row_once s none
 
 abbrev pub text_bytes : Shape → ℕ
-text_bytes s = sum_to (measured Bytes) s none
+text_bytes s = sum_to bytes s none
 
 -- The shape is in the limits: n, and the count of each kind.
 pub record InLimits (s : Shape) : Type 0 where

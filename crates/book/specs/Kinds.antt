@@ -4,6 +4,8 @@ use Rattle.logic.specs.Tests.{pick}
 use Rattle.book.specs.declared.Kind.{Kind}
 use Rattle.book.specs.declared.Content.{Content}
 use Rattle.book.specs.declared.Content.TheVariants.{Edition, Statements, Literal, Exception, Total}
+use Rattle.book.specs.declared.Fault.{Fault}
+use Rattle.book.specs.declared.Fault.TheVariants.{TooLong, OutOfRange, Edition as WrongEdition, TooMany, NoHead, TooManyConditionals, TooManyAlternatives, FewHeads}
 use Rattle.book.specs.Limits as limit
 
 -- How many fields a line has: an R or X line head, needed entries, barred entries; an O line three heads, then these; a P line two; a Q line
@@ -48,13 +50,13 @@ conditional_numbers = conditional_fields
 -- and the refusal where fewer are; where its count stands in front of the table's rows, n having place 0 (for B and Z, which have no count, 0 too).
 unfoldable pub kinds : List Kind
 kinds =
-    record { letter = 66; fields = 2; from = 0; numbers = 0; limit = 1; over = 8; row = false; heads = 0; filled = 0; unfilled = 9; count = 0 }
-    ∷ record { letter = 82; fields = rule_fields; from = 2; numbers = rule_numbers; limit = limit.plain; over = 8; row = true; heads = 1; filled = 0; unfilled = 9; count = 1 }
-    ∷ record { letter = 79; fields = alternative_fields; from = 2; numbers = alternative_numbers; limit = limit.alternatives; over = 22; row = true; heads = heads_each; filled = 2; unfilled = 23; count = 5 }
-    ∷ record { letter = 88; fields = rule_fields; from = 2; numbers = rule_numbers; limit = limit.exceptions; over = 8; row = true; heads = 1; filled = 1; unfilled = 9; count = 2 }
-    ∷ record { letter = 80; fields = preference_fields; from = 13; numbers = preference_numbers; limit = limit.preferences; over = 8; row = true; heads = 0; filled = 0; unfilled = 9; count = 3 }
-    ∷ record { letter = 81; fields = conditional_fields; from = 13; numbers = conditional_numbers; limit = limit.conditionals; over = 19; row = true; heads = 0; filled = 0; unfilled = 9; count = 4 }
-    ∷ record { letter = 90; fields = 1; from = 23; numbers = 0; limit = 1; over = 8; row = false; heads = 0; filled = 0; unfilled = 9; count = 0 }
+    record { letter = 66; fields = 2; from = 0; numbers = 0; limit = 1; over = TooMany; row = false; heads = 0; filled = 0; unfilled = NoHead; count = 0 }
+    ∷ record { letter = 82; fields = rule_fields; from = 2; numbers = rule_numbers; limit = limit.plain; over = TooMany; row = true; heads = 1; filled = 0; unfilled = NoHead; count = 1 }
+    ∷ record { letter = 79; fields = alternative_fields; from = 2; numbers = alternative_numbers; limit = limit.alternatives; over = TooManyAlternatives; row = true; heads = heads_each; filled = 2; unfilled = FewHeads; count = 5 }
+    ∷ record { letter = 88; fields = rule_fields; from = 2; numbers = rule_numbers; limit = limit.exceptions; over = TooMany; row = true; heads = 1; filled = 1; unfilled = NoHead; count = 2 }
+    ∷ record { letter = 80; fields = preference_fields; from = 13; numbers = preference_numbers; limit = limit.preferences; over = TooMany; row = true; heads = 0; filled = 0; unfilled = NoHead; count = 3 }
+    ∷ record { letter = 81; fields = conditional_fields; from = 13; numbers = conditional_numbers; limit = limit.conditionals; over = TooManyConditionals; row = true; heads = 0; filled = 0; unfilled = NoHead; count = 4 }
+    ∷ record { letter = 90; fields = 1; from = 23; numbers = 0; limit = 1; over = TooMany; row = false; heads = 0; filled = 0; unfilled = NoHead; count = 0 }
     ∷ []
 
 -- What the fields hold: those of B; of O, heads, needed and barred entries, and of R and X, which have the first nine of these; of Q, the two of
@@ -98,7 +100,7 @@ none = 7
 
 -- A line of no kind.
 unfoldable pub unknown : Kind
-unknown = record { letter = 0; fields = 0; from = 0; numbers = 0; limit = 0; over = 0; row = false; heads = 0; filled = 0; unfilled = 0; count = 0 }
+unknown = record { letter = 0; fields = 0; from = 0; numbers = 0; limit = 0; over = TooLong; row = false; heads = 0; filled = 0; unfilled = TooLong; count = 0 }
 
 -- The kind at a place.
 unfoldable pub kind : ℕ → Kind
@@ -148,12 +150,12 @@ rules = limit.plain + limit.alternatives + limit.exceptions
 pub record Range : Type 0 where
   pub low : ℤ
   pub high : ℤ
-  pub fault : ℕ
+  pub fault : Fault
 
 -- What a field may hold in a book of n statements.
 unfoldable pub range_of : Content → ℕ → Range
-range_of Edition n = record { low = pos 1; high = pos 1; fault = 7 }
-range_of Statements n = record { low = pos 1; high = pos limit.statements; fault = 6 }
-range_of Literal n = record { low = neg_ℤ (pos n); high = pos n; fault = 6 }
-range_of Exception n = record { low = pos 1; high = pos limit.exceptions; fault = 6 }
-range_of Total n = record { low = pos 0; high = pos most_rows; fault = 6 }
+range_of Edition n = record { low = pos 1; high = pos 1; fault = WrongEdition }
+range_of Statements n = record { low = pos 1; high = pos limit.statements; fault = OutOfRange }
+range_of Literal n = record { low = neg_ℤ (pos n); high = pos n; fault = OutOfRange }
+range_of Exception n = record { low = pos 1; high = pos limit.exceptions; fault = OutOfRange }
+range_of Total n = record { low = pos 0; high = pos most_rows; fault = OutOfRange }

@@ -1,4 +1,5 @@
 pub mod Limits
+pub mod Faults
 pub mod Kinds
 pub mod Counts
 pub mod Shapes

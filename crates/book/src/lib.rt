@@ -1,9 +1,11 @@
 // The book as a type: its limits, its kinds of line, the empty book.
 #![tactic(auto)]
 
-ghost use Rattle.std.specs.Prelude.{◌≡◌, true, false, ◌<◌, ◌≤◌, length, get_or};
+ghost use Rattle.std.specs.Prelude.{◌≡◌, ℕ, true, false, ◌<◌, ◌≤◌, length, get_or};
+ghost use Rattle.book.specs.Faults.{number};
 ghost use Rattle.book.specs.Kinds.{kind, none, contents, bytes, row_once};
-ghost use Rattle.book.specs.Counts.{all_counts, front_of, count_at, shape_from, measured as measured_of, sum_to, start_of, row_numbers, text_bytes, total as total_of, InLimits};
+ghost use Rattle.book.specs.Counts.{all_counts, front_of, count_at, shape_from, sum_to, start_of, row_numbers, text_bytes, total as total_of, InLimits};
+ghost use Rattle.book.specs.declared.Kind.{Kind};
 ghost use Rattle.book.specs.declared.Content.TheVariants.{Edition};
 ghost use Rattle.book.specs.Shapes.{limits as limits_of, empty_book};
 
@@ -172,6 +174,75 @@ impl Book {
     }
 }
 
+// What is wrong with a text or a number table: one variant for each refusal of Read and Write.
+#[derive(Clone, Copy, Debug, PartialEq, Eq)]
+pub enum Fault {
+    // The text is longer than any book's.
+    TooLong,
+    // The text is empty, or its last byte is no line feed.
+    NoLineFeed,
+    // A line that may not stand here, or none where one must.
+    NotAllowed,
+    // A line of the wrong length.
+    LineLength,
+    // A byte that no field has, or a minus out of its place.
+    StrayByte,
+    // A number outside its range.
+    OutOfRange,
+    // Another edition than 1.
+    Edition,
+    // More lines of a kind than a book may have.
+    TooMany,
+    // An exception with no head.
+    NoHead,
+    // A field names an exception that the book lacks.
+    NoException,
+    // Z does not count the rows.
+    WrongTotal,
+    // The lent buffer is shorter than the answer.
+    BufferShort,
+    // The number table's length differs from its counts.
+    TableLength,
+    // A blank field, or a space after a digit.
+    Gap,
+    // A leading zero, or "-0".
+    WrongZero,
+    // More Q lines than a book may have.
+    TooManyConditionals,
+    // More O lines than a book may have.
+    TooManyAlternatives,
+    // An O line with fewer than two heads.
+    FewHeads,
+}
+
+impl Fault {
+    // The number that the documents give the refusal.
+    pub fn number(self) -> u32
+        ensures { result ≡ number self }
+    {
+        match self {
+            Fault::TooLong => 1,
+            Fault::NoLineFeed => 2,
+            Fault::NotAllowed => 3,
+            Fault::LineLength => 4,
+            Fault::StrayByte => 5,
+            Fault::OutOfRange => 6,
+            Fault::Edition => 7,
+            Fault::TooMany => 8,
+            Fault::NoHead => 9,
+            Fault::NoException => 10,
+            Fault::WrongTotal => 11,
+            Fault::BufferShort => 15,
+            Fault::TableLength => 16,
+            Fault::Gap => 17,
+            Fault::WrongZero => 18,
+            Fault::TooManyConditionals => 19,
+            Fault::TooManyAlternatives => 22,
+            Fault::FewHeads => 23,
+        }
+    }
+}
+
 // What a field of a line holds.
 #[derive(Clone, Copy)]
 pub enum Content {
@@ -193,11 +264,11 @@ pub struct Kind {
     pub from: usize,
     pub numbers: usize,
     pub limit: usize,
-    pub over: u32,
+    pub over: Fault,
     pub row: bool,
     pub heads: usize,
     pub filled: usize,
-    pub unfilled: u32,
+    pub unfilled: Fault,
     pub count: usize,
 }
 
@@ -235,11 +306,11 @@ const KINDS: [Kind; Book::KINDS] = [
         from: 0,
         numbers: 0,
         limit: 1,
-        over: 8,
+        over: Fault::TooMany,
         row: false,
         heads: 0,
         filled: 0,
-        unfilled: 9,
+        unfilled: Fault::NoHead,
         count: 0,
     },
     Kind {
@@ -248,11 +319,11 @@ const KINDS: [Kind; Book::KINDS] = [
         from: 2,
         numbers: Book::RULE_NUMBERS,
         limit: Book::PLAIN,
-        over: 8,
+        over: Fault::TooMany,
         row: true,
         heads: 1,
         filled: 0,
-        unfilled: 9,
+        unfilled: Fault::NoHead,
         count: 1,
     },
     Kind {
@@ -261,11 +332,11 @@ const KINDS: [Kind; Book::KINDS] = [
         from: 2,
         numbers: Book::ALTERNATIVE_NUMBERS,
         limit: Book::ALTERNATIVES,
-        over: 22,
+        over: Fault::TooManyAlternatives,
         row: true,
         heads: Book::HEADS,
         filled: 2,
-        unfilled: 23,
+        unfilled: Fault::FewHeads,
         count: 5,
     },
     Kind {
@@ -274,11 +345,11 @@ const KINDS: [Kind; Book::KINDS] = [
         from: 2,
         numbers: Book::RULE_NUMBERS,
         limit: Book::EXCEPTIONS,
-        over: 8,
+        over: Fault::TooMany,
         row: true,
         heads: 1,
         filled: 1,
-        unfilled: 9,
+        unfilled: Fault::NoHead,
         count: 2,
     },
     Kind {
@@ -287,11 +358,11 @@ const KINDS: [Kind; Book::KINDS] = [
         from: 13,
         numbers: Book::PREFERENCE_NUMBERS,
         limit: Book::PREFERENCES,
-        over: 8,
+        over: Fault::TooMany,
         row: true,
         heads: 0,
         filled: 0,
-        unfilled: 9,
+        unfilled: Fault::NoHead,
         count: 3,
     },
     Kind {
@@ -300,11 +371,11 @@ const KINDS: [Kind; Book::KINDS] = [
         from: 13,
         numbers: Book::CONDITIONAL_NUMBERS,
         limit: Book::CONDITIONALS,
-        over: 19,
+        over: Fault::TooManyConditionals,
         row: true,
         heads: 0,
         filled: 0,
-        unfilled: 9,
+        unfilled: Fault::NoHead,
         count: 4,
     },
     Kind {
@@ -313,11 +384,11 @@ const KINDS: [Kind; Book::KINDS] = [
         from: 23,
         numbers: 0,
         limit: 1,
-        over: 8,
+        over: Fault::TooMany,
         row: false,
         heads: 0,
         filled: 0,
-        unfilled: 9,
+        unfilled: Fault::NoHead,
         count: 0,
     },
 ];
@@ -330,50 +401,26 @@ pub fn kind_at(k: usize) -> Kind
     KINDS[k]
 }
 
-// The letter of the kind at place k; whether it is a row of the number table; how many numbers of the table it gives.
-pub fn letter_at(k: usize) -> u8
-    requires { k < none }
-    ensures { result ≡ (kind k).letter }
-{
-    let x = kind_at(k);
-    x.letter
-}
-
-pub fn is_row(k: usize) -> bool
-    requires { k < none }
-    ensures { result ≡ (kind k).row }
-{
-    let x = kind_at(k);
-    x.row
-}
-
+// What a line of the kind at place k comes to: numbers of the number table; bytes, with its line feed; 1 for a row of the table, else 0.
 pub fn numbers_at(k: usize) -> usize
     requires { k < none }
     ensures { result ≡ (kind k).numbers }
 {
-    let x = kind_at(k);
-    x.numbers
+    kind_at(k).numbers
 }
 
-// The bytes of a line of the kind at place k, with its line feed.
 pub fn line_bytes(k: usize) -> usize
     requires { k < none }
     ensures { result ≡ bytes (kind k) }
 {
-    let x = kind_at(k);
-    Book::ENDS + Book::COLUMNS * x.fields
+    Book::ENDS + Book::COLUMNS * kind_at(k).fields
 }
 
-// 1 for a kind that is a row of the number table, else 0.
 pub fn row_once(k: usize) -> usize
     requires { k < none }
     ensures { result ≡ row_once (kind k) }
 {
-    let x = kind_at(k);
-    if x.row {
-        return 1;
-    }
-    0
+    usize::from(kind_at(k).row)
 }
 
 // What stands at a place of the list of contents: field i of kind x stands at x.from + i.
@@ -434,40 +481,19 @@ pub fn count_of(s: Shape, k: usize) -> usize
     requires { k < none }
     ensures { result ≡ count_at s k }
 {
-    let counts = counts_of(s);
-    counts[k]
+    counts_of(s)[k]
 }
 
-// What a line comes to, by its kind: a row of the number table or none, numbers of the table, bytes.
-#[derive(Clone, Copy)]
-pub enum Measure {
-    Rows,
-    Numbers,
-    Bytes,
-}
-
-// What a line of the kind at place k comes to.
-pub fn measured(m: Measure, k: usize) -> usize
-    requires { k < none }
-    ensures { result ≡ measured_of m (kind k) }
+// What the lines of the kinds before place k come to in a book of this shape, each coming to what `each` gives for the place of its kind.
+pub fn sum_to<F: Fn(usize) -> usize>(s: Shape, k: usize, each: F) -> usize
+    requires places { (k ≤ none) × InLimits s }
+    requires callable { (i : ℕ) → i < none → F.pre each i }
+    requires small { (i r : ℕ) → i < none → F.post each i r → r ≤ 100 }
+    ensures { (f : Kind → ℕ) → ((i r : ℕ) → i < none → F.post each i r → r ≡ f (kind i)) → result ≡ sum_to f s k }
 {
-    match m {
-        Measure::Rows => row_once(k),
-        Measure::Numbers => numbers_at(k),
-        Measure::Bytes => line_bytes(k),
-    }
-}
-
-// What the lines of the kinds before place k come to in a book of this shape.
-pub fn sum_to(m: Measure, s: Shape, k: usize) -> usize
-    requires { (k ≤ none) × InLimits s }
-    ensures { result ≡ sum_to (measured_of m) s k }
-{
-    let mut i = 0;
     let mut n = 0;
-    while i < k {
-        n = n + count_of(s, i) * measured(m, i);
-        i += 1;
+    for i in 0..k {
+        n += count_of(s, i) * each(i);
     }
     n
 }
@@ -477,7 +503,7 @@ pub fn start_of(s: Shape, k: usize) -> usize
     requires { (k ≤ none) × InLimits s }
     ensures { result ≡ start_of s k }
 {
-    sum_to(Measure::Numbers, s, k)
+    sum_to(s, k, numbers_at)
 }
 
 // How many numbers the rows of a book of this shape have.
@@ -493,12 +519,12 @@ pub fn total(s: Shape) -> usize
     requires { InLimits s }
     ensures { result ≡ total_of s }
 {
-    sum_to(Measure::Rows, s, Book::KINDS)
+    sum_to(s, Book::KINDS, row_once)
 }
 
 pub fn text_bytes(s: Shape) -> usize
     requires { InLimits s }
     ensures { result ≡ text_bytes s }
 {
-    sum_to(Measure::Bytes, s, Book::KINDS)
+    sum_to(s, Book::KINDS, line_bytes)
 }

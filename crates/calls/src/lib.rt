@@ -7,6 +7,7 @@ ghost use Rattle.meaning.specs.Listings.{answered};
 ghost use Rattle.answers.specs.Operations.{answer_of, asks};
 ghost use Rattle.calls.specs.Calls.{call_of, as_point, row, run_refusal, Makes, Runs};
 
+use book::Fault;
 use sets::Pair;
 use text::Refusal;
 
@@ -108,16 +109,13 @@ pub fn make_calls(
 pub fn check(n: usize, answers: usize, pairs: usize) -> Result<(), Refusal>
     ensures { MatchResult result (λ _. run_refusal n answers pairs ≡ 0) (λ q. (q.number ≡ run_refusal n answers pairs) × (q.number ≢ 0) × (q.line ≡ 0)) }
 {
-    let number = if n % 4 != 0 {
-        16
-    } else if answers < n {
-        15
-    } else if pairs < n / 4 * 3 {
-        15
-    } else {
-        return Ok(());
-    };
-    Err(Refusal { number, line: 0 })
+    if n % 4 != 0 {
+        return Err(Refusal::of(Fault::TableLength, 0));
+    }
+    if answers < n || pairs < n / 4 * 3 {
+        return Err(Refusal::of(Fault::BufferShort, 0));
+    }
+    Ok(())
 }
 
 // Makes a list of calls through First and After from a point. Each answer goes to `answers`, four numbers each, and each pair that is handed

@@ -1,5 +1,4 @@
-// Where the reader of a text stands. The cursor is lent to `advance`, the one function that moves it; whoever reads calls `past`, which
-// takes the cursor and hands it back.
+// Where the reader of a text stands. The cursor is lent to `advance`, the one function that moves it.
 #![tactic(auto)]
 
 ghost use Rattle.std.specs.Prelude.{◌≡◌, ◌+◌, ◌<◌};
@@ -12,31 +11,6 @@ pub struct Cursor {
     pub line: usize,
 }
 
-// The place past len bytes and a line feed.
-pub fn past_bytes(at: usize, len: usize) -> usize
-    requires { at + len < 2147483648 }
-    ensures { result ≡ at + len + 1 }
-{
-    at + len + 1
-}
-
-// The number of the next line.
-pub fn next_line(line: usize) -> usize
-    requires { line < 2147483648 }
-    ensures { result ≡ line + 1 }
-{
-    line + 1
-}
-
-// Moves the cursor on, past a line of len bytes and its line feed.
-pub fn advance(c: &mut Cursor, len: usize)
-    requires { (c.old.at + len < 2147483648) × (c.old.line < 2147483648) }
-    ensures { c.new ≡ past_line c.old len }
-{
-    c.at = past_bytes(c.at, len);
-    c.line = next_line(c.line);
-}
-
 impl Cursor {
     // At the first line.
     pub fn first() -> Self
@@ -45,13 +19,12 @@ impl Cursor {
         Self { at: 0, line: 1 }
     }
 
-    // Past a line of len bytes and its line feed. The one place where a cursor is lent.
-    pub fn past(self, len: usize) -> Self
-        requires { (self.at + len < 2147483648) × (self.line < 2147483648) }
-        ensures { result ≡ past_line self len }
+    // Moves the cursor on, past a line of len bytes and its line feed.
+    pub fn advance(&mut self, len: usize)
+        requires { (self.old.at + len < 2147483648) × (self.old.line < 2147483648) }
+        ensures { self.new ≡ past_line self.old len }
     {
-        let mut c = self;
-        advance(&mut c, len);
-        c
+        self.at += len + 1;
+        self.line += 1;
     }
 }

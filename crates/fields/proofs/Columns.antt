@@ -1,7 +1,8 @@
 -- What each return of the functions on columns is by the definitions: one lemma a return.
 -- A signed parameter is read back as `back` of it, and a number that fits is that number.
 use mathlib.Core.Path.{◌≡◌, refl, sym, ap, ◌∙◌}
-use mathlib.Core.Bool.{Bool, true, false}
+use mathlib.Core.Bool.{Bool, true, false, ◌&&◌, ◌||◌}
+use mathlib.Core.Logic.{◌⊎◌, inl, inr}
 use mathlib.Core.List.{List, [], ◌∷◌}
 use Prim.Native.Nat.{ℕ, zero, suc, ◌+◌, ◌-◌, ◌*◌, ◌/◌, ◌%◌, ◌<◌, ◌≤◌}
 use native.Mathlib.Nat.{add-zero}
@@ -22,13 +23,10 @@ use Rattle.text.specs.Fields.{column_of, columns, digit_of, size_of, minus_in, s
 use Rattle.text.specs.Lines.{between}
 
 module _ (b : ℕ) where
-  pub digit_low : b < 48 → 0 ≡ digit_of b
+  pub digit-out : (b < 48) ⊎ (57 < b) → 0 ≡ digit_of b
   unfolding digit_of pick
-  digit_low h = rw (lt-ltb b 48 h)
-
-  pub digit-high : 48 ≤ b → 57 < b → 0 ≡ digit_of b
-  unfolding digit_of pick
-  digit-high h g = rw (le-ltb b 48 h, lt-ltb 57 b g)
+  digit-out (inl h) = rw (lt-ltb b 48 h)
+  digit-out (inr h) = rw (le-ltb b 48 (omega arith), lt-ltb 57 b h)
 
   pub digit-in : 48 ≤ b → b ≤ 57 → b - 48 ≡ digit_of b
   unfolding digit_of pick
@@ -59,18 +57,14 @@ module _ (neg : Bool) (m s : ℕ) where
   unfolding column_of pick either both
   column-plus f h e = rw (ne_eqb s 1 f, lt-leb s m h, e)
 
-module _ (a b c : ℕ) where
-  pub minus-first : a ≡ 45 → true ≡ minus_in a b c
-  unfolding minus_in either
-  minus-first e = rw (eq-eqb a 45 e)
-
-  pub minus-second : (a ≡ 45 → ⊥) → b ≡ 45 → true ≡ minus_in a b c
-  unfolding minus_in either
-  minus-second f e = rw (ne_eqb a 45 f, eq-eqb b 45 e)
-
-  pub minus-third : (a ≡ 45 → ⊥) → (b ≡ 45 → ⊥) → eqb c 45 ≡ minus_in a b c
-  unfolding minus_in either
-  minus-third f g = rw (ne_eqb a 45 f, ne_eqb b 45 g)
+pub minus-is : (a b c : ℕ) → (eqb a 45 || eqb b 45) || eqb c 45 ≡ minus_in a b c
+unfolding minus_in either
+minus-is a b c = go (eqb a 45) (eqb b 45)
+  where
+    go : (x y : Bool) → (x || y) || eqb c 45 ≡ either x (either y (eqb c 45))
+    go true y = refl
+    go false true = refl
+    go false false = refl
 
 -- ---- signed numbers
 small-neg : (v : ℕ) → v < 10000 → SFits w32 (neg_ℤ (pos v))
@@ -102,26 +96,17 @@ module _ (a b c d p q r s : ℕ) where
   size_is i j k l = rw (i, j, k, l)
 
 -- ---- four columns compared
-module _ (neg : Bool) (m a b c d x y z w : ℕ) where
-  pub wrong-1 : x ≡ column_of neg m 1000 → (x ≡ a → ⊥) → false ≡ same (columns neg m) (a ∷ b ∷ c ∷ d ∷ [])
-  unfolding columns in_columns same both
-  wrong-1 e f = rw (← e, ne_eqb x a f)
-
-  pub wrong-2 : x ≡ column_of neg m 1000 → x ≡ a → y ≡ column_of neg m 100 → (y ≡ b → ⊥) → false ≡ same (columns neg m) (a ∷ b ∷ c ∷ d ∷ [])
-  unfolding columns in_columns same both
-  wrong-2 e p f q = rw (← e, eq-eqb x a p, ← f, ne_eqb y b q)
-
-  pub wrong-3 : x ≡ column_of neg m 1000 → x ≡ a → y ≡ column_of neg m 100 → y ≡ b → z ≡ column_of neg m 10 → (z ≡ c → ⊥) → false ≡ same (columns neg m) (a ∷ b ∷ c ∷ d ∷ [])
-  unfolding columns in_columns same both
-  wrong-3 e p f q g r = rw (← e, eq-eqb x a p, ← f, eq-eqb y b q, ← g, ne_eqb z c r)
-
-  pub all_but_last : x ≡ column_of neg m 1000 → x ≡ a → y ≡ column_of neg m 100 → y ≡ b → z ≡ column_of neg m 10 → z ≡ c → w ≡ column_of neg m 1 → eqb w d ≡ same (columns neg m) (a ∷ b ∷ c ∷ d ∷ [])
-  unfolding columns in_columns same both
-  all_but_last e p f q g r h = rw (← e, eq-eqb x a p, ← f, eq-eqb y b q, ← g, eq-eqb z c r, ← h) (and-true (eqb w d))
-    where
-      and-true : (t : Bool) → t ≡ both t true
-      and-true true = refl
-      and-true false = refl
+pub all_same : (neg : Bool) (m a b c d x y z w : ℕ) → x ≡ column_of neg m 1000 → y ≡ column_of neg m 100 → z ≡ column_of neg m 10 → w ≡ column_of neg m 1
+    → ((eqb x a && eqb y b) && eqb z c) && eqb w d ≡ same (columns neg m) (a ∷ b ∷ c ∷ d ∷ [])
+unfolding columns in_columns same both
+all_same neg m a b c d x y z w e f g h = rw (← e, ← f, ← g, ← h) (go (eqb x a) (eqb y b) (eqb z c) (eqb w d))
+  where
+    go : (p q r s : Bool) → ((p && q) && r) && s ≡ both p (both q (both r (both s true)))
+    go false q r s = refl
+    go true false r s = refl
+    go true true false s = refl
+    go true true true true = refl
+    go true true true false = refl
 
 module _ (a b c d m : ℕ) (neg t : Bool) (em : m ≡ size_of a b c d) (en : neg ≡ minus_in a b c) (et : t ≡ same (columns neg m) (a ∷ b ∷ c ∷ d ∷ [])) where
   spelt_is : spelt a b c d ≡ read_columns neg m (a ∷ b ∷ c ∷ d ∷ [])
@@ -162,17 +147,17 @@ ge-le (negsuc a) (pos b) e = absurd (let z : ◌≡◌ {A = ℕ} 0 1 = cc in ome
 ge-le (negsuc a) (negsuc b) e = le-leb a b (ltb-false b a e)
 
 module _ (low high v : ℤ) (fl : SFits w32 low) (fh : SFits w32 high) (fv : SFits w32 v) where
-  pub too-low : lt_z (back v) (back low) ≡ true → false ≡ between low high v
+  pub too-low : le_z (back low) (back v) ≡ false → false ≡ between low high v
   unfolding between both
-  too-low e = rw (lt-le v low (rw (to_z-of_z fv, to_z-of_z fl) at e))
+  too-low e = rw (rw (to_z-of_z fv, to_z-of_z fl) at e)
 
-  pub too-high : lt_z (back v) (back low) ≡ false → lt_z (back high) (back v) ≡ true → false ≡ between low high v
+  pub too-high : le_z (back low) (back v) ≡ true → le_z (back v) (back high) ≡ false → false ≡ between low high v
   unfolding between both
-  too-high e f = rw (ge-le v low (rw (to_z-of_z fv, to_z-of_z fl) at e), lt-le high v (rw (to_z-of_z fv, to_z-of_z fh) at f))
+  too-high e f = rw (rw (to_z-of_z fv, to_z-of_z fl) at e, rw (to_z-of_z fv, to_z-of_z fh) at f)
 
-  pub in_between : lt_z (back v) (back low) ≡ false → lt_z (back high) (back v) ≡ false → true ≡ between low high v
+  pub in_between : le_z (back low) (back v) ≡ true → le_z (back v) (back high) ≡ true → true ≡ between low high v
   unfolding between both
-  in_between e f = rw (ge-le v low (rw (to_z-of_z fv, to_z-of_z fl) at e), ge-le high v (rw (to_z-of_z fv, to_z-of_z fh) at f))
+  in_between e f = rw (rw (to_z-of_z fv, to_z-of_z fl) at e, rw (to_z-of_z fv, to_z-of_z fh) at f)
 
 pub back-same : (x : ℤ) → mag x < 2147483648 → back x ≡ x
 back-same x h = to_z-of_z {w = w32} (sfits_of (omega arith))

@@ -6,6 +6,7 @@ use mathlib.Core.List.{[], ◌∷◌}
 use Prim.Native.Nat.{ℕ}
 use lib.Dec.{eqb, leb}
 use borrow.Author.Tests.{ne_eqb}
+use Rattle.std.specs.Char.{is_ascii_digit}
 use Rattle.logic.specs.Tests.{both, either, pick, every}
 use Rattle.logic.proofs.Tests.{and_both, or-either}
 use Rattle.text.specs.Fields.{is_space, is_minus, is_digit, some_from, some_byte, other_byte, stray_byte, stray, space_after_digit, gapped, misspelling, is_number}
@@ -14,6 +15,9 @@ use Rattle.text.proofs.Spelling.{left_over}
 pub digit-is : (b : ℕ) → leb 48 b && leb b 57 ≡ is_digit b
 unfolding is_digit
 digit-is b = and_both (leb 48 b) (leb b 57)
+
+pub ascii-is : (b : ℕ) → is_ascii_digit b ≡ is_digit b
+ascii-is b = digit-is b
 
 pub gap_is : (before b : ℕ) (x : Bool) → x ≡ is_digit before → x && eqb b 32 ≡ both (is_digit before) (is_space b)
 unfolding is_space

@@ -1,18 +1,15 @@
 -- Fields and numbers stored into a lent buffer: one lemma a return, and the fields of a run of numbers as pieces.
-use mathlib.Core.Path.{◌≡◌, refl, ap, ◌∙◌}
-use mathlib.Core.Bool.{Bool, true, false}
+use mathlib.Core.Path.{◌≡◌, refl, ◌∙◌}
+use mathlib.Core.Bool.{Bool}
 use mathlib.Core.List.{List}
 use Prim.Native.Nat.{ℕ, zero, suc, ◌+◌, ◌<◌, ◌≤◌}
 use native.Mathlib.Omega.{arith}
-use lib.IntN.{ℤ, pos, negsuc, ◌-ℤ◌, nat_abs}
+use Rattle.std.specs.Prelude.{unsigned_abs}
+use lib.IntN.{ℤ, pos, negsuc, nat_abs}
 use lib.Signed.{mag, lt_z}
 use lib.ListN.{length, get_or, take, drop, set}
 use lib.Seq.{sets, drop-cons, get_or-take, get_or-drop}
-use mir.Syntax.{w32}
-use mir.Val.{SFits}
-use mir.Facts.{to_z-of_z}
-use borrow.Author.Rules.{sfits_of}
-use borrow.Author.Tests.{ltb-true}
+use borrow.Author.Tests.{le-ltb}
 use Rattle.logic.proofs.Stores.{pieces}
 use Rattle.text.specs.Fields.{column_of, columns, written, written_all, in_columns, Short}
 use Rattle.fields.specs.Short.{all_short}
@@ -33,20 +30,11 @@ unfolding Short
 short-mag (pos m) h = h
 short-mag (negsuc m) h = omega arith
 
-pub minus_is : (v : ℤ) → Short v → lt_z (back v) (pos 0) ≡ true → (m : ℕ) × (back (pos 0 -ℤ back v) ≡ pos m) × (m < 10000) × (columns true m ≡ written v)
+-- The sign and the size of a number make its columns.
+pub number_is : (v : ℤ) → Short v → (m : ℕ) → m ≡ unsigned_abs (back v) → (m < 10000) × (columns (lt_z (back v) (pos 0)) m ≡ written v)
 unfolding Short written
-minus_is (pos m) h e = absurd (let p = ltb-true m 0 (rw (back-same (pos m) (omega arith)) at e) in omega arith)
-minus_is (negsuc m) h e = (suc m, rw (back-same (negsuc m) (omega arith)) (to_z-of_z {w = w32} {z = pos 0 -ℤ negsuc m} (sfits_of (omega arith)) ∙ ap pos (omega arith)), omega arith, refl)
-
-pub minus-fits : (v : ℤ) → Short v → lt_z (back v) (pos 0) ≡ true → SFits w32 (pos 0 -ℤ back v)
-unfolding Short
-minus-fits (pos m) h e = absurd (let p = ltb-true m 0 (rw (back-same (pos m) (omega arith)) at e) in omega arith)
-minus-fits (negsuc m) h e = rw (back-same (negsuc m) (omega arith)) (sfits_of (omega arith))
-
-pub plus-is : (v : ℤ) → Short v → lt_z (back v) (pos 0) ≡ false → (m : ℕ) × (back v ≡ pos m) × (m < 10000) × (columns false m ≡ written v)
-unfolding Short written
-plus-is (pos m) h e = (m, back-same (pos m) (omega arith), h, refl)
-plus-is (negsuc m) h e = absurd (let z : true ≡ false = rw (back-same (negsuc m) (omega arith)) at e in let y : ◌≡◌ {A = ℕ} 0 1 = cc in omega arith)
+number_is (pos n) h m e = rw (back-same (pos n) (omega arith)) (let p : m ≡ n = e ∙ rw (back-same (pos n) (omega arith)) in (omega arith, rw (p, le-ltb n 0 (omega arith))))
+number_is (negsuc n) h m e = rw (back-same (negsuc n) (omega arith)) (let p : m ≡ suc n = e ∙ rw (back-same (negsuc n) (omega arith)) in (omega arith, rw p))
 
 -- ---- a run of fields
 -- The field of number from + i of a slice.
@@ -57,16 +45,6 @@ pub fields-are : (t : List ℤ) (from w k i : ℕ) → k ≡ from + i → k + w 
 unfolding written_all pieces
 fields-are t from zero k i e h = refl
 fields-are t from (suc w) k i e h = rw (drop-cons t k (pos 0) (omega arith), fields-are t from w (suc k) (suc i) (omega arith) (omega arith), e)
-
-pub minus-put : (v : ℤ) (l m : List ℕ) (at : ℕ) → Short v → lt_z (back v) (pos 0) ≡ true → m ≡ sets l at (columns true (nat_abs (back (pos 0 -ℤ back v)))) → m ≡ sets l at (written v)
-minus-put v l m at h e r =
-    let f = minus_is v h e in
-    r ∙ ap (λ (z : ℤ). sets l at (columns true (nat_abs z))) f.1 ∙ ap (sets l at) f.3
-
-pub plus-put : (v : ℤ) (l m : List ℕ) (at : ℕ) → Short v → lt_z (back v) (pos 0) ≡ false → m ≡ sets l at (columns false (nat_abs (back v))) → m ≡ sets l at (written v)
-plus-put v l m at h e r =
-    let f = plus-is v h e in
-    r ∙ ap (λ (z : ℤ). sets l at (columns false (nat_abs z))) f.1 ∙ ap (sets l at) f.3
 
 -- Number i of the part that is put is number from + i of the slice.
 pub short_back : (t : List ℤ) (from w i : ℕ) (v : ℤ) → all_short (take w (drop from t)) → i < w → v ≡ get_or t (from + i) (pos 0) → mag v < 2147483648 → Short (back v)

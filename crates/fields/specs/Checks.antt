@@ -4,17 +4,19 @@ use Rattle.std.specs.Int.Signed.{le_z}
 use Rattle.logic.specs.Tests.{pick, either}
 use Rattle.book.specs.declared.Content.{Content}
 use Rattle.book.specs.declared.Content.TheVariants.{Edition, Statements, Literal, Exception, Total}
+use Rattle.book.specs.declared.Fault.{Fault}
+use Rattle.book.specs.Faults.{number}
 use Rattle.book.specs.Kinds.{Range}
 use Rattle.text.specs.Lines.{inside, between}
 use Rattle.text.specs.Reading.{to_nat}
 use Rattle.fields.specs.declared.Seen.{Seen}
 
-abbrev pub range : ℤ → ℤ → ℕ → Range
+abbrev pub range : ℤ → ℤ → Fault → Range
 range a b q = record { low = a; high = b; fault = q }
 
 -- Ok in the range, else refused by the range's number.
 unfoldable pub number_is : Range → ℤ → Result ⊤ ℕ
-number_is r v = pick (inside r v) (Ok tt) (Err r.fault)
+number_is r v = pick (inside r v) (Ok tt) (Err (number r.fault))
 
 -- What is known after one number more, in a field of this content, with so many exceptions and rows.
 unfoldable pub see_of : Seen → Content → ℕ → ℕ → ℤ → Seen

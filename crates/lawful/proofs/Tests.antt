@@ -10,7 +10,9 @@ use Rattle.sets.proofs.Words.{and_none, none-and, apart-separate, separate-apart
 use Rattle.meaning.specs.Literals.{is_in}
 use Rattle.meaning.specs.Books.{past_exceptions, past_statements, shared}
 use Rattle.meaning.proofs.Refusals.{refusal-one, lawful-none}
-use Rattle.lawful.specs.Refusals.{Refuses}
+use Rattle.lawful.specs.declared.Unlawful.{Unlawful}
+use Rattle.lawful.specs.declared.Unlawful.TheVariants.{PastExceptions, PastStatements, Shared}
+use Rattle.lawful.specs.Refusals.{Refuses, number}
 
 -- A number with no digit from place k on is below 2 ^ k, and the other way round.
 small : (a k : ℕ) → a / 2 ^ k ≡ 0 → a < 2 ^ k
@@ -50,3 +52,9 @@ module _ (s x : ℕ) (p : Pair) where
               apart = apart-separate p.held p.denied (and_none p.held p.denied e);
             }));
       }
+
+-- No refusal has the number 0.
+pub numbered : (u : Unlawful) → number u ≡ 0 → ⊥
+numbered PastExceptions e = omega arith
+numbered PastStatements e = omega arith
+numbered Shared e = omega arith

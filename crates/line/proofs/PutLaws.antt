@@ -8,8 +8,9 @@ use native.Mathlib.Nat.{mod-lt}
 use native.Mathlib.Numerals.{add-one}
 use native.Mathlib.Omega.{arith}
 use lib.IntN.{pos}
-use lib.ListN.{length, take, set, replicate, length-append, length-map, length-replicate}
-use lib.Seq.{sets, take-append-add, length-take-le}
+use borrow.Rule.Slice.PartMut.{put_mid}
+use lib.ListN.{length, take, drop, set, replicate, length-append, length-map, length-replicate, length-set, length-take, length-drop}
+use lib.Seq.{sets, take-append-add, length-take-le, length-sets}
 use borrow.Author.Tests.{le-leb, lt-leb}
 use Rattle.logic.specs.Tests.{pick, keep, cons_if}
 use Rattle.logic.proofs.Stores.{put_on, pieces, pieces-length, Putting, putting-next}
@@ -20,6 +21,7 @@ use Rattle.book.specs.Limits as limit
 use Rattle.text.specs.Fields.{columns, written, written_all, in_columns}
 use Rattle.text.specs.ALines.{from, line_fields, taken_fields, mark, a_line}
 use Rattle.text.proofs.Lines.{fields-length}
+use Rattle.answers.proofs.Copies.{part-put, front-put}
 use Rattle.line.specs.Parts.{fields_of, taken_of, line_bytes}
 
 -- ---- how many fields for exceptions
@@ -100,9 +102,14 @@ taken-fields w taken k e h =
     ∙ (take-append-add xs (replicate w 0) (w - k)
     ∙ ap (λ (ns : List ℕ). xs ++ ns) (take-zeros (w - k) w (omega arith)))
 
-pub taken-put : (l m m' : List ℕ) (at w taken k : ℕ) → k ≡ length (taken_of w taken) → k ≤ w → m ≡ sets l at (fields_of (taken_of w taken)) → m' ≡ sets m (at + k * 4) (fields_of (replicate (w - k) 0)) → m' ≡ sets l at (fields_of (taken_fields w taken))
-taken-put l m m' at w taken k ek h em em' =
-    em' ∙ put_on l m (fields_of (taken_of w taken)) (fields_of (replicate (w - k) 0)) (sets l at (fields_of (taken_fields w taken))) at (at + k * 4)
+pub taken-put : (l m z : List ℕ) (w taken k : ℕ) → k ≡ length (taken_of w taken) → k ≤ w → w * 4 ≤ length l → m ≡ sets l 0 (fields_of (taken_of w taken)) → z ≡ sets (take (length m - k * 4) (drop (k * 4) m)) 0 (fields_of (replicate (w - k) 0))
+    → put_mid (k * 4) (length m - k * 4) m z ≡ sets l 0 (fields_of (taken_fields w taken))
+taken-put l m z w taken k ek h g em ez =
+    let zeros = fields_of (replicate (w - k) 0) in
+    let long : length m ≡ length l = rw em (length-sets l 0 (fields_of (taken_of w taken))) in
+    let room : k * 4 + length zeros ≤ length m = omega (arith, fields-bytes (replicate (w - k) 0), length-replicate {A = ℕ} (w - k) 0) in
+    rw ez (front-put m zeros (k * 4) (length m) room (omega arith))
+    ∙ put_on l m (fields_of (taken_of w taken)) zeros (sets l 0 (fields_of (taken_fields w taken))) 0 (k * 4)
     (rw (taken-fields w taken k ek h, fields-append (taken_of w taken) (replicate (w - k) 0)) refl) em (omega (arith, fields-bytes (taken_of w taken)))
 
 -- ---- the marks
@@ -129,7 +136,7 @@ marks-are p zero i = refl
 marks-are p (suc n) i = rw (marks-are p n (suc i), add-one)
 
 -- ---- the line
-marks-length : (p : Pair) (n : ℕ) → length (map (mark p) (from 1 n)) ≡ n
+pub marks-length : (p : Pair) (n : ℕ) → length (map (mark p) (from 1 n)) ≡ n
 marks-length p n = omega (arith, ap length (marks-are p n 0), pieces-length (mark_at p) 1 (λ i. refl) n 0)
 
 taken-length : (w taken : ℕ) → length (fields_of (taken_fields w taken)) ≡ w * 4
@@ -170,16 +177,38 @@ pub count-short : (r a : ℕ) → r ≡ size a → r < 10000
 unfolding size
 count-short r a e = omega (arith, size_small 64 a)
 
-module _ (l m₁ m₂ m₃ : List ℕ) (at w n : ℕ) (p : Pair) (c : ℕ) (ec : c ≡ size p.taken) (e₁ : m₁ ≡ sets (set l at 65) (at + 1) (columns false c)) (e₂ : m₂ ≡ sets m₁ (at + 5) (fields_of (taken_fields w p.taken)))
-    (e₃ : m₃ ≡ sets m₂ (at + 5 + w * 4) (map (mark p) (from 1 n))) where
-  pub line-put : set m₃ (at + 5 + w * 4 + n) 10 ≡ sets l at (a_line w n p)
-  unfolding columns in_columns
-  line-put =
+module _ (l m₁ z : List ℕ) (w n : ℕ) (p : Pair) (c : ℕ) (h : line_bytes w n ≤ length l) (ec : c ≡ size p.taken) (e₁ : m₁ ≡ sets (set l 0 65) 1 (columns false c))
+    (ez : z ≡ sets (take (length m₁ - 5) (drop 5 m₁)) 0 (fields_of (taken_fields w p.taken))) where
+  abbrev taken_is : List ℕ
+  taken_is = put_mid 5 (length m₁ - 5) m₁ z
+
+  ts : List ℕ
+  ts = fields_of (taken_fields w p.taken)
+
+  ms : List ℕ
+  ms = map (mark p) (from 1 n)
+
+  long₁ : length m₁ ≡ length l
+  long₁ = rw e₁ (length-sets (set l 0 65) 1 (columns false c) ∙ length-set l 0 65)
+
+  e₂ : taken_is ≡ sets m₁ 5 ts
+  unfolding ts
+  e₂ = rw ez (front-put m₁ (fields_of (taken_fields w p.taken)) 5 (length m₁) (omega (arith, long₁, taken-length w p.taken)) (omega arith))
+
+  long₂ : length taken_is ≡ length l
+  long₂ = rw e₂ (length-sets m₁ 5 ts) ∙ long₁
+
+  pub line-put : (y : List ℕ) → y ≡ map (mark p) (from 1 (length (take (5 + w * 4 + n - (5 + w * 4)) (drop (5 + w * 4) taken_is))))
+      → set (put_mid (5 + w * 4) (5 + w * 4 + n - (5 + w * 4)) taken_is y) (5 + w * 4 + n) 10 ≡ sets l 0 (a_line w n p)
+  unfolding columns in_columns ts ms
+  line-put y ey =
       let cs = columns false (size p.taken) in
-      let ts = fields_of (taken_fields w p.taken) in
-      let ms = map (mark p) (from 1 n) in
-      let whole = sets l at (a_line w n p) in
-      let after-letter = put_on l (set l at 65) (65 ∷ []) (cs ++ (ts ++ (ms ++ (10 ∷ [])))) whole at (at + 1) (rw (line-parts w n p) refl) refl refl in
-      let after-count = put_on (set l at 65) m₁ cs (ts ++ (ms ++ (10 ∷ []))) whole (at + 1) (at + 5) after-letter (rw ec at e₁) (omega arith) in
-      let after-taken = put_on m₁ m₂ ts (ms ++ (10 ∷ [])) whole (at + 5) (at + 5 + w * 4) after-count e₂ (omega (arith, taken-length w p.taken)) in
-      put_on m₂ m₃ ms (10 ∷ []) whole (at + 5 + w * 4) (at + 5 + w * 4 + n) after-taken e₃ (omega (arith, marks-length p n))
+      let whole = sets l 0 (a_line w n p) in
+      let own : length (take (5 + w * 4 + n - (5 + w * 4)) (drop (5 + w * 4) taken_is)) ≡ n =
+      omega (arith, length-take (5 + w * 4 + n - (5 + w * 4)) (drop (5 + w * 4) taken_is), length-drop (5 + w * 4) taken_is, long₂) in
+      let e₃ : put_mid (5 + w * 4) (5 + w * 4 + n - (5 + w * 4)) taken_is y ≡ sets taken_is (5 + w * 4) ms =
+      part-put taken_is y ms (5 + w * 4) (5 + w * 4 + n) (rw own at ey) (omega (arith, marks-length p n)) (omega (arith, long₂)) in
+      let after-letter = put_on l (set l 0 65) (65 ∷ []) (cs ++ (ts ++ (ms ++ (10 ∷ [])))) whole 0 1 (rw (line-parts w n p) refl) refl refl in
+      let after-count = put_on (set l 0 65) m₁ cs (ts ++ (ms ++ (10 ∷ []))) whole 1 5 after-letter (rw ec at e₁) (omega arith) in
+      let after-taken = put_on m₁ taken_is ts (ms ++ (10 ∷ [])) whole 5 (5 + w * 4) after-count e₂ (omega (arith, taken-length w p.taken)) in
+      put_on taken_is (put_mid (5 + w * 4) (5 + w * 4 + n - (5 + w * 4)) taken_is y) ms (10 ∷ []) whole (5 + w * 4) (5 + w * 4 + n) after-taken e₃ (omega (arith, marks-length p n))

@@ -13,7 +13,7 @@ use Rattle.book.specs.declared.Shape.{Shape}
 use Rattle.text.specs.declared.Refusal.{Refusal}
 use Rattle.std.specs.Prelude.{Result, Ok, Err}
 use Rattle.std.specs.Result.{result_unwrap_or}
-use Rattle.text.specs.Reading.{read_text, over}
+use Rattle.text.specs.Reading.{read_text, over, refusal}
 use Rattle.text.specs.Reading.Outcome.{accepted, refused}
 use Rattle.book.specs.Counts.{row_numbers}
 use Rattle.book.proofs.Counts.{exceptions-in}
@@ -71,8 +71,8 @@ module _ (bs : List ℕ) (r : Result Shape Refusal) (rows : List ℤ) (g : Parsi
       unfolding line_answer on_text here
       answer-is = rw read_is (ap (λ (j : ℕ). unless_down turned j (room_for (length l) (line_in (book_of s (take (row_numbers s) rows)) p))) (sym same))
 
-      pub line-unlawful : (q : Refusal) → q.number ≡ k → (k ≡ 0 → ⊥) → q.line ≡ 0 → Met bs p l (Err q) l
-      line-unlawful q e n z = turned-met bs p l q (rw (e, z) (answer-is ∙ unless-other turned k (room_for (length l) here) n))
+      pub line-unlawful : (k ≡ 0 → ⊥) → Met bs p l (Err (refusal k 0)) l
+      line-unlawful n = turned-met bs p l (refusal k 0) (answer-is ∙ unless-other turned k (room_for (length l) here) n)
 
       module _ (z : k ≡ 0) (w : ℕ) (ew : w ≡ line_fields s.exceptions) where
         here-is : here ≡ a_line w s.statements p
@@ -82,9 +82,9 @@ module _ (bs : List ℕ) (r : Result Shape Refusal) (rows : List ℤ) (g : Parsi
         room-is : line_answer bs p (length l) ≡ room_for (length l) (a_line w s.statements p)
         room-is = rw (← here-is) (answer-is ∙ unless-none turned k (room_for (length l) here) z)
 
-        pub line-short : (m : ℕ) → m ≡ line_bytes w s.statements → length l < m → Met bs p l (Err (record { number = 15; line = 0 })) l
+        pub line-short : (m : ℕ) → m ≡ line_bytes w s.statements → length l < m → Met bs p l (Err (refusal 15 0)) l
         unfolding room_for pick
-        line-short m em h = turned-met bs p l (record { number = 15; line = 0 }) (room-is ∙ rw (lt-ltb (length l) (length (a_line w s.statements p)) (omega (arith, line-length w s.statements p))))
+        line-short m em h = turned-met bs p l (refusal 15 0) (room-is ∙ rw (lt-ltb (length l) (length (a_line w s.statements p)) (omega (arith, line-length w s.statements p))))
 
         pub line-whole : (m : ℕ) (l' : List ℕ) → m ≡ line_bytes w s.statements → m ≤ length l → l' ≡ sets l 0 (a_line w s.statements p) → Met bs p l (Ok m) l'
         unfolding room_for pick

@@ -9,7 +9,7 @@ ghost use Rattle.answers.specs.Operations.{line_answer};
 ghost use Rattle.line.specs.Parts.{fields_of, taken_of, line_bytes};
 ghost use Rattle.line.specs.Promise.{Met, part_of};
 
-use book::Book;
+use book::{Book, Fault};
 use sets::Pair;
 use text::Refusal;
 
@@ -38,38 +38,38 @@ pub fn line_bytes(w: usize, n: usize) -> usize
 
 // ---- the fields
 
-// The fields of the exceptions taken of the first w, ascending, at a place of a buffer; how many there are.
-pub fn put_members(buf: &mut [u8], at: usize, w: usize, taken: u64) -> usize
-    requires { (w ≤ 64) × (at + w * 4 ≤ length buf.old) }
-    ensures { (buf.new ≡ sets buf.old at (fields_of (taken_of w taken))) × (result ≡ length (taken_of w taken)) × (result ≤ w) }
+// The fields of the exceptions taken of the first w, ascending, in front of a buffer; how many there are.
+pub fn put_members(buf: &mut [u8], w: usize, taken: u64) -> usize
+    requires { (w ≤ 64) × (w * 4 ≤ length buf.old) }
+    ensures { (buf.new ≡ sets buf.old 0 (fields_of (taken_of w taken))) × (result ≡ length (taken_of w taken)) × (result ≤ w) }
 {
     let mut k = 0;
     for i in 0..w {
         if sets::member((i + 1) as u64, taken) {
-            fields::put_columns(buf, at + k * Book::COLUMNS, false, (i + 1) as u32);
+            fields::put_columns(buf, k * Book::COLUMNS, false, (i + 1) as u32);
             k += 1;
         }
     }
     k
 }
 
-// w fields of 0 at a place of a buffer.
-pub fn put_zeros(buf: &mut [u8], at: usize, w: usize)
-    requires { at + w * 4 ≤ length buf.old }
-    ensures { buf.new ≡ sets buf.old at (fields_of (replicate w 0)) }
+// w fields of 0 in front of a buffer.
+pub fn put_zeros(buf: &mut [u8], w: usize)
+    requires { w * 4 ≤ length buf.old }
+    ensures { buf.new ≡ sets buf.old 0 (fields_of (replicate w 0)) }
 {
     for i in 0..w {
-        fields::put_columns(buf, at + i * Book::COLUMNS, false, 0);
+        fields::put_columns(buf, i * Book::COLUMNS, false, 0);
     }
 }
 
-// The fields of the exceptions taken of the first w, then of 0, w in all, at a place of a buffer.
-pub fn put_taken(buf: &mut [u8], at: usize, w: usize, taken: u64)
-    requires { (w ≤ 64) × (at + w * 4 ≤ length buf.old) }
-    ensures { buf.new ≡ sets buf.old at (fields_of (taken_fields w taken)) }
+// The fields of the exceptions taken of the first w, then of 0, w in all, in front of a buffer.
+pub fn put_taken(buf: &mut [u8], w: usize, taken: u64)
+    requires { (w ≤ 64) × (w * 4 ≤ length buf.old) }
+    ensures { buf.new ≡ sets buf.old 0 (fields_of (taken_fields w taken)) }
 {
-    let k = put_members(buf, at, w, taken);
-    put_zeros(buf, at + k * Book::COLUMNS, w - k);
+    let k = put_members(buf, w, taken);
+    put_zeros(&mut buf[k * Book::COLUMNS..], w - k);
 }
 
 // ---- the marks
@@ -88,28 +88,28 @@ pub fn mark(p: Pair, i: u64) -> u8
     b'.'
 }
 
-// The marks of the statements 1 to n at a place of a buffer.
-pub fn put_marks(buf: &mut [u8], at: usize, n: usize, p: Pair)
-    requires { (n ≤ 64) × (at + n ≤ length buf.old) }
-    ensures { buf.new ≡ sets buf.old at (map (mark_of p) (from 1 n)) }
+// The marks of as many statements as the buffer has bytes.
+pub fn put_marks(buf: &mut [u8], p: Pair)
+    requires { length buf.old ≤ 64 }
+    ensures { buf.new ≡ map (mark_of p) (from 1 (length buf.old)) }
 {
-    for i in 0..n {
-        buf[at + i] = mark(p, (i + 1) as u64);
+    for (i, b) in buf.iter_mut().enumerate() {
+        *b = mark(p, (i + 1) as u64);
     }
 }
 
 // ---- the line
 
-// The line of a pair in a book of n statements, with w fields for exceptions, its line feed too, at a place of a buffer.
-pub fn put_line(buf: &mut [u8], at: usize, w: usize, n: usize, p: Pair)
-    requires { (w ≤ 64) × (n ≤ 64) × (at + line_bytes w n ≤ length buf.old) }
-    ensures { buf.new ≡ sets buf.old at (a_line w n p) }
+// The line of a pair in a book of n statements, with w fields for exceptions, its line feed too, in front of a buffer.
+pub fn put_line(buf: &mut [u8], w: usize, n: usize, p: Pair)
+    requires { (w ≤ 64) × (n ≤ 64) × (line_bytes w n ≤ length buf.old) }
+    ensures { buf.new ≡ sets buf.old 0 (a_line w n p) }
 {
-    let marks = at + AT_TAKEN + w * Book::COLUMNS;
-    buf[at] = b'A';
-    fields::put_columns(buf, at + 1, false, sets::size(p.taken));
-    put_taken(buf, at + AT_TAKEN, w, p.taken);
-    put_marks(buf, marks, n, p);
+    let marks = AT_TAKEN + w * Book::COLUMNS;
+    buf[0] = b'A';
+    fields::put_columns(buf, 1, false, sets::size(p.taken));
+    put_taken(&mut buf[AT_TAKEN..], w, p.taken);
+    put_marks(&mut buf[marks..marks + n], p);
     buf[marks + n] = b'\n';
 }
 
@@ -124,9 +124,9 @@ pub fn line(text: &[u8], p: Pair, buf: &mut [u8]) -> Result<usize, Refusal>
     let w = line_fields(s.exceptions);
     let m = line_bytes(w, s.statements);
     if buf.len() < m {
-        return Err(Refusal::new(15, 0));
+        return Err(Refusal::of(Fault::BufferShort, 0));
     }
-    put_line(buf, 0, w, s.statements, p);
+    put_line(buf, w, s.statements, p);
     Ok(m)
 }
 

@@ -1,9 +1,8 @@
 -- What the stores of the functions leave in a buffer.
-use Prim.Native.Nat.{ℕ, zero, suc, ◌+◌, ◌-◌, ◌*◌, ◌<◌, ◌≤◌}
+use Prim.Native.Nat.{ℕ, zero, suc, ◌+◌, ◌*◌, ◌<◌, ◌≤◌}
 use mathlib.Core.Path.{◌≡◌, refl, ap}
 use mathlib.Core.Bool.{false}
 use mathlib.Core.List.{List, [], ◌∷◌, ◌++◌}
-use native.Mathlib.Numerals.{unary_clauses}
 use native.Mathlib.Omega.{arith}
 use borrow.Author.Tests.{lt-leb}
 use lib.Dec.{leb}
@@ -38,16 +37,14 @@ closing-is : (x k : ℕ) → k ≤ most_lines → closing_line x k ≡ x ∷ 32 
 unfolding closing_line
 closing-is x k h = ap (λ (l : List ℕ). x ∷ (l ++ (10 ∷ []))) (count-short k h)
 
-pub closed : (l m₁ xs : List ℕ) (at x k : ℕ) → k ≤ most_lines → at + closing_bytes ≤ length l → xs ≡ replicate (length (take (at + 5 - (at + 1)) (drop (at + 1) (set l at x)))) 32
-    → m₁ ≡ sets (put_mid (at + 1) (at + 5 - (at + 1)) (set l at x) xs) (at + 5) (columns false k) → set m₁ (at + 9) 10 ≡ sets l at (closing_line x k)
+pub closed : (l m₁ xs : List ℕ) (x k : ℕ) → k ≤ most_lines → closing_bytes ≤ length l → xs ≡ replicate (length (take 4 (drop 1 (set l 0 x)))) 32
+    → m₁ ≡ sets (put_mid 1 4 (set l 0 x) xs) 5 (columns false k) → set m₁ 9 10 ≡ sets l 0 (closing_line x k)
 unfolding columns in_columns
-closed l m₁ xs at x k h r d e =
-    let c : length (take (at + 5 - (at + 1)) (drop (at + 1) (set l at x))) ≡ 4 =
-    omega (arith, length-take (at + 5 - (at + 1)) (drop (at + 1) (set l at x)), length-drop (at + 1) (set l at x), length-set l at x) in
+closed l m₁ xs x k h r d e =
+    let c : length (take 4 (drop 1 (set l 0 x))) ≡ 4 = omega (arith, length-take 4 (drop 1 (set l 0 x)), length-drop 1 (set l 0 x), length-set l 0 x) in
     let f : xs ≡ 32 ∷ 32 ∷ 32 ∷ 32 ∷ [] = rw c at d in
-    let g = part-put (set l at x) xs (32 ∷ 32 ∷ 32 ∷ 32 ∷ []) (at + 1) (at + 5) f (omega arith) (omega (arith, length-set l at x)) in
-    let n : at + 9 ≡ suc (suc (suc (suc (suc (suc (suc (suc (suc at)))))))) = omega arith in
-    rw (closing-is x k h, e, g, n) (simp unary_clauses refl)
+    let g : put_mid 1 4 (set l 0 x) xs ≡ sets (set l 0 x) 1 (32 ∷ 32 ∷ 32 ∷ 32 ∷ []) = part-put (set l 0 x) xs (32 ∷ 32 ∷ 32 ∷ 32 ∷ []) 1 5 f refl (omega (arith, length-set l 0 x)) in
+    rw (closing-is x k h, e, g) refl
 
 pub failed-put : (l m₁ m₂ : List ℕ) (q k : ℕ) → m₁ ≡ sets (set l 0 70) 1 (columns false q) → m₂ ≡ sets m₁ 5 (columns false k) → set m₂ 9 10 ≡ sets l 0 (failed q k)
 unfolding failed written_all written columns in_columns

@@ -38,21 +38,21 @@ pub fn put_lines(out: &mut [u8], w: usize, n: usize, pairs: &[u64], k: usize) ->
     let mut at = 0;
     for i in 0..k {
         let p = page::pair_at(pairs, i);
-        line::put_line(out, at, w, n, p);
+        line::put_line(&mut out[at..], w, n, p);
         at += bytes;
     }
     at
 }
 
-// A closing line at a place of a buffer: a letter, a count of at most four digits right-justified in eight columns, a line feed.
-pub fn put_closing(out: &mut [u8], at: usize, letter: u8, count: usize)
-    requires { (at + closing_bytes ≤ length out.old) × (count ≤ most_lines) }
-    ensures { out.new ≡ sets out.old at (closing_line letter count) }
+// A closing line in front of a buffer: a letter, a count of at most four digits right-justified in eight columns, a line feed.
+pub fn put_closing(out: &mut [u8], letter: u8, count: usize)
+    requires { (closing_bytes ≤ length out.old) × (count ≤ most_lines) }
+    ensures { out.new ≡ sets out.old 0 (closing_line letter count) }
 {
-    out[at] = letter;
-    out[at + 1..at + 5].fill(b' ');
-    fields::put_columns(out, at + 5, false, count as u32);
-    out[at + 9] = b'\n';
+    out[0] = letter;
+    out[1..5].fill(b' ');
+    fields::put_columns(out, 5, false, count as u32);
+    out[9] = b'\n';
 }
 
 // A part: how many bytes it has, and its last pair if the listing goes on after it.
@@ -76,7 +76,7 @@ pub fn close_part(
     ensures { Closes w n pairs.now k letter done out.new result }
 {
     let at = put_lines(out, w, n, pairs, k);
-    put_closing(out, at, letter, done + k);
+    put_closing(&mut out[at..], letter, done + k);
     Part {
         bytes: at + CLOSING,
         next: None,

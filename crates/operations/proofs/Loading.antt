@@ -14,13 +14,16 @@ use Rattle.text.specs.Accepted.{Accepted as Facts}
 use Rattle.text.proofs.Facts.{plain-rules, alternative-rules, exception-rules, entry-small, Named, preference-named, conditional-named, conditional-small}
 use Rattle.read.specs.Storing.{outcome_of}
 use Rattle.read.specs.Parsing.{Parsing}
-use Rattle.meaning.specs.Meant.{at, number, book_of}
+use Rattle.meaning.specs.Meant.{at, number as number_at, book_of}
 use Rattle.bridge.specs.Packed.{Packs}
 use Rattle.bridge.specs.Ranks.{Names, RanksOf}
 use Rattle.bridge.specs.Rows.{rule_count, RowsLawful}
 use Rattle.std.specs.Prelude.{Result, Ok, Err}
 use Rattle.sets.specs.declared.Pair.{Pair}
-use Rattle.lawful.specs.Refusals.{Refuses}
+use Rattle.lawful.specs.declared.Unlawful.{Unlawful}
+use Rattle.lawful.specs.Refusals.{Refuses, number}
+use Rattle.lawful.proofs.Tests.{numbered}
+use Rattle.text.specs.Reading.{refusal}
 use Rattle.meaning.specs.Twins.Verdicts.{pair_refusal}
 use Rattle.meaning.proofs.Meant.{exceptions-count}
 use Rattle.meaning.proofs.Refusals.{none-lawful}
@@ -37,16 +40,16 @@ entries-lawful s ws f (suc (suc zero)) g h k l i m = entry-small s ws f alternat
 entries-lawful s ws f (suc (suc (suc zero))) g h k l i m = entry-small s ws f exception exception-rules k i l m
 entries-lawful s ws f (suc (suc (suc (suc q)))) g h k l i m = absurd (omega arith)
 
-names-own : (m : ℕ) (v : ℤ) → Named m v → Names m (number v)
-unfolding number
+names-own : (m : ℕ) (v : ℤ) → Named m v → Names m (number_at v)
+unfolding number_at
 names-own m v n = rw n.is (record { from_one = n.low; most = n.high })
 
 module _ (s : Shape) (ws : List ℤ) (f : Facts s ws) where
-  names-lawful : (k : ℕ) → k < s.preferences → (i : ℕ) → i < preference_numbers → Names s.exceptions (number (at ws (start_of s preference + k * preference_numbers + i)))
+  names-lawful : (k : ℕ) → k < s.preferences → (i : ℕ) → i < preference_numbers → Names s.exceptions (number_at (at ws (start_of s preference + k * preference_numbers + i)))
   unfolding count_at all_counts counts_of
   names-lawful k h i l = names-own _ _ (preference-named s ws f k i h l)
 
-  line-names-lawful : (k : ℕ) → k < s.conditionals → (i : ℕ) → i < preference_numbers → Names s.exceptions (number (at ws (start_of s conditional + k * conditional_numbers + i)))
+  line-names-lawful : (k : ℕ) → k < s.conditionals → (i : ℕ) → i < preference_numbers → Names s.exceptions (number_at (at ws (start_of s conditional + k * conditional_numbers + i)))
   unfolding count_at all_counts counts_of
   line-names-lawful k h i l = names-own _ _ (conditional-named s ws f k i h l)
 
@@ -97,8 +100,8 @@ unfolding book_of
 refusal-is s rows p k c = c.refusal (book_of s rows) refl (exceptions-count s rows)
 
 module _ (bs : List ℕ) (s : Shape) (p : Pair) (ws ranks : List ℕ) (d : Loads bs (Ok s) ws ranks) where
-  pub refused-for : (q : Refusal) → Refuses s.statements s.exceptions p q.number → (q.number ≡ 0 → ⊥) → q.line ≡ 0 → LoadsFor bs p (Err q) ws ranks
-  refused-for q c n z = by_pair s d.0 d.1 (refusal-is s d.0 p q.number c) n z
+  pub refused-for : (u : Unlawful) → Refuses s.statements s.exceptions p (number u) → LoadsFor bs p (Err (refusal (number u) 0)) ws ranks
+  refused-for u c = by_pair s d.0 d.1 (refusal-is s d.0 p (number u) c) (numbered u) refl
 
   pub lawful-for : Refuses s.statements s.exceptions p 0 → LoadsFor bs p (Ok s) ws ranks
   lawful-for c = (d.0, d.1, d.2, none-lawful (book_of s d.0) p (sym (refusal-is s d.0 p 0 c)))

@@ -12,7 +12,7 @@ use lib.ListN.{length, replicate}
 use Rattle.logic.specs.Lists.{Every}
 use Rattle.sets.specs.declared.Pair.{Pair}
 use Rattle.book.specs.declared.Shape.{Shape}
-use Rattle.text.specs.declared.Field.TheVariants.{Value, Misspelt}
+use Rattle.std.specs.Prelude.{Ok, Err}
 use Rattle.text.specs.Fields.{written, Misspells, Short, WellSpelt, spelt}
 use Rattle.text.specs.Lines.{lines}
 use Rattle.text.specs.Reading.{read_text, read_into, table_of}
@@ -119,8 +119,8 @@ pub record DemandOne : Type 1 where
   pub write-untouched : (l : List ℕ) (q at' : ℕ) → write_into l (no_text q at') ≡ l
   pub left-untouched : (A : Type 0) (f : A → List ℕ) (l : List ℕ) (q at' : ℕ) → left f l (turned q at') ≡ l
   pub numbered : (bs : List ℕ) → Known (suc (length (lines bs))) (read_text bs)
-  pub spelt-number : (a b c d : ℕ) (v : ℤ) → (spelt a b c d ≡ Value v) ↔ (Short v × (written v ≡ a ∷ b ∷ c ∷ d ∷ []))
-  pub misspelt : (a b c d q : ℕ) → (spelt a b c d ≡ Misspelt q) ↔ Misspells (a ∷ b ∷ c ∷ d ∷ []) q
+  pub spelt-number : (a b c d : ℕ) (v : ℤ) → (spelt a b c d ≡ Ok v) ↔ (Short v × (written v ≡ a ∷ b ∷ c ∷ d ∷ []))
+  pub misspelt : (a b c d q : ℕ) → (spelt a b c d ≡ Err q) ↔ Misspells (a ∷ b ∷ c ∷ d ∷ []) q
   pub well-spelt : (a b c d : ℕ) → WellSpelt (a ∷ b ∷ c ∷ d ∷ []) ↔ ((q : ℕ) → Misspells (a ∷ b ∷ c ∷ d ∷ []) q → ⊥)
   pub as_before : (bs : List ℕ) → read_before bs ≡ told_before (read_text bs)
 

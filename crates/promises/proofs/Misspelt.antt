@@ -16,11 +16,11 @@ use Rattle.logic.proofs.Tests.{all-at}
 use Rattle.book.specs.declared.Content.{Content}
 use Rattle.book.specs.declared.Content.TheVariants.{Edition, Statements, Literal, Exception, Total}
 use Rattle.book.specs.declared.Shape.{Shape}
+use Rattle.book.specs.Faults.{number}
 use Rattle.book.specs.Kinds.{kinds, kind, unknown, fields_of, bytes, none, exception, Range, range_of, longest}
 use Rattle.book.proofs.Counts.{many}
 use Rattle.text.specs.declared.State.{State}
-use Rattle.text.specs.declared.Field.{Field}
-use Rattle.text.specs.declared.Field.TheVariants.{Value, Misspelt}
+use Rattle.std.specs.Prelude.{Result, Ok, Err}
 use Rattle.text.specs.Fields.{size_of, minus_in, signed, misspelling, Misspells, is_stray, is_gapped, is_wrong_zero, read_columns, is_number, spelt, first_field}
 use Rattle.text.specs.Lines.{Numbers, Line, lines, kind_for, inside, and_then, test_field, read_fields, headless, missing, miscounted, whole_of, unless, judged, read_rest, read_kind, read_line}
 use Rattle.text.specs.Lines.Numbers.{numbers, fault}
@@ -53,25 +53,25 @@ misspelt-before bs q (is_gapped e f) = refl
 misspelt-before bs q (is_wrong_zero e f g) = refl
 
 -- Today's field, told as before: 5 for each of the three.
-abbrev told_field : Field → Field
-told_field (Value v) = Value v
-told_field (Misspelt q) = Misspelt (number_before q)
+abbrev told_field : Result ℤ ℕ → Result ℤ ℕ
+told_field (Ok v) = Ok v
+told_field (Err q) = Err (number_before q)
 
 -- What was read as a number is, and nothing else: the same columns are compared. What was 5 is one of the three.
 spelt-before : (a b c d : ℕ) → spelt_before a b c d ≡ told_field (spelt a b c d)
 unfolding spelt_before columns_before spelt read_columns pick
 spelt-before a b c d = go (is_number a b c d) refl
   where
-    go : (t : Bool) → is_number a b c d ≡ t → pick t (Value (signed (minus_in a b c) (size_of a b c d))) (Misspelt 5)
-        ≡ told_field (pick t (Value (signed (minus_in a b c) (size_of a b c d))) (Misspelt (misspelling (a ∷ b ∷ c ∷ d ∷ []))))
+    go : (t : Bool) → is_number a b c d ≡ t → pick t (Ok (signed (minus_in a b c) (size_of a b c d))) (Err 5)
+        ≡ told_field (pick t (Ok (signed (minus_in a b c) (size_of a b c d))) (Err (misspelling (a ∷ b ∷ c ∷ d ∷ []))))
     go true p = refl
-    go false p = ap Misspelt (sym (misspelt-before (a ∷ b ∷ c ∷ d ∷ []) (misspelling (a ∷ b ∷ c ∷ d ∷ [])) ((misspelt-iff a b c d (misspelling (a ∷ b ∷ c ∷ d ∷ []))).0 (rw p))))
+    go false p = ap Err (sym (misspelt-before (a ∷ b ∷ c ∷ d ∷ []) (misspelling (a ∷ b ∷ c ∷ d ∷ [])) ((misspelt-iff a b c d (misspelling (a ∷ b ∷ c ∷ d ∷ []))).0 (rw p))))
 
 first-before : (bs : List ℕ) → first_before bs ≡ told_field (first_field bs)
 unfolding first_before first_field
 first-before bs = spelt-before (get_or bs 0 0) (get_or bs 1 0) (get_or bs 2 0) (get_or bs 3 0)
 
-range_same : (c : Content) (n : ℕ) → Same (range_of c n).fault
+range_same : (c : Content) (n : ℕ) → Same (number (range_of c n).fault)
 unfolding range_of number_before either pick
 range_same Edition n = refl
 range_same Statements n = refl
@@ -89,11 +89,11 @@ unfolding and_then
 then-before v (numbers vs) = refl
 then-before v (fault q) = refl
 
-field-before : (f : Field) (r : Range) (ns : Numbers) → Same r.fault → test_field (told_field f) r (numbers_before ns) ≡ numbers_before (test_field f r ns)
+field-before : (f : Result ℤ ℕ) (r : Range) (ns : Numbers) → Same (number r.fault) → test_field (told_field f) r (numbers_before ns) ≡ numbers_before (test_field f r ns)
 unfolding test_field
-field-before (Misspelt q) r ns e = refl
-field-before (Value v) r ns e =
-    rw (then-before v ns) (ap (λ (q : ℕ). pick (inside r v) (numbers_before (and_then v ns)) (fault q)) (sym e) ∙ pick-map numbers_before (inside r v) (and_then v ns) (fault r.fault))
+field-before (Err q) r ns e = refl
+field-before (Ok v) r ns e =
+    rw (then-before v ns) (ap (λ (q : ℕ). pick (inside r v) (numbers_before (and_then v ns)) (fault q)) (sym e) ∙ pick-map numbers_before (inside r v) (and_then v ns) (fault (number r.fault)))
 
 fields-before : (cs : List Content) (n : ℕ) (bs : List ℕ) → fields_before cs n bs ≡ numbers_before (read_fields cs n bs)
 unfolding fields_before read_fields
@@ -103,22 +103,22 @@ fields-before (c ∷ cs) n bs =
 
 -- ---- a line
 -- A kind's own refusals are neither 17 nor 18.
-kind-same : (k : ℕ) → Same (kind k).over × Same (kind k).unfilled
+kind-same : (k : ℕ) → Same (number (kind k).over) × Same (number (kind k).unfilled)
 unfolding kind kinds unknown number_before either pick
 kind-same k = go (ltb k none) refl
   where
-    go : (b : Bool) → ltb k none ≡ b → Same (kind k).over × Same (kind k).unfilled
+    go : (b : Bool) → ltb k none ≡ b → Same (number (kind k).over) × Same (number (kind k).unfilled)
     go true p = (
-      eqb-true _ _ (all-at (λ (j : ℕ). eqb (number_before (kind j).over) (kind j).over) none k refl (ltb-true k none p)),
-      eqb-true _ _ (all-at (λ (j : ℕ). eqb (number_before (kind j).unfilled) (kind j).unfilled) none k refl (ltb-true k none p)),
+      eqb-true _ _ (all-at (λ (j : ℕ). eqb (number_before (number (kind j).over)) (number (kind j).over)) none k refl (ltb-true k none p)),
+      eqb-true _ _ (all-at (λ (j : ℕ). eqb (number_before (number (kind j).unfilled)) (number (kind j).unfilled)) none k refl (ltb-true k none p)),
     )
     go false p = let e : kind k ≡ unknown = get_or-eq_default kinds unknown {n = k} (rw many (ltb-false k none p)) in rw e (refl, refl)
 
 whole_same : (st : State) (k : ℕ) (vs : List ℤ) → Same (whole_of st k vs)
 unfolding whole_of number_before either pick
 whole_same st k vs =
-    same-pick (leb (kind k).limit (get_or st.counts k 0)) (kind k).over _ (kind-same k).0
-    (same-pick (headless (kind k) vs) (kind k).unfilled _ (kind-same k).1
+    same-pick (leb (kind k).limit (get_or st.counts k 0)) (number (kind k).over) _ (kind-same k).0
+    (same-pick (headless (kind k) vs) (number (kind k).unfilled) _ (kind-same k).1
     (same-pick (missing (get_or st.counts exception 0) (kind k) vs) 10 _ ten
     (same-pick (miscounted st.rows (kind k) vs) 11 0 eleven none_told)))
   where

@@ -2,13 +2,11 @@
 -- misspelt, and every misspelt field is refused by 5. It is here only to say what "all three stand where 5 stood" means. Writing, ranges, what
 -- is tested of a line as a whole and what follows from line to line have no part in the request, and are text/specs's own; so are the kinds of
 -- line, with the Q lines that came later.
-use Rattle.std.specs.Prelude.{ℕ, suc, ◌+◌, Bool, List, [], ◌∷◌, eqb, ltb, length, get_or, drop}
+use Rattle.std.specs.Prelude.{ℕ, suc, ◌+◌, Bool, List, [], ◌∷◌, eqb, ltb, ℤ, length, get_or, drop, Result, Ok, Err}
 use Rattle.logic.specs.Tests.{either, pick}
 use Rattle.book.specs.declared.Content.{Content}
 use Rattle.book.specs.Kinds.{kind, fields_of, bytes, none, range_of, longest}
 use Rattle.text.specs.declared.State.{State}
-use Rattle.text.specs.declared.Field.{Field}
-use Rattle.text.specs.declared.Field.TheVariants.{Value, Misspelt}
 use Rattle.text.specs.Fields.{columns, size_of, minus_in, signed, same}
 use Rattle.text.specs.Lines.{Numbers, Line, lines, kind_for, test_field, whole_of, judged}
 use Rattle.text.specs.Lines.Numbers.{numbers}
@@ -17,13 +15,13 @@ use Rattle.text.specs.Reading.{Outcome, start, step, read_end, on_line, last_byt
 use Rattle.text.specs.Reading.Outcome.{accepted, refused}
 
 -- ---- reading with one refusal for all misspelt fields
-unfoldable pub columns_before : Bool → ℕ → List ℕ → Field
-columns_before neg m bs = pick (same (columns neg m) bs) (Value (signed neg m)) (Misspelt 5)
+unfoldable pub columns_before : Bool → ℕ → List ℕ → Result ℤ ℕ
+columns_before neg m bs = pick (same (columns neg m) bs) (Ok (signed neg m)) (Err 5)
 
-unfoldable pub spelt_before : ℕ → ℕ → ℕ → ℕ → Field
+unfoldable pub spelt_before : ℕ → ℕ → ℕ → ℕ → Result ℤ ℕ
 spelt_before a b c d = columns_before (minus_in a b c) (size_of a b c d) (a ∷ b ∷ c ∷ d ∷ [])
 
-unfoldable pub first_before : List ℕ → Field
+unfoldable pub first_before : List ℕ → Result ℤ ℕ
 first_before bs = spelt_before (get_or bs 0 0) (get_or bs 1 0) (get_or bs 2 0) (get_or bs 3 0)
 
 unfoldable pub fields_before : List Content → ℕ → List ℕ → Numbers

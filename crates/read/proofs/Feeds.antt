@@ -1,44 +1,39 @@
 -- The next line feed: what is left to look at, from here, gives the final answer; and the first line of what is left of the text.
 -- By induction on the bytes.
-use mathlib.Core.Path.{◌≡◌, refl, ◌∙◌}
+use mathlib.Core.Path.{◌≡◌, refl, ap, ◌∙◌}
 use mathlib.Core.Bool.{Bool, true, false}
 use mathlib.Core.List.{List, [], ◌∷◌}
 use Prim.Native.Nat.{ℕ, zero, suc, ◌+◌, ◌<◌, ◌≤◌}
-use native.Mathlib.Nat.{add-zero, zero-add, not-suc-le-zero}
+use native.Mathlib.Nat.{not-suc-le-zero}
 use native.Mathlib.Omega.{arith}
 use lib.Dec.{eqb}
-use lib.ListN.{get_or, drop, take, length, length-drop, drop_of_length-le}
-use lib.Seq.{drop-cons, drop-drop}
+use lib.ListN.{get_or, drop, take, length, length-drop}
+use lib.Seq.{drop-drop}
 use borrow.Author.Tests.{eqb-true, eqb-false, eq-eqb, ne_eqb}
+use Rattle.std.specs.Prelude.{Option, Some, None, MatchOption, unwrap_or}
+use Rattle.std.specs.List.{AllWithin, HoldsAt}
 use Rattle.logic.specs.Tests.{pick}
 use Rattle.text.specs.Lines.{lines, to_first}
 use Rattle.text.specs.Reading.{last_byte}
 use Rattle.read.specs.Storing.{until_feed}
 
 -- ---- the next line feed
-module _ (text : List ℕ) (at n : ℕ) where
-  pub feed-start : 0 + until_feed (drop (at + 0) text) ≡ until_feed (drop at text)
-  feed-start = rw (add-zero at) (zero-add _)
+feed-at : (t : List ℕ) (i : ℕ) → i < length t → get_or t i 0 ≡ 10 → ((j : ℕ) → j < i → get_or t j 0 ≡ 10 → ⊥) → i ≡ until_feed t
+unfolding until_feed pick
+feed-at [] i h e f = absurd (omega arith)
+feed-at (b ∷ bs) zero h e f = rw (eq-eqb b 10 e)
+feed-at (b ∷ bs) (suc i) h e f = rw (ne_eqb b 10 (f 0 (omega arith))) (ap suc (feed-at bs i (omega arith) e (λ j g. f (suc j) (omega arith))))
 
-  pub feed-here : at + n < length text → get_or text (at + n) 0 ≡ 10 → n + until_feed (drop (at + n) text) ≡ until_feed (drop at text) → n ≡ until_feed (drop at text)
-  unfolding until_feed pick
-  feed-here h e inv =
-      let z : until_feed (drop (at + n) text) ≡ 0 = rw (drop-cons text (at + n) 0 h, eq-eqb (get_or text (at + n) 0) 10 e) in
-      omega (arith, inv, z)
+feed-nowhere : (t : List ℕ) → ((j : ℕ) → j < length t → get_or t j 0 ≡ 10 → ⊥) → length t ≡ until_feed t
+unfolding until_feed pick
+feed-nowhere [] f = refl
+feed-nowhere (b ∷ bs) f = rw (ne_eqb b 10 (f 0 (omega arith))) (ap suc (feed-nowhere bs (λ j g. f (suc j) (omega arith))))
 
-  pub feed-next : at + n < length text → (get_or text (at + n) 0 ≡ 10 → ⊥) → n + until_feed (drop (at + n) text) ≡ until_feed (drop at text)
-      → n + 1 + until_feed (drop (at + (n + 1)) text) ≡ until_feed (drop at text)
-  unfolding until_feed pick
-  feed-next h f inv =
-      let z : until_feed (drop (at + n) text) ≡ suc (until_feed (drop (suc (at + n)) text)) = rw (drop-cons text (at + n) 0 h, ne_eqb (get_or text (at + n) 0) 10 f) in
-      let q : at + (n + 1) ≡ suc (at + n) = omega arith in
-      rw q (omega (arith, inv, z))
-
-  pub feed-end : length text ≤ at + n → n + until_feed (drop (at + n) text) ≡ until_feed (drop at text) → n ≡ until_feed (drop at text)
-  unfolding until_feed
-  feed-end h inv =
-      let z : until_feed (drop (at + n) text) ≡ 0 = rw (drop_of_length-le text {i = at + n} h) in
-      omega (arith, inv, z)
+-- The place of the first line feed, and the length where there is none.
+pub feed-first : (t : List ℕ) (r : Option ℕ) (n : ℕ) → MatchOption r (AllWithin (λ b. b ≡ 10 → ⊥) t 0 (length t)) (λ i. (i < length t) × HoldsAt (λ b. b ≡ 10) t i × AllWithin (λ b. b ≡ 10 → ⊥) t 0 i)
+    → n ≡ unwrap_or r (length t) → (n ≡ until_feed t) × (n ≤ length t)
+feed-first t None n f e = (e ∙ feed-nowhere t (λ j h. f j 0 (omega arith) h), omega arith)
+feed-first t (Some i) n f e = (e ∙ feed-at t i f.0 (f.1 0) (λ j h. f.2 j 0 (omega arith) h), omega (arith, f.0))
 
 -- ---- the first line of what is left
 last-drop : (bs : List ℕ) (at : ℕ) → at < length bs → last_byte (drop at bs) ≡ last_byte bs

@@ -18,6 +18,7 @@ use Rattle.logic.specs.Tests.{pick}
 use Rattle.book.specs.declared.Kind.{Kind}
 use Rattle.book.specs.declared.Content.{Content}
 use Rattle.book.specs.declared.Content.TheVariants.{Edition}
+use Rattle.book.specs.Faults.{number}
 use Rattle.book.specs.Kinds.{contents, fields_of, Range, range_of}
 use Rattle.text.specs.Fields.{first_field}
 use Rattle.text.specs.Lines.{Numbers, inside, and_then, test_field, read_fields}
@@ -43,15 +44,15 @@ module _ (x z : Result ℤ ℕ) (r : Range) (v : ℤ) (y : Result ⊤ ℕ) (d : 
   unfolding number_of number_is pick
   number-outside q g = go (inside r v) refl (sym checked-is ∙ g)
     where
-      go : (b : Bool) → inside r v ≡ b → pick b (Ok (tt {0})) (Err r.fault) ≡ Err q → Err q ≡ number_of x r
+      go : (b : Bool) → inside r v ≡ b → pick b (Ok (tt {0})) (Err (number r.fault)) ≡ Err q → Err q ≡ number_of x r
       go true o p = absurd (let z : ◌≡◌ {A = ℕ} 0 1 = cc in omega arith)
-      go false o p = let w : r.fault ≡ q = cc in rw (e, o, w)
+      go false o p = let w : (number r.fault) ≡ q = cc in rw (e, o, w)
 
   pub number-inside : y ≡ Ok tt → Ok (back v) ≡ number_of x r
   unfolding number_of number_is pick
   number-inside g = go (inside r v) refl (sym checked-is ∙ g)
     where
-      go : (b : Bool) → inside r v ≡ b → pick b (Ok (tt {0})) (Err r.fault) ≡ Ok (tt {0}) → Ok (back v) ≡ number_of x r
+      go : (b : Bool) → inside r v ≡ b → pick b (Ok (tt {0})) (Err (number r.fault)) ≡ Ok (tt {0}) → Ok (back v) ≡ number_of x r
       go true o p = rw (to_z-of_z s, e, o)
       go false o p = absurd (let z : ◌≡◌ {A = ℕ} 0 1 = cc in omega arith)
 
@@ -60,16 +61,16 @@ unfolding number_of test_field pick
 test-not (Err p) r y q e = let w : q ≡ p = cc in rw w
 test-not (Ok v) r y q e = go (inside r v) e
   where
-    go : (b : Bool) → Err q ≡ pick b (Ok v) (Err r.fault) → pick b (and_then v y) (fault r.fault) ≡ fault q
+    go : (b : Bool) → Err q ≡ pick b (Ok v) (Err (number r.fault)) → pick b (and_then v y) (fault (number r.fault)) ≡ fault q
     go true p = absurd (let z : ◌≡◌ {A = ℕ} 0 1 = cc in omega arith)
-    go false p = let w : r.fault ≡ q = cc in rw w
+    go false p = let w : (number r.fault) ≡ q = cc in rw w
 
 test-is : (x : Result ℤ ℕ) (r : Range) (y : Numbers) (v : ℤ) → Ok v ≡ number_of x r → test_field x r y ≡ and_then v y
 unfolding number_of test_field pick
 test-is (Err q) r y v e = absurd (let z : ◌≡◌ {A = ℕ} 0 1 = cc in omega arith)
 test-is (Ok u) r y v e = go (inside r u) e
   where
-    go : (b : Bool) → Ok v ≡ pick b (Ok u) (Err r.fault) → pick b (and_then u y) (fault r.fault) ≡ and_then v y
+    go : (b : Bool) → Ok v ≡ pick b (Ok u) (Err (number r.fault)) → pick b (and_then u y) (fault (number r.fault)) ≡ and_then v y
     go true p = let w : u ≡ v = cc in rw w
     go false p = absurd (let z : ◌≡◌ {A = ℕ} 0 1 = cc in omega arith)
 

@@ -18,6 +18,8 @@ use Rattle.std.proofs.lemmas.Result.{err_from_is_err_and}
 use Rattle.logic.specs.Tests.{pick, cons_if}
 use Rattle.book.specs.declared.Content.{Content}
 use Rattle.book.specs.declared.Content.TheVariants.{Edition, Statements, Literal, Exception, Total}
+use Rattle.book.specs.declared.Fault.{Fault}
+use Rattle.book.specs.Faults.{number, numbered}
 use Rattle.book.specs.Limits as limit
 use Rattle.book.specs.Kinds.{kinds, kind, bytes, most, fields_of, none, widest, longest, room, range_of}
 use Rattle.book.specs.Counts.{row_numbers}
@@ -267,10 +269,10 @@ unfolding front_is
 lost-is text q lno l r e = rw e
 
 -- A refusal's number, with the line that it is given.
-pub turned : {A : Type 0} (x : Result A ℕ) (y : Result A Refusal) (r : Refusal) (lno : ℕ) (P : ℕ → Refusal → Type 0) → ((q : ℕ) (r : Refusal) → P q r → r ≡ refusal q lno) → y ≡ Err r
-    → MatchResult x (λ v. y ≡ Ok v) (λ q. IsErrAnd y (P q)) → (q : ℕ) × (x ≡ Err q) × (r ≡ refusal q lno)
+pub turned : {A : Type 0} (x : Result A Fault) (y : Result A Refusal) (r : Refusal) (lno : ℕ) (P : Fault → Refusal → Type 0) → ((q : Fault) (r : Refusal) → P q r → r ≡ refusal (number q) lno) → y ≡ Err r
+    → MatchResult x (λ v. y ≡ Ok v) (λ q. IsErrAnd y (P q)) → (q : ℕ) × (numbered x ≡ Err q) × (r ≡ refusal q lno)
 turned {A} (Ok v) y r lno P f e m = absurd (let z : ◌≡◌ {A = Result A Refusal} (Ok v) (Err r) = sym m ∙ e in let w : ◌≡◌ {A = ℕ} 0 1 = cc in omega arith)
-turned {A} (Err q) y r lno P f e m = let p = err_from_is_err_and y m in let z : p.0 ≡ r = (let w : ◌≡◌ {A = Result A Refusal} (Err p.0) (Err r) = sym p.1 ∙ e in cc) in (q, refl, sym z ∙ f q p.0 p.2)
+turned {A} (Err q) y r lno P f e m = let p = err_from_is_err_and y m in let z : p.0 ≡ r = (let w : ◌≡◌ {A = Result A Refusal} (Err p.0) (Err r) = sym p.1 ∙ e in cc) in (number q, refl, sym z ∙ f q p.0 p.2)
 
 -- An answer that was refused, as an outcome.
 pub refused-is : (q lno : ℕ) (l : List ℤ) (r : Refusal) → r ≡ refusal q lno → outcome_of (Err r) l ≡ refused q lno

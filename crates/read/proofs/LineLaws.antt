@@ -19,6 +19,7 @@ use Rattle.logic.proofs.Stores.{drop-take}
 use Rattle.book.specs.declared.Kind.{Kind}
 use Rattle.book.specs.declared.Content.{Content}
 use Rattle.book.specs.declared.Content.TheVariants.{Edition, Statements, Literal, Exception, Total}
+use Rattle.book.specs.Faults.{number}
 use Rattle.book.specs.Kinds.{kinds, kind, unknown, contents, fields_of, bytes, none, widest, exception}
 use Rattle.book.proofs.Counts.{narrow}
 use Rattle.text.specs.declared.State.{State}
@@ -37,12 +38,12 @@ use Rattle.read.specs.Storing.LineLeft.{kept_line, lost_line}
 
 -- ---- the whole, by what is seen
 module _ (x : Kind) (count : ℕ) (r : Bool) (s : Seen) where
-  pub whole-over : x.limit ≤ count → Err x.over ≡ whole_is x count r s
+  pub whole-over : x.limit ≤ count → Err (number x.over) ≡ whole_is x count r s
   unfolding whole_is pick
   whole-over h = rw (le-leb x.limit count h)
 
   module _ (h : count < x.limit) where
-    pub whole-headless : r ≡ true → Err x.unfilled ≡ whole_is x count r s
+    pub whole-headless : r ≡ true → Err (number x.unfilled) ≡ whole_is x count r s
     unfolding whole_is pick
     whole-headless g = rw (lt-leb x.limit count h, g)
 
@@ -216,7 +217,7 @@ first-fault false false false false o u = refl
 
 -- No kind's refusals have the number 0, nor has a line's as a whole.
 abbrev numbered : ℕ → Bool
-numbered k = both (ltb 0 (kind k).over) (ltb 0 (kind k).unfilled)
+numbered k = both (ltb 0 (number (kind k).over)) (ltb 0 (number (kind k).unfilled))
 
 all-numbered : all numbered none ≡ true
 unfolding kind kinds unknown both
@@ -229,18 +230,18 @@ some-fault k count r s q h e = go (leb (kind k).limit count) r s.missing s.misco
     t : numbered k ≡ true
     t = all-at numbered none k all-numbered h
 
-    over : 0 < (kind k).over
-    over = ltb-true 0 (kind k).over (both_left (ltb 0 (kind k).over) (ltb 0 (kind k).unfilled) t)
+    over : 0 < (number (kind k).over)
+    over = ltb-true 0 (number (kind k).over) (both_left (ltb 0 (number (kind k).over)) (ltb 0 (number (kind k).unfilled)) t)
 
-    unfilled : 0 < (kind k).unfilled
-    unfilled = ltb-true 0 (kind k).unfilled (both_right (ltb 0 (kind k).over) (ltb 0 (kind k).unfilled) t)
+    unfilled : 0 < (number (kind k).unfilled)
+    unfilled = ltb-true 0 (number (kind k).unfilled) (both_right (ltb 0 (number (kind k).over)) (ltb 0 (number (kind k).unfilled)) t)
 
     same : (p : ℕ) → ◌≡◌ {A = Result ⊤ ℕ} (Err p) (Err q) → 0 < p → 0 < q
     same p e h = let z : p ≡ q = cc in omega arith
 
-    go : (a b c d : Bool) → ◌≡◌ {A = Result ⊤ ℕ} (pick a (Err (kind k).over) (pick b (Err (kind k).unfilled) (pick c (Err 10) (pick d (Err 11) (Ok tt))))) (Err q) → 0 < q
-    go true b c d e = same (kind k).over e over
-    go false true c d e = same (kind k).unfilled e unfilled
+    go : (a b c d : Bool) → ◌≡◌ {A = Result ⊤ ℕ} (pick a (Err (number (kind k).over)) (pick b (Err (number (kind k).unfilled)) (pick c (Err 10) (pick d (Err 11) (Ok tt))))) (Err q) → 0 < q
+    go true b c d e = same (number (kind k).over) e over
+    go false true c d e = same (number (kind k).unfilled) e unfilled
     go false false true d e = same 10 e (omega arith)
     go false false false true e = same 11 e (omega arith)
     go false false false false e = absurd (let z : ◌≡◌ {A = ℕ} 0 1 = cc in omega arith)

@@ -1,24 +1,24 @@
 -- The whole text, and the number table in the lent slice: what each return is by the definitions.
 -- Rows are copied one by one: what is left to put, from here, gives the final slice.
 use mathlib.Core.Path.{◌≡◌, refl, sym, ap, ◌∙◌}
-use mathlib.Core.List.{List, [], ◌∷◌, ◌++◌, map, append-nil}
+use mathlib.Core.List.{List, [], ◌∷◌, ◌++◌, map, append-nil, append_assoc}
 use Prim.Native.Nat.{ℕ, zero, suc, ◌+◌, ◌-◌, ◌<◌, ◌≤◌}
 use native.Mathlib.Nat.{zero-add}
 use native.Mathlib.Omega.{arith}
 use lib.IntN.{ℤ, pos}
 use lib.ListN.{get_or, take, drop, set, length, length-take}
-use lib.Seq.{sets, sets-eq, drop-cons, length-take-le}
+use borrow.Rule.Slice.PartMut.{put_mid}
+use lib.Seq.{drop-drop, length-sets, sets, sets-eq, drop-cons}
 use mir.Syntax.{w32}
 use mir.Val.{to_z}
 use mir.Facts.{to_z_pos}
 use borrow.Author.Tests.{eq-eqb, ne_eqb, lt-ltb, le-ltb}
 use Rattle.std.specs.Prelude.{Result, Ok, Err}
 use Rattle.logic.specs.Tests.{pick}
-use Rattle.book.specs.declared.Measure.TheVariants.{Numbers}
 use Rattle.book.specs.declared.Shape.{Shape}
-use Rattle.book.specs.Kinds.{longest, front}
-use Rattle.book.specs.Counts.{front_of, row_numbers, InLimits, measured}
-use Rattle.book.proofs.Counts.{front-small, sum-all, measured-most}
+use Rattle.book.specs.Kinds.{kinds, most, bytes, longest, room, front}
+use Rattle.book.specs.Counts.{front_of, row_numbers, InLimits, numbers_each}
+use Rattle.book.proofs.Counts.{front-small, sum-all, numbers-most}
 use Rattle.logic.proofs.Stores.{sets-append, pieces}
 use Rattle.text.specs.declared.Refusal.{Refusal}
 use Rattle.text.specs.Lines.{lines}
@@ -118,12 +118,19 @@ table-split : (s : Shape) (ws : List ℤ) → table_of s ws ≡ table_of s [] ++
 unfolding table_of
 table-split s ws = rw (append-nil (map pos (front_of s)))
 
-pub table-put : (l m k : List ℤ) (s : Shape) (rows : List ℤ) (n : ℕ) → front + n ≤ length l → n ≤ length rows → m ≡ sets l 0 (table_of s []) → k ≡ sets m front (take n rows) → k ≡ over l (table_of s (take n rows))
+pub table-put : (l m ws vs k : List ℤ) (s : Shape) → front + length ws ≤ length l → m ≡ sets l 0 (table_of s []) → vs ≡ ws → k ≡ put_mid front (front + length ws - front) m vs → k ≡ over l (table_of s ws)
 unfolding over
-table-put l m k s rows n h g em ek =
+table-put l m ws vs k s h em ev ek =
     let e : 0 + length (table_of s []) ≡ front = omega (arith, table-long s []) in
-    let z : length (table_of s (take n rows)) ≤ length l = omega (arith, table-long s (take n rows), length-take-le n rows g) in
-    ek ∙ (rw (em, ← e, ← sets-append (table_of s []) (take n rows) l 0, ← table-split s (take n rows)) (sets-eq (table_of s (take n rows)) l 0 (omega (arith, z)) ∙ rw (zero-add (length (table_of s (take n rows))))))
+    let z : length (table_of s ws) ≤ length l = omega (arith, table-long s ws) in
+    let d : length m ≡ length l = ap length em ∙ length-sets l 0 (table_of s []) in
+    let g : front + length ws - front ≡ length ws = omega arith in
+    ek ∙ (rw (ev, g, drop-drop (length ws) front m, ← append_assoc (take front m) ws (drop (front + length ws) m), ← sets-eq ws m front (omega arith)) (rw (em, ← e, ← sets-append (table_of s []) ws l 0, ← table-split s ws) (sets-eq (table_of s ws) l 0 (omega (arith, z)) ∙ rw (zero-add (length (table_of s ws))))))
+
+-- The rows of any book have room.
+numbers-room : most numbers_each kinds ≤ room
+unfolding longest most bytes kinds
+numbers-room = omega arith
 
 -- ---- Read
 module _ (bs : List ℕ) (l rows : List ℤ) (r : Result Shape Refusal) (p : Parsing bs r rows) where
@@ -145,7 +152,10 @@ module _ (bs : List ℕ) (l rows : List ℤ) (r : Result Shape Refusal) (p : Par
     book-limits = book.limits
 
     pub few-numbers : row_numbers s ≤ 100000
-    few-numbers = omega (arith, sum-all (measured Numbers) s book.limits, measured-most Numbers)
+    few-numbers = omega (arith, sum-all numbers_each s book.limits, numbers-most)
+
+    pub rows-fit : row_numbers s ≤ room
+    rows-fit = omega (arith, sum-all numbers_each s book.limits, numbers-room)
 
     book-long : length (table_of s (take (row_numbers s) rows)) ≡ front + row_numbers s
     book-long = table-long s (take (row_numbers s) rows) ∙ ap (λ (m : ℕ). front + m) book.size

@@ -4,6 +4,7 @@ use Rattle.std.proofs.lemmas.List.Edits.{sets}
 use Rattle.logic.specs.Tests.{pick}
 use Rattle.book.specs.declared.Kind.{Kind}
 use Rattle.book.specs.declared.Content.{Content}
+use Rattle.book.specs.Faults.{number}
 use Rattle.book.specs.Kinds.{kind, none, Range}
 use Rattle.text.specs.declared.State.{State}
 use Rattle.text.specs.declared.Refusal.{Refusal}
@@ -23,7 +24,7 @@ use Rattle.cursor.specs.declared.Cursor.{Cursor}
 -- A field's number if it is spelt right and in the range, else the refusal.
 unfoldable pub number_of : Result ℤ ℕ → Range → Result ℤ ℕ
 number_of (Err q) r = Err q
-number_of (Ok v) r = pick (inside r v) (Ok v) (Err r.fault)
+number_of (Ok v) r = pick (inside r v) (Ok v) (Err (number r.fault))
 
 -- ---- the fields of a line
 -- Before the fields of a line nothing is seen, and n is as before.
@@ -51,7 +52,7 @@ answer_fields (Err q) l = lost q
 -- ---- a line
 -- The refusal of a line as a whole, if there is one, by the lines of its kind so far, whether it lacks a head, and what its numbers say.
 unfoldable pub whole_is : Kind → ℕ → Bool → Seen → Result ⊤ ℕ
-whole_is x count lacking s = pick (leb x.limit count) (Err x.over) (pick lacking (Err x.unfilled) (pick s.missing (Err 10) (pick s.miscounted (Err 11) (Ok tt))))
+whole_is x count lacking s = pick (leb x.limit count) (Err (number x.over)) (pick lacking (Err (number x.unfilled)) (pick s.missing (Err 10) (pick s.miscounted (Err 11) (Ok tt))))
 
 -- Its kind, n after it and the numbers in the slice; or the refusal.
 pub data LineLeft : Type 0 where

@@ -3,6 +3,7 @@
 
 ghost use Rattle.std.specs.Prelude.{◌≡◌, [], ◌+◌, ◌*◌, ◌<◌, ◌≤◌, length, get_or, drop, take, MatchOption};
 ghost use Rattle.std.proofs.lemmas.List.Edits.{sets};
+ghost use Rattle.book.specs.Faults.{numbered};
 ghost use Rattle.book.specs.Kinds.{none, range_of, contents, fields_of, widest, front, longest, room, exception};
 ghost use Rattle.book.specs.Counts.{InLimits};
 ghost use Rattle.text.specs.Fields.{first_field};
@@ -11,7 +12,7 @@ ghost use Rattle.text.specs.Reading.{start, last_byte, read_lines, read_book, ta
 ghost use Rattle.read.specs.Storing.{number_of, answer_fields, store_fields, whole_is, answer_line, store_line, step_with, until_feed, end_of, front_is, outcome_of};
 ghost use Rattle.read.specs.Parsing.{Parsing, Met};
 
-use book::{Book, Content, Kind, Shape};
+use book::{Book, Content, Fault, Kind, Shape};
 use cursor::Cursor;
 use fields::Seen;
 use text::{Refusal, State};
@@ -21,10 +22,11 @@ pub fn kind_for(next: usize, b: u8) -> Option<usize>
     ensures { MatchOption result (kind_for next b ≡ none) (λ k. (k ≡ kind_for next b) × (k < none)) }
 {
     for k in next..Book::KINDS {
-        if book::letter_at(k) == b {
+        let x = book::kind_at(k);
+        if x.letter == b {
             return Some(k);
         }
-        if !book::is_row(k) {
+        if !x.row {
             return None;
         }
     }
@@ -32,9 +34,9 @@ pub fn kind_for(next: usize, b: u8) -> Option<usize>
 }
 
 // The field at a place of the text, tested by what its content may hold: its number, or the refusal.
-pub fn read_number(text: &[u8], at: usize, content: Content, n: usize) -> Result<i32, u32>
+pub fn read_number(text: &[u8], at: usize, content: Content, n: usize) -> Result<i32, Fault>
     requires { (at + 4 ≤ length text.now) × (n < 2147483648) }
-    ensures { result ≡ number_of (first_field (drop at text.now)) (range_of content n) }
+    ensures { numbered result ≡ number_of (first_field (drop at text.now)) (range_of content n) }
 {
     let v = fields::read_field(text, at)?;
     fields::check_number(content, n, v)?;
@@ -49,9 +51,9 @@ pub fn read_fields(
     st: State,
     t: &mut [i32],
     to: usize,
-) -> Result<Seen, u32>
+) -> Result<Seen, Fault>
     requires { (at + x.fields * 4 ≤ length text.now) × (to + x.fields ≤ length t.old) × (x.from + x.fields ≤ length contents) × (st.statements < 2147483648) × (get_or st.counts exception 0 < 2147483648) × (st.rows < 2147483648) }
-    ensures { answer_fields result t.new ≡ store_fields st.statements (get_or st.counts exception 0) st.rows (fields_of x) t.old to (drop at text.now) }
+    ensures { answer_fields (numbered result) t.new ≡ store_fields st.statements (get_or st.counts exception 0) st.rows (fields_of x) t.old to (drop at text.now) }
 {
     let n = st.statements;
     let exceptions = st.counts[Book::AT_EXCEPTION];
@@ -71,8 +73,8 @@ pub fn read_fields(
 
 // The test of a line as a whole: 8 (for Q lines 19, for O lines 22), 9 (for O lines 23), 10, 11 in this order, the first two being its
 // kind's own.
-pub fn line_fault(x: Kind, count: usize, headless: bool, seen: Seen) -> Result<(), u32>
-    ensures { result ≡ whole_is x count headless seen }
+pub fn line_fault(x: Kind, count: usize, headless: bool, seen: Seen) -> Result<(), Fault>
+    ensures { numbered result ≡ whole_is x count headless seen }
 {
     if x.limit <= count {
         return Err(x.over);
@@ -81,10 +83,10 @@ pub fn line_fault(x: Kind, count: usize, headless: bool, seen: Seen) -> Result<(
         return Err(x.unfilled);
     }
     if seen.missing {
-        return Err(10);
+        return Err(Fault::NoException);
     }
     if seen.miscounted {
-        return Err(11);
+        return Err(Fault::WrongTotal);
     }
     Ok(())
 }
@@ -98,38 +100,30 @@ pub fn read_line(
     st: State,
     t: &mut [i32],
     to: usize,
-) -> Result<(usize, usize), u32>
+) -> Result<(usize, usize), Fault>
     requires { (at + len ≤ length text.now) × (to + widest ≤ length t.old) × (st.statements < 2147483648) × (get_or st.counts exception 0 < 2147483648) × (st.rows < 2147483648) }
-    ensures { answer_line result t.new ≡ store_line st t.old to (read_line st (take len (drop at text.now))) }
+    ensures { answer_line (numbered result) t.new ≡ store_line st t.old to (read_line st (take len (drop at text.now))) }
 {
     if len == 0 {
-        return Err(3);
+        return Err(Fault::NotAllowed);
     }
     let Some(k) = kind_for(st.next, text[at]) else {
-        return Err(3);
+        return Err(Fault::NotAllowed);
     };
     let x = book::kind_at(k);
     if len - 1 != x.fields * Book::COLUMNS {
-        return Err(4);
+        return Err(Fault::LineLength);
     }
     let seen = read_fields(text, at + 1, x, st, t, to)?;
-    line_fault(x, st.counts[k], fields::is_headless(t, to, x), seen)?;
+    line_fault(x, st.counts[k], fields::is_headless(&t[to..], x), seen)?;
     Ok((k, seen.statements))
 }
 
 // The bytes before the next line feed.
-pub fn line_length(text: &[u8], at: usize) -> usize
-    requires { at ≤ length text.now }
-    ensures { (result ≡ until_feed (drop at text.now)) × (at + result ≤ length text.now) }
+pub fn line_length(text: &[u8]) -> usize
+    ensures { (result ≡ until_feed text.now) × (result ≤ length text.now) }
 {
-    let mut n = 0;
-    while at + n < text.len() {
-        if text[at + n] == b'\n' {
-            return n;
-        }
-        n += 1;
-    }
-    n
+    text.iter().position(|&b| b == b'\n').unwrap_or(text.len())
 }
 
 // The state before the first line.
@@ -150,8 +144,8 @@ pub fn stepped(st: State, k: usize, n: usize) -> State
     ensures { result ≡ step_with st k n }
 {
     let mut counts = st.counts;
-    counts[k] = counts[k] + 1;
-    if book::is_row(k) {
+    counts[k] += 1;
+    if book::kind_at(k).row {
         return State {
             next: k,
             statements: n,
@@ -172,7 +166,7 @@ pub fn ended(st: State, c: Cursor) -> Result<(Shape, Cursor), Refusal>
     ensures { result ≡ end_of st c }
 {
     if st.next != Book::KINDS {
-        return Err(Refusal::new(3, c.line));
+        return Err(Refusal::of(Fault::NotAllowed, c.line));
     }
     Ok((book::shape_from(st.statements, st.counts), c))
 }
@@ -190,11 +184,13 @@ pub fn read_book(text: &[u8], from: Cursor, t: &mut [i32]) -> Result<(Shape, Cur
         if st.next == Book::KINDS {
             return ended(st, c);
         }
-        let len = line_length(text, c.at);
-        let (k, n) = read_line(text, c.at, len, st, t, to).map_err(|q| Refusal::new(q, c.line))?;
+        let len = line_length(&text[c.at..]);
+        let (k, n) = read_line(text, c.at, len, st, t, to).map_err(|fault| Refusal::of(
+            fault, c.line,
+        ))?;
         st = stepped(st, k, n);
         to += book::numbers_at(k);
-        c = c.past(len);
+        c.advance(len);
     }
     ended(st, c)
 }
@@ -206,7 +202,7 @@ pub fn read_lines(text: &[u8], t: &mut [i32]) -> Result<Shape, Refusal>
 {
     let (s, c) = read_book(text, Cursor::first(), t)?;
     if c.at < text.len() {
-        return Err(Refusal::new(3, c.line));
+        return Err(Refusal::of(Fault::NotAllowed, c.line));
     }
     Ok(s)
 }
@@ -217,27 +213,15 @@ pub fn parse(text: &[u8], rows: &mut [i32; Book::ROOM]) -> Result<Shape, Refusal
     ensures { Parsing text.now result rows.new }
 {
     if Book::TEXT < text.len() {
-        return Err(Refusal::new(1, 0));
+        return Err(Refusal::of(Fault::TooLong, 0));
     }
     if text.len() == 0 {
-        return Err(Refusal::new(2, 0));
+        return Err(Refusal::of(Fault::NoLineFeed, 0));
     }
     if text[text.len() - 1] != b'\n' {
-        return Err(Refusal::new(2, 0));
+        return Err(Refusal::of(Fault::NoLineFeed, 0));
     }
     read_lines(text, rows)
-}
-
-// The first m numbers of rows, into t from a place on.
-pub fn put_rows(t: &mut [i32], at: usize, rows: &[i32; Book::ROOM], m: usize)
-    requires { (at + m ≤ length t.old) × (m ≤ length rows.now) }
-    ensures { t.new ≡ sets t.old at (take m rows.now) }
-{
-    let mut i = 0;
-    while i < m {
-        t[at + i] = fields::number_at(rows, i);
-        i += 1;
-    }
 }
 
 // The numbers before a table's rows, in front of a slice that is long enough.
@@ -245,21 +229,18 @@ pub fn put_front(table: &mut [i32], s: Shape)
     requires { (front ≤ length table.old) × InLimits s }
     ensures { table.new ≡ sets table.old 0 (table_of s []) }
 {
-    let numbers = book::front_of(s);
-    let mut i = 0;
-    while i < Book::FRONT {
-        table[i] = numbers[i] as i32;
-        i += 1;
+    for (i, &number) in book::front_of(s).iter().enumerate() {
+        table[i] = number as i32;
     }
 }
 
 // The number table of a book in front of a slice that is long enough.
-pub fn put_table(table: &mut [i32], s: Shape, rows: &[i32; Book::ROOM], m: usize)
-    requires { (front + m ≤ length table.old) × (m ≤ length rows.now) × InLimits s }
-    ensures { table.new ≡ over table.old (table_of s (take m rows.now)) }
+pub fn put_table(table: &mut [i32], s: Shape, rows: &[i32])
+    requires { (front + length rows.now ≤ length table.old) × InLimits s }
+    ensures { table.new ≡ over table.old (table_of s rows.now) }
 {
     put_front(table, s);
-    put_rows(table, Book::FRONT, rows, m);
+    table[Book::FRONT..Book::FRONT + rows.len()].copy_from_slice(rows);
 }
 
 // Read: from a text to the number table in front of the lent slice. It answers the numbers before the table's rows, or the refusal;
@@ -271,8 +252,9 @@ pub fn read(text: &[u8], table: &mut [i32]) -> Result<Shape, Refusal>
     let s = parse(text, &mut scratch.rows)?;
     let m = book::row_numbers(s);
     if table.len() < Book::FRONT + m {
-        return Err(Refusal::new(15, 0));
+        return Err(Refusal::of(Fault::BufferShort, 0));
     }
-    put_table(table, s, &scratch.rows, m);
+    let rows = &scratch.rows[..m];
+    put_table(table, s, rows);
     Ok(s)
 }

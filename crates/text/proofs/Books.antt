@@ -15,6 +15,7 @@ use Rattle.logic.specs.Tests.{both, either, pick, cons_if, some}
 use Rattle.logic.proofs.Decide.{clash}
 use Rattle.book.specs.declared.Shape.{Shape}
 use Rattle.book.specs.declared.Content.TheVariants.{Edition, Statements}
+use Rattle.book.specs.Faults.{number}
 use Rattle.book.specs.Kinds.{kinds, kind, contents, fields_of, first, last, row_once, Range, range_of}
 use Rattle.book.specs.Limits as limit
 use Rattle.book.specs.Counts.{counts_of, count_at, row_numbers, total, InLimits}
@@ -119,7 +120,7 @@ pub in-first : (r : Range) (v : ℤ) (y : Numbers) (vs : List ℤ) → test_fiel
 unfolding test_field pick
 in-first r v y vs e = go (inside r v) refl e
   where
-    go : (b : Bool) → inside r v ≡ b → pick b (and_then v y) (fault r.fault) ≡ numbers vs → inside r v ≡ true
+    go : (b : Bool) → inside r v ≡ b → pick b (and_then v y) (fault (number r.fault)) ≡ numbers vs → inside r v ≡ true
     go true p e = p
     go false p e = absurd (let z : ◌≡◌ {A = ℕ} 0 1 = cc in omega arith)
 

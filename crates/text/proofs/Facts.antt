@@ -16,12 +16,12 @@ use Rattle.std.specs.Prelude.{Ok}
 use Rattle.logic.specs.Tests.{pick, cons_if, some}
 use Rattle.logic.proofs.Decide.{clash}
 use Rattle.logic.proofs.Tests.{both_left, both_right}
-use Rattle.book.specs.declared.Measure.TheVariants.{Numbers}
 use Rattle.book.specs.declared.Shape.{Shape}
 use Rattle.book.specs.declared.Content.{Content}
 use Rattle.book.specs.declared.Content.TheVariants.{Edition, Literal, Exception}
+use Rattle.book.specs.Faults.{number}
 use Rattle.book.specs.Kinds.{kinds, kind, contents, fields_of, numbers_of, none, first, last, plain, alternative, exception, preference, conditional, entries_each, rule_numbers, alternative_numbers, preference_numbers, conditional_numbers, range_of}
-use Rattle.book.specs.Counts.{counts_of, count_at, sum_to, start_of, row_numbers, text_bytes, measured}
+use Rattle.book.specs.Counts.{counts_of, count_at, sum_to, start_of, row_numbers, text_bytes, numbers_each}
 use Rattle.book.proofs.Counts.{sum-next, sum-up}
 use Rattle.text.specs.Lines.{between, inside, code, numbers_in, headless, missing}
 use Rattle.text.specs.Lines.Numbers.{numbers}
@@ -79,7 +79,7 @@ fault-parts : (m k : ℕ) (vs : List ℤ) → k < none → row_fault m (kind k) 
 unfolding row_fault pick
 fault-parts m k vs h e = go (headless (kind k) vs) (missing m (kind k) vs) refl refl e
   where
-    go : (a b : Bool) → headless (kind k) vs ≡ a → missing m (kind k) vs ≡ b → ◌≡◌ {A = ℕ} (pick a (kind k).unfilled (pick b 10 0)) 0 → (headless (kind k) vs ≡ false) × (missing m (kind k) vs ≡ false)
+    go : (a b : Bool) → headless (kind k) vs ≡ a → missing m (kind k) vs ≡ b → ◌≡◌ {A = ℕ} (pick a (number (kind k).unfilled) (pick b 10 0)) 0 → (headless (kind k) vs ≡ false) × (missing m (kind k) vs ≡ false)
     go true b p q e = absurd (omega (arith, unfilled-some k h))
     go false true p q e = absurd (omega arith)
     go false false p q e = (p, q)
@@ -190,8 +190,8 @@ named-at m (d ∷ ds) (v ∷ vs) (suc j) e h c = go (eqb (code Exception) (code 
 
 start-in : (s : Shape) (k i : ℕ) → k < none → i < count_at s k → start_of s k + i * (kind k).numbers + (kind k).numbers ≤ row_numbers s
 start-in s k i h l =
-    let n = sum-next (measured Numbers) s k (start_of s k) (count_at s k) (kind k).numbers refl refl refl in
-    omega (arith, n, sum-up (measured Numbers) s (k + 1) (omega arith), suc-mul i (kind k).numbers, mul-le-mul_right (kind k).numbers l)
+    let n = sum-next numbers_each s k (start_of s k) (count_at s k) (kind k).numbers refl refl refl in
+    omega (arith, n, sum-up numbers_each s (k + 1) (omega arith), suc-mul i (kind k).numbers, mul-le-mul_right (kind k).numbers l)
 
 -- Number j of row i of the kind at place k, by what it holds: heads and entries lie in -n to n; an exception is one of the book's.
 module _ (s : Shape) (ws : List ℤ) (a : Accepted s ws) (k i j : ℕ) (h : first < k) (g : k < last) (l : i < count_at s k) (w : j < (kind k).numbers) where

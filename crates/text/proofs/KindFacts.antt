@@ -15,6 +15,7 @@ use Rattle.logic.proofs.Decide.{clash}
 use Rattle.book.specs.declared.Kind.{Kind}
 use Rattle.book.specs.declared.Content.{Content}
 use Rattle.book.specs.declared.Content.TheVariants.{Statements, Exception, Total}
+use Rattle.book.specs.Faults.{number}
 use Rattle.book.specs.Kinds.{kinds, kind, unknown, contents, fields_of, numbers_of, none, first, exception, last}
 use Rattle.book.proofs.Counts.{many}
 use Rattle.text.specs.Lines.{seek, kind_for, code, numbers_in}
@@ -109,13 +110,13 @@ letter-plain k h e =
     eqb-false (kind k).letter 10 (not-true _ (both_right (agree (kind k).row (both (ltb first k) (ltb k last))) _ (both_right (eqb (length (fields_of (kind k))) (kind k).fields) _ (fit_at k h)))) e
 
 -- Its refusals have numbers.
-pub over-some : (k : ℕ) → k < none → 0 < (kind k).over
+pub over-some : (k : ℕ) → k < none → 0 < (number (kind k).over)
 unfolding kinds kind unknown
-over-some k h = ltb-true 0 (kind k).over (all-at (λ (j : ℕ). ltb 0 (kind j).over) none k refl h)
+over-some k h = ltb-true 0 (number (kind k).over) (all-at (λ (j : ℕ). ltb 0 (number (kind j).over)) none k refl h)
 
-pub unfilled-some : (k : ℕ) → k < none → 0 < (kind k).unfilled
+pub unfilled-some : (k : ℕ) → k < none → 0 < (number (kind k).unfilled)
 unfolding kinds kind unknown
-unfilled-some k h = ltb-true 0 (kind k).unfilled (all-at (λ (j : ℕ). ltb 0 (kind j).unfilled) none k refl h)
+unfilled-some k h = ltb-true 0 (number (kind k).unfilled) (all-at (λ (j : ℕ). ltb 0 (number (kind j).unfilled)) none k refl h)
 
 -- It gives the table as many numbers as it has fields if it is a row, and else none; its heads are fields.
 pub numbers-are : (k : ℕ) → k < none → (kind k).numbers ≡ pick (kind k).row (kind k).fields 0

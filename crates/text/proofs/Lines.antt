@@ -13,6 +13,7 @@ use Rattle.std.specs.Prelude.{Result, Ok, Err}
 use Rattle.logic.specs.Lists.{Every}
 use Rattle.logic.specs.Tests.{pick}
 use Rattle.book.specs.declared.Content.{Content}
+use Rattle.book.specs.Faults.{number}
 use Rattle.book.specs.Kinds.{kind, fields_of, bytes, none, Range, range_of}
 use Rattle.text.specs.declared.State.{State}
 use Rattle.text.specs.Fields.{written, written_all, first_field, Short}
@@ -59,12 +60,12 @@ unfolding test_field pick and_then
 first-numbers (Err q) r y vs e = absurd (let z : ◌≡◌ {A = ℕ} 0 1 = cc in omega arith)
 first-numbers (Ok v) r (fault q) vs e = go (inside r v) e
   where
-    go : (b : Bool) → pick b (fault q) (fault r.fault) ≡ numbers vs → (u : ℤ) × (ws : List ℤ) × (◌≡◌ {A = Result ℤ ℕ} (Ok v) (Ok u)) × (fault q ≡ numbers ws) × (vs ≡ u ∷ ws)
+    go : (b : Bool) → pick b (fault q) (fault (number r.fault)) ≡ numbers vs → (u : ℤ) × (ws : List ℤ) × (◌≡◌ {A = Result ℤ ℕ} (Ok v) (Ok u)) × (fault q ≡ numbers ws) × (vs ≡ u ∷ ws)
     go true e = absurd (let z : ◌≡◌ {A = ℕ} 0 1 = cc in omega arith)
     go false e = absurd (let z : ◌≡◌ {A = ℕ} 0 1 = cc in omega arith)
 first-numbers (Ok v) r (numbers ws) vs e = go (inside r v) e
   where
-    go : (b : Bool) → pick b (numbers (v ∷ ws)) (fault r.fault) ≡ numbers vs → (u : ℤ) × (us : List ℤ) × (◌≡◌ {A = Result ℤ ℕ} (Ok v) (Ok u)) × (numbers ws ≡ numbers us) × (vs ≡ u ∷ us)
+    go : (b : Bool) → pick b (numbers (v ∷ ws)) (fault (number r.fault)) ≡ numbers vs → (u : ℤ) × (us : List ℤ) × (◌≡◌ {A = Result ℤ ℕ} (Ok v) (Ok u)) × (numbers ws ≡ numbers us) × (vs ≡ u ∷ us)
     go true e = (v, ws, refl, refl, cc)
     go false e = absurd (let z : ◌≡◌ {A = ℕ} 0 1 = cc in omega arith)
 

@@ -19,6 +19,7 @@ use Rattle.logic.proofs.Decide.{clash}
 use Rattle.book.specs.declared.Shape.{Shape}
 use Rattle.book.specs.declared.Content.{Content}
 use Rattle.book.specs.declared.Content.TheVariants.{Edition, Statements, Literal, Exception, Total}
+use Rattle.book.specs.Faults.{number}
 use Rattle.book.specs.Kinds.{kinds, kind, unknown, contents, numbers_of, none, first, last, front, range_of, Range}
 use Rattle.book.specs.Counts.{counts_of, row_numbers}
 use Rattle.text.specs.Lines.{Numbers, Line, inside, and_then, test_field, headless, missing, unless, judged}
@@ -37,7 +38,7 @@ Refused q = Among q (6 ∷ 8 ∷ 9 ∷ 10 ∷ 16 ∷ 23 ∷ [])
 
 -- ---- a row
 -- A range's refusal does not depend on n.
-fault-same : (c : Content) (n : ℕ) → (range_of c n).fault ≡ (range_of c 0).fault
+fault-same : (c : Content) (n : ℕ) → (number (range_of c n).fault) ≡ (number (range_of c 0).fault)
 unfolding range_of
 fault-same Edition n = refl
 fault-same Statements n = refl
@@ -46,19 +47,19 @@ fault-same Exception n = refl
 fault-same Total n = refl
 
 abbrev sixes : List Content → Bool
-sixes cs = every (λ c. eqb (range_of c 0).fault 6) cs
+sixes cs = every (λ c. eqb (number (range_of c 0).fault) 6) cs
 
 -- All fields of rows refuse by 6.
 row-sixes : all (λ (k : ℕ). either (not (kind k).row) (sixes (numbers_of (kind k)))) none ≡ true
 unfolding kinds kind unknown contents numbers_of either every range_of
 row-sixes = refl
 
-first-fault : (v : ℤ) (r : Range) (y : Numbers) (q : ℕ) → test_field (Ok v) r y ≡ fault q → (r.fault ≡ 6) → ((p : ℕ) → y ≡ fault p → p ≡ 6) → q ≡ 6
+first-fault : (v : ℤ) (r : Range) (y : Numbers) (q : ℕ) → test_field (Ok v) r y ≡ fault q → ((number r.fault) ≡ 6) → ((p : ℕ) → y ≡ fault p → p ≡ 6) → q ≡ 6
 unfolding test_field pick and_then
 first-fault v r y q e s ih = go (inside r v) y e ih
   where
-    go : (b : Bool) (x : Numbers) → pick b (and_then v x) (fault r.fault) ≡ fault q → ((p : ℕ) → x ≡ fault p → p ≡ 6) → q ≡ 6
-    go false x e ih = let z : r.fault ≡ q = cc in sym z ∙ s
+    go : (b : Bool) (x : Numbers) → pick b (and_then v x) (fault (number r.fault)) ≡ fault q → ((p : ℕ) → x ≡ fault p → p ≡ 6) → q ≡ 6
+    go false x e ih = let z : (number r.fault) ≡ q = cc in sym z ∙ s
     go true (numbers vs) e ih = absurd (let z : ◌≡◌ {A = ℕ} 0 1 = cc in omega arith)
     go true (fault p) e ih = let z : p ≡ q = cc in sym z ∙ ih p refl
 
@@ -72,31 +73,31 @@ fields-fault [] n [] q l s e = absurd (let z : ◌≡◌ {A = ℕ} 0 1 = cc in o
 fields-fault [] n (v ∷ vs) q l s e = absurd (omega arith)
 fields-fault (c ∷ cs) n [] q l s e = absurd (omega arith)
 fields-fault (c ∷ cs) n (v ∷ vs) q l s e =
-    let t = every_first (eqb (range_of c 0).fault 6) (sixes cs) s in
-    first-fault v (range_of c n) (test_fields cs n vs) q e (fault-same c n ∙ eqb-true (range_of c 0).fault 6 t.0) (λ p f. fields-fault cs n vs p (omega arith) t.1 f)
+    let t = every_first (eqb (number (range_of c 0).fault) 6) (sixes cs) s in
+    first-fault v (range_of c n) (test_fields cs n vs) q e (fault-same c n ∙ eqb-true (number (range_of c 0).fault) 6 t.0) (λ p f. fields-fault cs n vs p (omega arith) t.1 f)
 
 -- A row that lacks a head is refused by 9 or 23, by its kind.
 abbrev nine : ℕ → Bool
-nine k = either (eqb (kind k).unfilled 9) (eqb (kind k).unfilled 23)
+nine k = either (eqb (number (kind k).unfilled) 9) (eqb (number (kind k).unfilled) 23)
 
 nines : all nine none ≡ true
 unfolding kinds kind unknown either
 nines = refl
 
-lacking : (k q : ℕ) → k < none → (kind k).unfilled ≡ q → Refused q
+lacking : (k q : ℕ) → k < none → (number (kind k).unfilled) ≡ q → Refused q
 unfolding either
-lacking k q h e = go (eqb (kind k).unfilled 9) (eqb (kind k).unfilled 23) refl refl (all-at nine none k nines h)
+lacking k q h e = go (eqb (number (kind k).unfilled) 9) (eqb (number (kind k).unfilled) 23) refl refl (all-at nine none k nines h)
   where
-    go : (a b : Bool) → eqb (kind k).unfilled 9 ≡ a → eqb (kind k).unfilled 23 ≡ b → either a b ≡ true → Refused q
-    go true b x y s = inr (inr (inl (sym (eqb-true (kind k).unfilled 9 x) ∙ e)))
-    go false true x y s = inr (inr (inr (inr (inr (inl (sym (eqb-true (kind k).unfilled 23 y) ∙ e))))))
+    go : (a b : Bool) → eqb (number (kind k).unfilled) 9 ≡ a → eqb (number (kind k).unfilled) 23 ≡ b → either a b ≡ true → Refused q
+    go true b x y s = inr (inr (inl (sym (eqb-true (number (kind k).unfilled) 9 x) ∙ e)))
+    go false true x y s = inr (inr (inr (inr (inr (inl (sym (eqb-true (number (kind k).unfilled) 23 y) ∙ e))))))
     go false false x y s = absurd (clash s)
 
 whole-fault : (m k : ℕ) (vs : List ℤ) (q : ℕ) → k < none → row_fault m (kind k) vs ≡ suc q → Refused (suc q)
 unfolding row_fault pick
 whole-fault m k vs q h e = go (headless (kind k) vs) (missing m (kind k) vs) e
   where
-    go : (a b : Bool) → ◌≡◌ {A = ℕ} (pick a (kind k).unfilled (pick b 10 0)) (suc q) → Refused (suc q)
+    go : (a b : Bool) → ◌≡◌ {A = ℕ} (pick a (number (kind k).unfilled) (pick b 10 0)) (suc q) → Refused (suc q)
     go true b e = lacking k (suc q) h e
     go false true e = inr (inr (inr (inl e)))
     go false false e = absurd (omega arith)

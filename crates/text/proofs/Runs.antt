@@ -15,6 +15,7 @@ use borrow.Author.Tests.{eqb-true, eqb-false, eq-eqb, ne_eqb, ltb-true, ltb-fals
 use Rattle.logic.specs.Tests.{pick}
 use Rattle.logic.proofs.Decide.{clash}
 use Rattle.book.specs.declared.Shape.{Shape}
+use Rattle.book.specs.Faults.{number}
 use Rattle.book.specs.Kinds.{kinds, kind, contents, fields_of, none, first, last, exception}
 use Rattle.book.specs.Counts.{counts_of, all_counts, count_at, shape_from}
 use Rattle.text.specs.declared.State.{State}
@@ -36,7 +37,7 @@ unfolding whole_of pick
 whole_parts st k vs h e =
     go (leb (kind k).limit (get_or st.counts k 0)) (headless (kind k) vs) (missing (get_or st.counts exception 0) (kind k) vs) (miscounted st.rows (kind k) vs) refl refl e
   where
-    go : (a b c d : Bool) → leb (kind k).limit (get_or st.counts k 0) ≡ a → miscounted st.rows (kind k) vs ≡ d → ◌≡◌ {A = ℕ} (pick a (kind k).over (pick b (kind k).unfilled (pick c 10 (pick d 11 0)))) 0
+    go : (a b c d : Bool) → leb (kind k).limit (get_or st.counts k 0) ≡ a → miscounted st.rows (kind k) vs ≡ d → ◌≡◌ {A = ℕ} (pick a (number (kind k).over) (pick b (number (kind k).unfilled) (pick c 10 (pick d 11 0)))) 0
         → (get_or st.counts k 0 < (kind k).limit) × (miscounted st.rows (kind k) vs ≡ false)
     go true b c d p q e = absurd (omega (arith, over-some k h))
     go false true c d p q e = absurd (omega (arith, unfilled-some k h))

@@ -6,6 +6,7 @@ use Rattle.logic.specs.Tests.{both, pick, cons_if, some}
 use Rattle.book.specs.declared.Kind.{Kind}
 use Rattle.book.specs.declared.Content.{Content}
 use Rattle.book.specs.declared.Content.TheVariants.{Edition, Statements, Literal, Exception, Total}
+use Rattle.book.specs.Faults.{number}
 use Rattle.book.specs.Kinds.{kinds, kind, fields_of, bytes, none, exception, Range, range_of}
 use Rattle.text.specs.declared.State.{State}
 use Rattle.text.specs.Fields.{first_field, written_all}
@@ -59,7 +60,7 @@ and_then v (fault q) = fault q
 -- else 6.
 unfoldable pub test_field : Result ℤ ℕ → Range → Numbers → Numbers
 test_field (Err q) r rest = fault q
-test_field (Ok v) r rest = pick (inside r v) (and_then v rest) (fault r.fault)
+test_field (Ok v) r rest = pick (inside r v) (and_then v rest) (fault (number r.fault))
 
 -- The fields of these contents at the front of the bytes, in a book of n statements.
 unfoldable pub read_fields : List Content → ℕ → List ℕ → Numbers
@@ -104,8 +105,8 @@ miscounted m x vs = some (λ v. not (between (pos m) (pos m) v)) (numbers_in Tot
 -- is over 32", "22 when an O line is over 40", each "in the place of 8"), then its own for heads that are missing, 9 or 23, then 10, 11; 0 if none.
 unfoldable pub whole_of : State → ℕ → List ℤ → ℕ
 whole_of st k vs =
-    pick (leb (kind k).limit (get_or st.counts k 0)) (kind k).over
-    (pick (headless (kind k) vs) (kind k).unfilled
+    pick (leb (kind k).limit (get_or st.counts k 0)) (number (kind k).over)
+    (pick (headless (kind k) vs) (number (kind k).unfilled)
     (pick (missing (get_or st.counts exception 0) (kind k) vs) 10
     (pick (miscounted st.rows (kind k) vs) 11 0)))
 

@@ -5,6 +5,7 @@ use Rattle.book.specs.declared.Kind.{Kind}
 use Rattle.book.specs.declared.Shape.{Shape}
 use Rattle.book.specs.declared.Content.{Content}
 use Rattle.book.specs.declared.Content.TheVariants.{Statements}
+use Rattle.book.specs.Faults.{number}
 use Rattle.book.specs.Kinds.{kinds, kind, numbers_of, front, range_of}
 use Rattle.book.specs.Counts.{counts_of, shape_from, row_numbers}
 use Rattle.text.specs.Lines.{Numbers, Line, test_field, between, inside, headless, missing, judged}
@@ -42,7 +43,7 @@ test_fields (c ∷ cs) n (v ∷ vs) = test_field (Ok v) (range_of c n) (test_fie
 
 -- The refusal of a row as a whole in a book of m exceptions: its kind's own, 9 or 23, then 10; 0 if none.
 unfoldable pub row_fault : ℕ → Kind → List ℤ → ℕ
-row_fault m x vs = pick (headless x vs) x.unfilled (pick (missing m x vs) 10 0)
+row_fault m x vs = pick (headless x vs) (number x.unfilled) (pick (missing m x vs) 10 0)
 
 unfoldable pub test_row : Shape → Row → Line
 test_row s r = judged (row_fault s.exceptions (kind r.place)) r.place (test_fields (numbers_of (kind r.place)) s.statements r.nums)

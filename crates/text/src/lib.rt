@@ -3,9 +3,10 @@
 #![tactic(auto)]
 
 ghost use Rattle.std.specs.Prelude.{◌≡◌};
+ghost use Rattle.book.specs.Faults.{number};
 ghost use Rattle.text.specs.Reading.{refusal};
 
-use book::Book;
+use book::{Book, Fault};
 
 // What is known before a line: the place of the first kind that may come, the statements, how many lines of each kind
 // have come, and how many of these are rows of the number table.
@@ -29,5 +30,12 @@ impl Refusal {
         ensures { result ≡ refusal number line }
     {
         Self { number, line }
+    }
+
+    // The refusal of what is wrong.
+    pub fn of(fault: Fault, line: usize) -> Self
+        ensures { result ≡ refusal (number fault) line }
+    {
+        Self::new(fault.number(), line)
     }
 }

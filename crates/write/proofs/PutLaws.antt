@@ -17,11 +17,10 @@ use mir.Facts.{to_z_pos}
 use borrow.Author.Tests.{ltb-true, ltb-false}
 use Rattle.logic.specs.Tests.{pick}
 use Rattle.logic.proofs.Stores.{sets-append, pieces, Putting}
-use Rattle.book.specs.declared.Measure.TheVariants.{Bytes}
 use Rattle.book.specs.declared.Kind.{Kind}
 use Rattle.book.specs.declared.Shape.{Shape}
 use Rattle.book.specs.Kinds.{kinds, kind, none, first, last, front, bytes, row_once, most}
-use Rattle.book.specs.Counts.{counts_of, all_counts, count_at, sum_to, start_of, row_numbers, text_bytes, total, InLimits, measured}
+use Rattle.book.specs.Counts.{counts_of, all_counts, count_at, sum_to, start_of, row_numbers, text_bytes, total, InLimits}
 use Rattle.book.proofs.Counts.{sum-next, sum-all}
 use Rattle.text.specs.Fields.{written_all, Short}
 use Rattle.text.specs.Lines.{line_of, unlines}
@@ -190,13 +189,13 @@ module _ (s : Shape) (t : List ℤ) (l : length t ≡ front + row_numbers s) whe
   pub block-long : (k : ℕ) → first < k → k < last → length (lines_at k t (front + start_of s k) (count_at s k)) ≡ count_at s k * bytes (kind k)
   block-long k h g = kind-long k h g t (front + start_of s k) (count_at s k) (rows_in t s k (front + start_of s k) (count_at s k) l (omega arith) refl refl)
 
-  blocks-long : (n j : ℕ) → j + 1 + n ≡ last → sum_to (measured Bytes) s (j + 1) + length (pieces (block_at s t) j n) ≡ sum_to (measured Bytes) s last
+  blocks-long : (n j : ℕ) → j + 1 + n ≡ last → sum_to bytes s (j + 1) + length (pieces (block_at s t) j n) ≡ sum_to bytes s last
   unfolding pieces
-  blocks-long zero j e = let q : j + 1 ≡ last = omega arith in rw q (add-zero (sum_to (measured Bytes) s last))
+  blocks-long zero j e = let q : j + 1 ≡ last = omega arith in rw q (add-zero (sum_to bytes s last))
   blocks-long (suc n) j e =
       let q : suc j + 1 ≡ j + 1 + 1 = omega arith in
       let b = block-long (j + 1) (omega arith) (omega arith) in
-      let m = sum-next (measured Bytes) s (j + 1) (sum_to (measured Bytes) s (j + 1)) (count_at s (j + 1)) (bytes (kind (j + 1))) refl refl refl in
+      let m = sum-next bytes s (j + 1) (sum_to bytes s (j + 1)) (count_at s (j + 1)) (bytes (kind (j + 1))) refl refl refl in
       let ih = rw q at (blocks-long n (suc j) (omega arith)) in
       omega (arith, length-append (block_at s t j) (pieces (block_at s t) (suc j) n), b, m, ih)
 

@@ -16,6 +16,7 @@ use Rattle.logic.specs.Tests.{either, pick, some}
 use Rattle.book.specs.declared.Kind.{Kind}
 use Rattle.book.specs.declared.Content.{Content}
 use Rattle.book.specs.declared.Content.TheVariants.{Edition, Exception}
+use Rattle.book.specs.Faults.{number}
 use Rattle.book.specs.Kinds.{kind, contents, numbers_of, first, last, range_of}
 use Rattle.text.specs.Lines.{inside, and_then, test_field, numbers_in, headless, missing, unless, judged}
 use Rattle.text.specs.Lines.Numbers.{numbers, fault}
@@ -41,7 +42,7 @@ module _ (t : List ℤ) (from : ℕ) (cs : List Content) (n m : ℕ) where
 
   module _ (i : ℕ) (s : Seen) (h : i < length cs) (g : from + i < length t) (inv : Rest i s) (c : Content) (ec : c ≡ get_or cs i Edition) (v : ℤ) (ev : v ≡ get_or t (from + i) (pos 0)) (b : mag v < 2147483648)
       (y : Result ⊤ ℕ) (ey : y ≡ number_is (range_of c n) (back v)) where
-    opened : pick (inside (range_of c n) v) (test_seen n m (drop (suc i) cs) (see_of s c m 0 v) (drop (suc (from + i)) t)) (Err (range_of c n).fault) ≡ test_seen n m cs (none_seen n) (drop from t)
+    opened : pick (inside (range_of c n) v) (test_seen n m (drop (suc i) cs) (see_of s c m 0 v) (drop (suc (from + i)) t)) (Err (number (range_of c n).fault)) ≡ test_seen n m cs (none_seen n) (drop from t)
     unfolding Rest test_seen
     opened = rw (ec, ev) (rw (drop-cons cs i Edition h, drop-cons t (from + i) (pos 0) g) at inv)
 
@@ -52,10 +53,10 @@ module _ (t : List ℤ) (from : ℕ) (cs : List Content) (n m : ℕ) where
     unfolding number_is pick
     rest-wrong q e = go (inside (range_of c n) v) (sym checked-is ∙ e) opened
       where
-        go : (b : Bool) → pick b (Ok (tt {0})) (Err (range_of c n).fault) ≡ Err q
-            → pick b (test_seen n m (drop (suc i) cs) (see_of s c m 0 v) (drop (suc (from + i)) t)) (Err (range_of c n).fault) ≡ test_seen n m cs (none_seen n) (drop from t) → Err q ≡ test_seen n m cs (none_seen n) (drop from t)
+        go : (b : Bool) → pick b (Ok (tt {0})) (Err (number (range_of c n).fault)) ≡ Err q
+            → pick b (test_seen n m (drop (suc i) cs) (see_of s c m 0 v) (drop (suc (from + i)) t)) (Err (number (range_of c n).fault)) ≡ test_seen n m cs (none_seen n) (drop from t) → Err q ≡ test_seen n m cs (none_seen n) (drop from t)
         go true p r = absurd (let z : ◌≡◌ {A = ℕ} 0 1 = cc in omega arith)
-        go false p r = let w : (range_of c n).fault ≡ q = cc in rw (← w) r
+        go false p r = let w : (number (range_of c n).fault) ≡ q = cc in rw (← w) r
 
     pub rest-next : (r : Seen) → y ≡ Ok tt → r ≡ see_of s c m 0 (back v) → Rest (i + 1) r
     unfolding Rest number_is pick
@@ -63,8 +64,8 @@ module _ (t : List ℤ) (from : ℕ) (cs : List Content) (n m : ℕ) where
         let j : from + (i + 1) ≡ suc (from + i) = omega arith in
         rw (j, add-one i, f, back-same v b) (go (inside (range_of c n) v) (sym checked-is ∙ e) opened)
       where
-        go : (b : Bool) → pick b (Ok (tt {0})) (Err (range_of c n).fault) ≡ Ok (tt {0})
-            → pick b (test_seen n m (drop (suc i) cs) (see_of s c m 0 v) (drop (suc (from + i)) t)) (Err (range_of c n).fault) ≡ test_seen n m cs (none_seen n) (drop from t)
+        go : (b : Bool) → pick b (Ok (tt {0})) (Err (number (range_of c n).fault)) ≡ Ok (tt {0})
+            → pick b (test_seen n m (drop (suc i) cs) (see_of s c m 0 v) (drop (suc (from + i)) t)) (Err (number (range_of c n).fault)) ≡ test_seen n m cs (none_seen n) (drop from t)
             → test_seen n m (drop (suc i) cs) (see_of s c m 0 v) (drop (suc (from + i)) t) ≡ test_seen n m cs (none_seen n) (drop from t)
         go true p r = r
         go false p r = absurd (let z : ◌≡◌ {A = ℕ} 0 1 = cc in omega arith)
@@ -95,10 +96,10 @@ seen-wrong n m [] s vs q l e = absurd (let z : ◌≡◌ {A = ℕ} 0 1 = cc in o
 seen-wrong n m (c ∷ cs) s [] q l e = absurd (omega arith)
 seen-wrong n m (c ∷ cs) s (v ∷ vs) q l e = go (inside (range_of c n) v) e (λ f. seen-wrong n m cs (see_of s c m 0 v) vs q (omega arith) f)
   where
-    go : (b : Bool) → Err q ≡ pick b (test_seen n m cs (see_of s c m 0 v) vs) (Err (range_of c n).fault) → (Err q ≡ test_seen n m cs (see_of s c m 0 v) vs → test_fields cs n vs ≡ fault q)
-        → pick b (and_then v (test_fields cs n vs)) (fault (range_of c n).fault) ≡ fault q
+    go : (b : Bool) → Err q ≡ pick b (test_seen n m cs (see_of s c m 0 v) vs) (Err (number (range_of c n).fault)) → (Err q ≡ test_seen n m cs (see_of s c m 0 v) vs → test_fields cs n vs ≡ fault q)
+        → pick b (and_then v (test_fields cs n vs)) (fault (number (range_of c n).fault)) ≡ fault q
     go true p ih = rw (ih p) (and-fault v q)
-    go false p ih = let w : (range_of c n).fault ≡ q = cc in rw w
+    go false p ih = let w : (number (range_of c n).fault) ≡ q = cc in rw w
 
 seen-right : (n m : ℕ) (cs : List Content) (s : Seen) (vs : List ℤ) (r : Seen) → length vs ≡ length cs → Ok r ≡ test_seen n m cs s vs → (test_fields cs n vs ≡ numbers vs) × (r ≡ see_all s cs m 0 vs)
 unfolding test_seen test_fields test_field pick see_all
@@ -107,8 +108,8 @@ seen-right n m [] s (v ∷ vs) r l e = absurd (omega arith)
 seen-right n m (c ∷ cs) s [] r l e = absurd (omega arith)
 seen-right n m (c ∷ cs) s (v ∷ vs) r l e = go (inside (range_of c n) v) e (λ f. seen-right n m cs (see_of s c m 0 v) vs r (omega arith) f)
   where
-    go : (b : Bool) → Ok r ≡ pick b (test_seen n m cs (see_of s c m 0 v) vs) (Err (range_of c n).fault) → (Ok r ≡ test_seen n m cs (see_of s c m 0 v) vs → (test_fields cs n vs ≡ numbers vs) × (r ≡ see_all (see_of s c m 0 v) cs m 0 vs))
-        → (pick b (and_then v (test_fields cs n vs)) (fault (range_of c n).fault) ≡ numbers (v ∷ vs)) × (r ≡ see_all (see_of s c m 0 v) cs m 0 vs)
+    go : (b : Bool) → Ok r ≡ pick b (test_seen n m cs (see_of s c m 0 v) vs) (Err (number (range_of c n).fault)) → (Ok r ≡ test_seen n m cs (see_of s c m 0 v) vs → (test_fields cs n vs ≡ numbers vs) × (r ≡ see_all (see_of s c m 0 v) cs m 0 vs))
+        → (pick b (and_then v (test_fields cs n vs)) (fault (number (range_of c n).fault)) ≡ numbers (v ∷ vs)) × (r ≡ see_all (see_of s c m 0 v) cs m 0 vs)
     go true p ih = let x = ih p in (rw x.0 (and-numbers v vs), x.1)
     go false p ih = absurd (let z : ◌≡◌ {A = ℕ} 0 1 = cc in omega arith)
 
@@ -153,7 +154,7 @@ module _ (t : List ℤ) (from k n m : ℕ) (x : Kind) (ex : x ≡ kind k) (low :
             → (see_all (none_seen n) (numbers_of (kind k)) m 0 (row_at t from k)).missing ≡ some (λ v. not (le_z v (pos m))) (numbers_in Exception (numbers_of (kind k)) (row_at t from k))
         none-missing z = z ∙ not_yet n _
 
-    fault-is : row_is n m k (row_at t from k) ≡ line_is (unless (pick r (kind k).unfilled (pick s.missing 10 0)) (line k (row_at t from k)))
+    fault-is : row_is n m k (row_at t from k) ≡ line_is (unless (pick r (number (kind k).unfilled) (pick s.missing 10 0)) (line k (row_at t from k)))
     unfolding row_is judged row_fault
     fault-is = rw (passed.0, headless-is, missing-is)
 
@@ -162,9 +163,9 @@ module _ (t : List ℤ) (from k n m : ℕ) (x : Kind) (ex : x ≡ kind k) (low :
     some-refusal zero h = absurd (omega arith)
     some-refusal (suc q) h = refl
 
-    pub row-headless : r ≡ true → Err x.unfilled ≡ row_is n m k (take (kind k).numbers (drop from t))
+    pub row-headless : r ≡ true → Err (number x.unfilled) ≡ row_is n m k (take (kind k).numbers (drop from t))
     unfolding pick
-    row-headless g = rw ex (some-refusal (kind k).unfilled (unfilled-some k (omega arith)) ∙ sym (fault-is ∙ rw g))
+    row-headless g = rw ex (some-refusal (number (kind k).unfilled) (unfilled-some k (omega arith)) ∙ sym (fault-is ∙ rw g))
 
     pub row-missing : r ≡ false → s.missing ≡ true → Err 10 ≡ row_is n m k (take (kind k).numbers (drop from t))
     unfolding pick unless line_is

@@ -1,7 +1,7 @@
 -- The test of a table: what each return of its functions is by the definition.
 -- Rows of one kind: what is left to test, from here, gives the final answer, whatever rows follow; then kind after kind.
 use mathlib.Core.Path.{◌≡◌, refl, sym, ap, ◌∙◌}
-use mathlib.Core.Bool.{Bool, true, false, not}
+use mathlib.Core.Bool.{Bool, true, false, not, ◌&&◌, ◌||◌}
 use mathlib.Core.List.{List, [], ◌∷◌, ◌++◌, map}
 use Prim.Native.Nat.{ℕ, zero, suc, ◌+◌, ◌-◌, ◌*◌, ◌<◌, ◌≤◌}
 use native.Mathlib.Nat.{add-zero, suc-mul, zero-mul}
@@ -18,13 +18,13 @@ use mir.Facts.{to_z-of_z}
 use borrow.Author.Tests.{lt-ltb, le-ltb, eqb-true, eqb-false, eq-eqb, ne_eqb, ltb-true}
 use Rattle.std.specs.Prelude.{Result, Ok, Err, ⊤}
 use Rattle.logic.specs.Tests.{both, pick, some}
-use Rattle.book.specs.declared.Measure.TheVariants.{Numbers}
 use Rattle.book.specs.declared.Kind.{Kind}
 use Rattle.book.specs.declared.Shape.{Shape}
 use Rattle.book.specs.declared.Content.TheVariants.{Statements}
+use Rattle.book.specs.Faults.{number}
 use Rattle.book.specs.Kinds.{kinds, kind, unknown, none, first, last, front, range_of}
-use Rattle.book.specs.Counts.{counts_of, count_at, shape_from, sum_to, start_of, row_numbers, InLimits, measured}
-use Rattle.book.proofs.Counts.{many, sum-next, sum-up, sum-all, measured-most}
+use Rattle.book.specs.Counts.{counts_of, count_at, shape_from, sum_to, start_of, row_numbers, InLimits, numbers_each}
+use Rattle.book.proofs.Counts.{many, sum-next, sum-up, sum-all, numbers-most}
 use Rattle.text.specs.declared.Refusal.{Refusal}
 use Rattle.text.specs.Lines.{Line, between, inside}
 use Rattle.text.specs.Lines.Line.{line, wrong}
@@ -41,21 +41,14 @@ use Rattle.write.specs.Testing.{line_is, row_is, on_tested}
 
 -- ---- n and the counts
 module _ (t : List ℤ) (x : Kind) where
-  pub count_none : x.row ≡ false → false ≡ miscount t x
-  unfolding miscount both
-  count_none e = rw e
-
-  module _ (e : x.row ≡ true) (v : ℤ) (f : SFits w32 v) (ev : v ≡ get_or t x.count (pos 0)) where
-    count_same : back v ≡ get_or t x.count (pos 0)
-    count_same = to_z-of_z f ∙ ev
-
-    pub count-negative : lt_z (back v) (pos 0) ≡ true → true ≡ miscount t x
-    unfolding miscount between both
-    count-negative l = rw (e, lt-le (get_or t x.count (pos 0)) (pos 0) (rw count_same at l))
-
-    pub count-limit : (r : Bool) → lt_z (back v) (pos 0) ≡ false → r ≡ le_z (back v) (pos x.limit) → not r ≡ miscount t x
-    unfolding miscount between both
-    count-limit r l er = rw (er, count_same, e, ge-le (get_or t x.count (pos 0)) (pos 0) (rw count_same at l))
+  pub count-is : (v : ℤ) (r : Bool) → SFits w32 v → v ≡ get_or t x.count (pos 0) → r ≡ le_z (back v) (pos x.limit) → x.row && (lt_z (back v) (pos 0) || not r) ≡ miscount t x
+  unfolding miscount between both
+  count-is v r f ev er = rw (er, to_z-of_z f, ← ev) (go x.row (lt_z v (pos 0)) refl)
+    where
+      go : (a b : Bool) → lt_z v (pos 0) ≡ b → a && (b || not (le_z v (pos x.limit))) ≡ both a (not (both (le_z (pos 0) v) (le_z v (pos x.limit))))
+      go false b p = refl
+      go true true p = rw (lt-le v (pos 0) p)
+      go true false p = rw (ge-le v (pos 0) p)
 
 pub kind-limit : (x : Kind) (k : ℕ) → x ≡ kind k → k < none → x.limit < 2147483648
 kind-limit x k e h = rw e (omega (arith, limit-small k h))
@@ -90,7 +83,7 @@ module _ (t : List ℤ) (v : ℤ) (ev : v ≡ get_or t 0 (pos 0)) (b : mag v < 2
   unfolding number_is pick
   statements-in g = go (inside (range_of Statements 0) (get_or t 0 (pos 0))) (sym g ∙ number_is_lem)
     where
-      go : (b : Bool) → Ok (tt {0}) ≡ pick b (Ok (tt {0})) (Err (range_of Statements 0).fault) → b ≡ true
+      go : (b : Bool) → Ok (tt {0}) ≡ pick b (Ok (tt {0})) (Err (number (range_of Statements 0).fault)) → b ≡ true
       go true p = refl
       go false p = absurd (let z : ◌≡◌ {A = ℕ} 0 1 = cc in omega arith)
 
@@ -239,11 +232,11 @@ come-none s k h = rw (drop_of_length-le (counts_of s) {i = k - 1} (omega (arith,
 -- The rows of the kind at place k end before the table does.
 pub rows_in : (t : List ℤ) (s : Shape) (k from c : ℕ) → length t ≡ front + row_numbers s → k < none → from ≡ front + start_of s k → c ≡ count_at s k → from + c * (kind k).numbers ≤ length t
 rows_in t s k from c l h ef ec =
-    let n = sum-next (measured Numbers) s k (start_of s k) c (kind k).numbers refl ec refl in
-    omega (arith, n, sum-up (measured Numbers) s (k + 1) (omega arith), ef, l)
+    let n = sum-next numbers_each s k (start_of s k) c (kind k).numbers refl ec refl in
+    omega (arith, n, sum-up numbers_each s (k + 1) (omega arith), ef, l)
 
 pub start-on : (s : Shape) (k from c w : ℕ) → from ≡ front + start_of s k → c ≡ count_at s k → w ≡ (kind k).numbers → from + c * w ≡ front + start_of s (k + 1)
-start-on s k from c w ef ec ew = let n = sum-next (measured Numbers) s k (start_of s k) c w refl ec ew in omega (arith, n, ef)
+start-on s k from c w ef ec ew = let n = sum-next numbers_each s k (start_of s k) c w refl ec ew in omega (arith, n, ef)
 
 pub start_first : (s : Shape) → front ≡ front + start_of s 1
 unfolding sum_to kind kinds
@@ -311,7 +304,7 @@ module _ (t : List ℤ) where
         shape-bounded = rw es (shape-limits t h n (sym ea ∙ f))
 
         pub few-numbers : row_numbers s ≤ 100000
-        few-numbers = omega (arith, sum-all (measured Numbers) s shape-bounded, measured-most Numbers)
+        few-numbers = omega (arith, sum-all numbers_each s shape-bounded, numbers-most)
 
         pub table-long : (r : Refusal) (m : ℕ) → m ≡ row_numbers s → (length t ≡ front + m → ⊥) → r ≡ refusal 16 0 → Err r ≡ read_answer (test_table t)
         unfolding test_table pick read_answer

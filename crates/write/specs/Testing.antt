@@ -2,6 +2,7 @@
 use Rattle.std.specs.Prelude.{ℕ, List, [], ◌∷◌, ℤ, Result, Ok, Err, ⊤}
 use Rattle.logic.specs.Tests.{pick}
 use Rattle.book.specs.declared.Content.{Content}
+use Rattle.book.specs.Faults.{number}
 use Rattle.book.specs.Kinds.{kind, numbers_of, range_of}
 use Rattle.book.specs.declared.Shape.{Shape}
 use Rattle.text.specs.declared.Refusal.{Refusal}
@@ -15,7 +16,7 @@ use Rattle.fields.specs.Checks.{see_of}
 unfoldable pub test_seen : ℕ → ℕ → List Content → Seen → List ℤ → Result Seen ℕ
 test_seen n m [] s vs = Ok s
 test_seen n m (c ∷ cs) s [] = Ok s
-test_seen n m (c ∷ cs) s (v ∷ vs) = pick (inside (range_of c n) v) (test_seen n m cs (see_of s c m 0 v) vs) (Err (range_of c n).fault)
+test_seen n m (c ∷ cs) s (v ∷ vs) = pick (inside (range_of c n) v) (test_seen n m cs (see_of s c m 0 v) vs) (Err (number (range_of c n).fault))
 
 -- A line as an answer: fine, or its refusal.
 unfoldable pub line_is : Line → Result ⊤ ℕ

@@ -4,6 +4,7 @@
 ghost use Rattle.std.specs.Prelude.{◌≡◌, true, List, [], ◌∷◌, ◌++◌, ℕ, ◌+◌, ◌*◌, ◌<◌, ◌≤◌, pos, length, get_or, drop, take, replicate};
 ghost use Rattle.std.proofs.lemmas.List.Edits.{sets};
 ghost use Rattle.logic.specs.Tests.{some};
+ghost use Rattle.book.specs.Faults.{numbered};
 ghost use Rattle.book.specs.Kinds.{kinds, kind, none, first, last, front, contents, numbers_of, bytes, range_of};
 ghost use Rattle.book.specs.Counts.{row_numbers, text_bytes, InLimits};
 ghost use Rattle.book.specs.declared.Content.TheVariants.{Statements};
@@ -17,16 +18,16 @@ ghost use Rattle.write.specs.Testing.{test_seen, row_is, on_tested};
 ghost use Rattle.write.specs.Parts.{lines_at, rows_text};
 ghost use Rattle.write.specs.Promise.{Met};
 
-use book::{Book, Content, Kind, Shape};
+use book::{Book, Content, Fault, Kind, Shape};
 use fields::Seen;
 use text::Refusal;
 
 // ---- the test of a row
 
 // The numbers of a row of kind x, from a place of the table on: what they say in a book of n statements and m exceptions, or the refusal.
-pub fn test_fields(t: &[i32], from: usize, x: Kind, n: usize, m: usize) -> Result<Seen, u32>
+pub fn test_fields(t: &[i32], from: usize, x: Kind, n: usize, m: usize) -> Result<Seen, Fault>
     requires { (from + x.numbers ≤ length t.now) × (x.from + x.numbers ≤ length contents) × (n < 2147483648) × (m < 2147483648) }
-    ensures { result ≡ test_seen n m (numbers_of x) (none_seen n) (drop from t.now) }
+    ensures { numbered result ≡ test_seen n m (numbers_of x) (none_seen n) (drop from t.now) }
 {
     let mut seen = Seen {
         statements: n,
@@ -35,7 +36,7 @@ pub fn test_fields(t: &[i32], from: usize, x: Kind, n: usize, m: usize) -> Resul
     };
     for i in 0..x.numbers {
         let content = book::content_at(x.from + i);
-        let v = fields::number_at(t, from + i);
+        let v = t[from + i];
         fields::check_number(content, n, v)?;
         seen = fields::see(seen, content, m, 0, v);
     }
@@ -43,17 +44,17 @@ pub fn test_fields(t: &[i32], from: usize, x: Kind, n: usize, m: usize) -> Resul
 }
 
 // A row of the kind at place k, from a place of the table on: 6, its kind's own refusal for heads, 10.
-pub fn test_row(t: &[i32], from: usize, k: usize, n: usize, m: usize) -> Result<(), u32>
+pub fn test_row(t: &[i32], from: usize, k: usize, n: usize, m: usize) -> Result<(), Fault>
     requires { (first < k) × (k < last) × (from + (kind k).numbers ≤ length t.now) × (n < 2147483648) × (m < 2147483648) }
-    ensures { result ≡ row_is n m k (take (kind k).numbers (drop from t.now)) }
+    ensures { numbered result ≡ row_is n m k (take (kind k).numbers (drop from t.now)) }
 {
     let x = book::kind_at(k);
     let seen = test_fields(t, from, x, n, m)?;
-    if fields::is_headless(t, from, x) {
+    if fields::is_headless(&t[from..], x) {
         return Err(x.unfilled);
     }
     if seen.missing {
-        return Err(10);
+        return Err(Fault::NoException);
     }
     Ok(())
 }
@@ -78,7 +79,7 @@ pub fn test_kind(
     let m = s.exceptions;
     let mut at = from;
     for i in 0..c {
-        test_row(t, at, k, n, m).map_err(|q| Refusal::new(q, line + i))?;
+        test_row(t, at, k, n, m).map_err(|fault| Refusal::of(fault, line + i))?;
         at += w;
     }
     Ok(())
@@ -106,14 +107,8 @@ pub fn count_over(t: &[i32], x: Kind) -> bool
     requires { (x.count < length t.now) × (x.limit < 2147483648) }
     ensures { result ≡ miscount t.now x }
 {
-    if !x.row {
-        return false;
-    }
-    let v = fields::number_at(t, x.count);
-    if v < 0 {
-        return true;
-    }
-    !fields::at_most(v, x.limit)
+    let v = t[x.count];
+    x.row & ((v < 0) | !fields::at_most(v, x.limit))
 }
 
 // Some count of the table is.
@@ -138,11 +133,9 @@ pub fn shape_in(t: &[i32]) -> Shape
     let mut counts = [0usize; Book::KINDS];
     for k in 0..Book::KINDS {
         let x = book::kind_at(k);
-        let v = fields::number_at(t, x.count);
-        counts[k] = fields::to_nat(v);
+        counts[k] = fields::to_nat(t[x.count]);
     }
-    let n = fields::number_at(t, 0);
-    book::shape_from(fields::to_nat(n), counts)
+    book::shape_from(fields::to_nat(t[0]), counts)
 }
 
 // The test of a table whose n is right: the counts, the length, the rows.
@@ -151,11 +144,11 @@ pub fn test_counts(t: &[i32]) -> Result<Shape, Refusal>
     ensures { result ≡ read_answer (test_table t.now) }
 {
     if counts_over(t) {
-        return Err(Refusal::new(8, 1));
+        return Err(Refusal::of(Fault::TooMany, 1));
     }
     let s = shape_in(t);
     if t.len() != Book::FRONT + book::row_numbers(s) {
-        return Err(Refusal::new(16, 0));
+        return Err(Refusal::of(Fault::TableLength, 0));
     }
     test_rows(t, s)
 }
@@ -165,10 +158,9 @@ pub fn test_table(t: &[i32]) -> Result<Shape, Refusal>
     ensures { result ≡ read_answer (test_table t.now) }
 {
     if t.len() < Book::FRONT {
-        return Err(Refusal::new(16, 0));
+        return Err(Refusal::of(Fault::TableLength, 0));
     }
-    let n = fields::number_at(t, 0);
-    fields::check_number(Content::Statements, 0, n).map_err(|q| Refusal::new(q, 1))?;
+    fields::check_number(Content::Statements, 0, t[0]).map_err(|fault| Refusal::of(fault, 1))?;
     test_counts(t)
 }
 
@@ -245,7 +237,7 @@ pub fn write(table: &[i32], buf: &mut [u8]) -> Result<usize, Refusal>
     let s = test_table(table)?;
     let n = book::text_bytes(s);
     if buf.len() < n {
-        return Err(Refusal::new(15, 0));
+        return Err(Refusal::of(Fault::BufferShort, 0));
     }
     put_text(buf, s, table);
     Ok(n)

@@ -4,5 +4,5 @@ use Rattle.across.proofs.Across.{answer-across}
 use Rattle.across.specs.Across.{answer_in}
 use Rattle.bantameasel.proofs.bantameasel_first.Goals as goal
 
-pub returns : goal.returns
-returns c = let whole = answer-across _ _ _ ((first-means _ _).0 refl) _ (c.pair_in.ensures ∙ ap answer_in c.first.ensures.result_value) in record { value = whole.0; means = whole.1 }
+pub returns-clause-means : goal.returns-clause-means
+returns-clause-means c = (answer-across _ _ _ ((first-means _ _).0 refl) _ (c.into.ensures ∙ ap answer_in c.first.ensures.result_value)).1

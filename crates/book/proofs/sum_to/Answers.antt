@@ -1,45 +1,29 @@
-use Prim.Native.Nat.{◌-◌, ◌≤◌}
-use mathlib.Core.Path.{◌≡◌}
 use native.Mathlib.Omega.{arith}
-use borrow.Author.Rules.{rules}
-use Rattle.book.specs.Counts.{measured}
-use Rattle.book.proofs.Counts.{measured-most, sum-none, sum-next, sum-small, sum-end}
+use Rattle.book.proofs.Counts.{sum-none, sum-next, sum-hundreds, hundreds-small, sum-end}
 use Rattle.book.proofs.sum_to.Goals as goal
 
 pub loop-i-init : goal.loop-i-init
-loop-i-init c = (omega arith, sum-none _ _)
-
-pub count_of-requires : goal.count_of-requires
-count_of-requires c = omega arith
-
-pub measured-requires : goal.measured-requires
-measured-requires c = omega arith
+loop-i-init g c = (omega arith, λ f h. sum-none f c.args.s)
 
 pub overflow_mul-n : goal.overflow_mul-n
-overflow_mul-n c =
+overflow_mul-n g c =
     let loop = c.loop-i in
-    let args = c.args in
-    let l = c.requires.1 in
-    omega (arith, measured-most args.m, sum-small (measured args.m) args.s loop.i loop.n _ _ l (omega arith) loop.invariant.1 c.count_of.ensures c.measured.ensures)
+    let y = c.requires.small loop.i c.each.result (omega arith) c.each.ensures in
+    omega (arith, sum-hundreds c.args.s loop.i loop.n _ _ loop.invariant.0 c.count_of.ensures y, hundreds-small c.args.s loop.i c.requires.places.1 (omega arith))
 
 pub overflow_add-n : goal.overflow_add-n
-overflow_add-n c =
+overflow_add-n g c =
     let loop = c.loop-i in
-    let args = c.args in
-    let l = c.requires.1 in
-    omega (arith, measured-most args.m, sum-small (measured args.m) args.s loop.i loop.n _ _ l (omega arith) loop.invariant.1 c.count_of.ensures c.measured.ensures)
-
-pub overflow_add-i : goal.overflow_add-i
-overflow_add-i c = omega arith
-
-pub loop-i-smaller : goal.loop-i-smaller
-loop-i-smaller c = omega arith
+    let y = c.requires.small loop.i c.each.result (omega arith) c.each.ensures in
+    omega (arith, sum-hundreds c.args.s loop.i loop.n _ _ loop.invariant.0 c.count_of.ensures y, hundreds-small c.args.s loop.i c.requires.places.1 (omega arith))
 
 pub loop-i-preserved : goal.loop-i-preserved
-loop-i-preserved c =
+loop-i-preserved g c =
     let loop = c.loop-i in
-    let args = c.args in
-    (omega arith, sum-next (measured args.m) args.s loop.i loop.n _ _ loop.invariant.1 c.count_of.ensures c.measured.ensures)
+    let y = c.requires.small loop.i c.each.result (omega arith) c.each.ensures in (
+      sum-hundreds c.args.s loop.i loop.n _ _ loop.invariant.0 c.count_of.ensures y,
+      λ f h. sum-next f c.args.s loop.i loop.n _ _ (loop.invariant.1 f h) c.count_of.ensures (h loop.i _ (omega arith) c.each.ensures),
+    )
 
 pub returns : goal.returns
-returns c = sum-end _ _ _ _ _ c.loop-i.invariant.1 c.loop-i.invariant.0 (search rules)
+returns g c = λ f h. sum-end f _ _ _ _ (c.loop-i.invariant.1 f h) (omega arith) (omega arith)

@@ -1,7 +1,10 @@
 use Rattle.fields.proofs.Columns.{back-same}
 use native.Mathlib.Omega.{arith}
 use borrow.Author.Rules.{rules}
-use mathlib.Core.Path.{◌∙◌}
+use mathlib.Core.Path.{refl}
+use Prim.Native.Nat.{◌+◌}
+use lib.IntN.{pos}
+use lib.ListN.{get_or}
 use Rattle.logic.proofs.Stores.{putting-start, putting-next, putting-end}
 use Rattle.text.proofs.Fields.{field-length}
 use Rattle.fields.proofs.Puts.{fields-are, short_back}
@@ -13,9 +16,6 @@ loop-i-init c = putting-start _ _ _ _ _ (omega arith)
 pub overflow_add-from : goal.overflow_add-from
 overflow_add-from c = omega arith
 
-pub number_at-v-requires : goal.number_at-v-requires
-number_at-v-requires c = omega arith
-
 pub overflow_mul-i : goal.overflow_mul-i
 overflow_mul-i c = omega arith
 
@@ -23,21 +23,13 @@ pub overflow_add-at : goal.overflow_add-at
 overflow_add-at c = omega arith
 
 pub put_number-requires : goal.put_number-requires
-put_number-requires c = (short_back c.args.t.now c.args.from c.args.w c.loop-i.i _ (search rules) (omega arith) c.number_at-v.ensures c.number_at-v.type_inv, omega arith)
-
-pub overflow_add-i : goal.overflow_add-i
-overflow_add-i c = omega arith
-
-pub loop-i-smaller : goal.loop-i-smaller
-loop-i-smaller c = omega arith
+put_number-requires c = (short_back c.args.t.now c.args.from c.args.w c.loop-i.i _ (search rules) (omega arith) refl (search rules), omega arith)
 
 pub loop-i-preserved : goal.loop-i-preserved
 loop-i-preserved c =
-    let number = c.number_at-v in
-    let put = c.put_number in
     let loop = c.loop-i in
-    let e = back-same _ number.type_inv ∙ number.ensures in
-    putting-next _ _ _ _ loop.buf _ loop.i loop.invariant (omega arith) _ _ (rw e at put.ensures) (rw field-length (omega arith))
+    let e = back-same (get_or c.args.t.now (c.args.from + loop.i) (pos 0)) (search rules) in
+    putting-next _ _ _ _ loop.buf _ loop.i loop.invariant (omega arith) _ _ (rw e at c.put_number.ensures) (rw field-length (omega arith))
 
 pub returns : goal.returns
 returns c =

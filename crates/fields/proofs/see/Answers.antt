@@ -1,4 +1,5 @@
 use Rattle.fields.proofs.Numbers.{see-statements, see-exception, see-total, see-edition, see-literal}
+use mathlib.Core.Logic.{⊎_elim}
 use borrow.Author.Rules.{rules}
 use Rattle.fields.proofs.see.Goals as goal
 
@@ -12,7 +13,4 @@ pub returns-in-Total : goal.returns-in-Total
 returns-in-Total c = see-total _ _ _ _ _ (search rules) _ (search rules) c.is_count.ensures
 
 pub returns-in-Edition : goal.returns-in-Edition
-returns-in-Edition c = see-edition _ _ _ _ _ (search rules) (search rules)
-
-pub returns-in-Literal : goal.returns-in-Literal
-returns-in-Literal c = see-literal _ _ _ _ _ (search rules) (search rules)
+returns-in-Edition c = ⊎_elim (λ e. see-edition _ _ _ _ _ (search rules) e) (λ e. see-literal _ _ _ _ _ (search rules) e) c.in-Edition.is

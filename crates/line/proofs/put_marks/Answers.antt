@@ -1,18 +1,10 @@
-use mathlib.Core.Path.{ap}
+use mathlib.Core.Path.{ap, ◌∙◌}
 use native.Mathlib.Omega.{arith}
-use lib.ListN.{set}
-use Rattle.logic.proofs.Stores.{putting-start, putting-next, putting-end}
-use Rattle.line.proofs.PutLaws.{marks-are}
+use lib.ListN.{length, set}
+use Rattle.logic.proofs.Stores.{putting-next, putting-end}
+use Rattle.answers.proofs.Copies.{all-put}
+use Rattle.line.proofs.PutLaws.{marks-are, marks-length}
 use Rattle.line.proofs.put_marks.Goals as goal
-
-pub loop-i-init : goal.loop-i-init
-loop-i-init c = putting-start _ _ _ _ _ (omega arith)
-
-pub mark-requires : goal.mark-requires
-mark-requires c = (omega arith, omega arith)
-
-pub bounds-buf-at : goal.bounds-buf-at
-bounds-buf-at c = omega arith
 
 pub loop-i-preserved : goal.loop-i-preserved
 loop-i-preserved c =
@@ -21,6 +13,7 @@ loop-i-preserved c =
 
 pub returns : goal.returns
 returns c =
-    let args = c.args in
+    let s = c.args.buf.now in
     let loop = c.loop-i in
-    (putting-end _ _ _ _ _ _ loop.i _ loop.invariant (omega arith) (marks-are args.p args.n 0)).0
+    let end = putting-end _ _ _ _ _ _ loop.i _ loop.invariant (omega arith) (marks-are c.args.p (length s) 0) in
+    end.0 ∙ all-put s _ (marks-length c.args.p (length s))

@@ -1,7 +1,7 @@
-use Prim.Native.Nat.{◌+◌, ◌*◌}
+use Prim.Native.Nat.{◌*◌}
 use Rattle.logic.proofs.Stores.{Putting}
 use Rattle.line.proofs.PutLaws.{zero_field}
 use Rattle.line.proofs.put_zeros.Given as goal
 
 abbrev pub invariant-loop-i : goal.invariant-loop-i
-invariant-loop-i l = Putting zero_field l.w l.initial.buf l.at l.buf (l.at + l.i * 4) l.i
+invariant-loop-i l = Putting zero_field l.w l.initial.buf 0 l.buf (l.i * 4) l.i

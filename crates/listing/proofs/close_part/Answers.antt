@@ -1,4 +1,11 @@
+use Prim.Native.Nat.{◌+◌, ◌≤◌}
+use mathlib.Core.Path.{◌∙◌}
+use lib.ListN.{length}
+use lib.Seq.{length-sets}
+use Rattle.answers.specs.Ways.{closing_line}
+use Rattle.answers.proofs.Copies.{front-put}
 use Rattle.listing.specs.Parts.{part_lines}
+use Rattle.listing.proofs.Stores.{closing-length}
 use Rattle.listing.proofs.Promised.{closes}
 use Rattle.listing.proofs.Listed.{at_most}
 use native.Mathlib.Omega.{arith}
@@ -25,6 +32,11 @@ overflow_add-result c =
 
 pub returns : goal.returns
 returns c =
-    let put-lines = c.put_lines-at in
-    let put-closing = c.put_closing in
-    closes _ _ _ _ _ _ _ put-lines.ensures.0 put-lines.ensures.1 (search rules) (search rules) (search rules) (search rules) _ _ _ put-closing.ensures (omega (arith, put-lines.auto.out, put-closing.auto.out))
+    let lines = c.put_lines-at in
+    let args = c.args in
+    let bytes = closing_line args.letter (args.done + args.k) in
+    let room : lines.result + length bytes ≤ length lines.new.out =
+    omega (arith, at_most args.k part_lines args.w args.n (search rules) (search rules) (search rules), lines.ensures.1, lines.auto.out, closing-length args.letter (args.done + args.k)) in
+    let put = front-put lines.new.out bytes lines.result (length lines.new.out) room (omega arith) in
+    closes _ _ _ _ _ _ _ lines.ensures.0 lines.ensures.1 (search rules) (search rules) (search rules) (search rules) _ _ _ (rw c.put_closing.ensures put)
+    (rw (c.put_closing.ensures, put) (length-sets lines.new.out lines.result bytes ∙ lines.auto.out))

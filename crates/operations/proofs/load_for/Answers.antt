@@ -10,8 +10,7 @@ check-requires c = let k = loaded-small _ c.in_ok-s.s _ _ c.in_ok-s.ensures in (
 pub returns-in_err-check : goal.returns-in_err-check
 returns-in_err-check c =
     let p = err_from_is_err_and c.from_residual-in_err-check.result c.from_residual-in_err-check.ensures.1 in
-    let e = c.in_err-check.ensures in
-    rw (p.1, p.2) (refused-for _ _ _ _ _ c.in_ok-s.ensures _ e.0 e.1 e.2)
+    rw (p.1, p.2) (refused-for _ _ _ _ _ c.in_ok-s.ensures _ c.in_err-check.ensures)
 
 pub returns : goal.returns
 returns c = lawful-for _ _ _ _ _ c.in_ok-s.ensures c.in_ok-check.ensures

@@ -7,15 +7,15 @@ use Rattle.read.proofs.parse.Goals as goal
 
 pub returns-then-text-gt-TEXT : goal.returns-then-text-gt-TEXT
 unfolding longest most bytes kinds
-returns-then-text-gt-TEXT c = parsed-long _ _ _ c.new.ensures (omega arith)
+returns-then-text-gt-TEXT c = parsed-long _ _ _ c.of.ensures (omega arith)
 
 pub returns-then-text-eq0 : goal.returns-then-text-eq0
 unfolding longest most bytes kinds
-returns-then-text-eq0 c = parsed-empty _ _ _ c.new-then-text-eq0.ensures (omega arith) (search rules)
+returns-then-text-eq0 c = parsed-empty _ _ _ c.of-then-text-eq0.ensures (omega arith) (search rules)
 
 pub returns-then-text-ne10 : goal.returns-then-text-ne10
 unfolding longest most bytes kinds
-returns-then-text-ne10 c = parsed-open _ _ _ c.new-then-text-ne10.ensures (omega arith) (search rules) (search rules)
+returns-then-text-ne10 c = parsed-open _ _ _ c.of-then-text-ne10.ensures (omega arith) (search rules) (search rules)
 
 pub read_lines-requires : goal.read_lines-requires
 unfolding longest most bytes kinds

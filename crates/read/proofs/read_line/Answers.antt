@@ -2,8 +2,12 @@ use mathlib.Core.Path.{sym}
 use native.Mathlib.Omega.{arith}
 use borrow.Author.Rules.{rules}
 use Rattle.std.proofs.lemmas.Result.{err_from_is_err_and}
+use lib.ListN.{length}
+use Rattle.std.proofs.lemmas.Slice.{between_to_end}
 use Rattle.book.specs.Kinds.{none}
 use Rattle.book.proofs.Counts.{kind-small}
+use Rattle.book.specs.Faults.{numbered}
+use Rattle.book.proofs.Faults.{numbered-ok, numbered-err}
 use Rattle.read.proofs.LineLaws.{kind-heads, kind-contents, line-empty, line-elsewhere, line-long, line-fields, line-whole, line-right}
 use Rattle.read.proofs.read_line.Goals as goal
 
@@ -28,12 +32,12 @@ is_headless-requires c = omega (arith, kind-heads c.kind_at-x.result c.in-Some.k
 pub returns-in_err-seen : goal.returns-in_err-seen
 returns-in_err-seen c =
     let p = err_from_is_err_and c.from_residual.result c.from_residual.ensures.1 in
-    rw (p.1, p.2) (line-fields c.args.text.now c.args.at c.args.len c.args.st _ _ c.in-Some.k (search rules) (search rules) c.in-Some.ensures.0 c.kind_at-x.result c.in-Some.ensures.1 c.kind_at-x.ensures (search rules) _ c.read_fields.result c.read_fields.ensures _ (search rules))
+    rw (p.1, p.2) (line-fields c.args.text.now c.args.at c.args.len c.args.st _ _ c.in-Some.k (search rules) (search rules) c.in-Some.ensures.0 c.kind_at-x.result c.in-Some.ensures.1 c.kind_at-x.ensures (search rules) _ (numbered c.read_fields.result) c.read_fields.ensures _ (numbered-err _ _ c.in_err-seen.was))
 
 pub returns-in_err-line_fault : goal.returns-in_err-line_fault
 returns-in_err-line_fault c =
     let p = err_from_is_err_and c.from_residual-in_err-line_fault.result c.from_residual-in_err-line_fault.ensures.1 in
-    rw (p.1, p.2) (line-whole c.args.text.now c.args.at c.args.len c.args.st _ _ c.in-Some.k (search rules) (search rules) c.in-Some.ensures.0 c.kind_at-x.result c.in-Some.ensures.1 c.kind_at-x.ensures (search rules) _ c.read_fields.result c.read_fields.ensures c.in_ok-seen.seen (search rules) (search rules) c.is_headless.result c.is_headless.ensures c.line_fault.result c.line_fault.ensures _ (search rules))
+    rw (p.1, p.2) (line-whole c.args.text.now c.args.at c.args.len c.args.st _ _ c.in-Some.k (search rules) (search rules) c.in-Some.ensures.0 c.kind_at-x.result c.in-Some.ensures.1 c.kind_at-x.ensures (search rules) _ (numbered c.read_fields.result) c.read_fields.ensures c.in_ok-seen.seen (numbered-ok _ _ c.in_ok-seen.was) (search rules) c.is_headless.result (rw (between_to_end c.read_fields.new.t c.args.to (length c.read_fields.new.t) (omega arith)) at c.is_headless.ensures) (numbered c.line_fault.result) c.line_fault.ensures _ (numbered-err _ _ c.in_err-line_fault.was))
 
 pub returns : goal.returns
-returns c = line-right c.args.text.now c.args.at c.args.len c.args.st _ _ c.in-Some.k (search rules) (search rules) c.in-Some.ensures.0 c.kind_at-x.result c.in-Some.ensures.1 c.kind_at-x.ensures (search rules) _ c.read_fields.result c.read_fields.ensures c.in_ok-seen.seen (search rules) (search rules) c.is_headless.result c.is_headless.ensures c.line_fault.result c.line_fault.ensures _ (search rules)
+returns c = line-right c.args.text.now c.args.at c.args.len c.args.st _ _ c.in-Some.k (search rules) (search rules) c.in-Some.ensures.0 c.kind_at-x.result c.in-Some.ensures.1 c.kind_at-x.ensures (search rules) _ (numbered c.read_fields.result) c.read_fields.ensures c.in_ok-seen.seen (numbered-ok _ _ c.in_ok-seen.was) (search rules) c.is_headless.result (rw (between_to_end c.read_fields.new.t c.args.to (length c.read_fields.new.t) (omega arith)) at c.is_headless.ensures) (numbered c.line_fault.result) c.line_fault.ensures _ (numbered-ok _ _ c.in_ok-line_fault.was)

@@ -10,7 +10,7 @@ pub read_book-requires : goal.read_book-requires
 read_book-requires c = (omega (arith, ap (λ (x : Cursor). x.at) c.first.ensures), omega (arith, ap (λ (x : Cursor). x.line) c.first.ensures), c.requires.0, c.requires.1, search rules)
 
 pub returns-then-c-text : goal.returns-then-c-text
-returns-then-c-text c = alone-more _ c.read_book.result _ _ c.first.ensures c.read_book.ensures c.requires.1 c.in_ok-s.s c.in_ok-s.c _ (search rules) (search rules) c.new.ensures
+returns-then-c-text c = alone-more _ c.read_book.result _ _ c.first.ensures c.read_book.ensures c.requires.1 c.in_ok-s.s c.in_ok-s.c _ (search rules) (search rules) c.of.ensures
 
 pub returns-in_err-s : goal.returns-in_err-s
 returns-in_err-s c =

@@ -7,7 +7,7 @@ pub returns-then-counts_over : goal.returns-then-counts_over
 returns-then-counts_over c =
     let counts-over = c.counts_over in
     let pre = c.requires in
-    table-over _ pre.0 pre.1 _ counts-over.result counts-over.ensures (search rules) c.new.ensures
+    table-over _ pre.0 pre.1 _ counts-over.result counts-over.ensures (search rules) c.of.ensures
 
 pub row_numbers-requires : goal.row_numbers-requires
 row_numbers-requires c =
@@ -30,7 +30,7 @@ returns-then-t-row_numbers c =
     let shape-in = c.shape_in-s in
     let counts-over = c.counts_over in
     let pre = c.requires in
-    table-long _ pre.0 pre.1 counts-over.result counts-over.ensures (search rules) shape-in.result shape-in.ensures _ row-numbers.result row-numbers.ensures (search rules) c.new-then-t-row_numbers.ensures
+    table-long _ pre.0 pre.1 counts-over.result counts-over.ensures (search rules) shape-in.result shape-in.ensures _ row-numbers.result row-numbers.ensures (search rules) c.of-then-t-row_numbers.ensures
 
 pub test_rows-requires : goal.test_rows-requires
 test_rows-requires c =

@@ -6,6 +6,8 @@ use borrow.Author.Rules.{rules}
 use Rattle.book.specs.declared.Kind.{Kind}
 use Rattle.std.proofs.lemmas.Result.{err_from_is_err_and}
 use Rattle.read.proofs.Going.{turned}
+use Rattle.book.specs.Faults.{numbered}
+use Rattle.book.proofs.Faults.{numbered-ok}
 use Rattle.write.proofs.TableLaws.{rest-start, rest-next, rest-failed, rest-passed, spread-start, spread-next, spread-in}
 use Rattle.write.proofs.test_kind.Goals as goal
 
@@ -30,7 +32,7 @@ returns-in_err-map_err c =
     let test-row = c.test_row in
     let loop = c.loop-i in
     let args = c.args in
-    rw (p.1, p.2) (rest-failed _ args.t.now args.from _ _ _ _ loop.at loop.i-counter (omega arith) loop.invariant.2 test-row.result test-row.ensures _ refl refl u.0 _ u.1 u.2)
+    rw (p.1, p.2) (rest-failed _ args.t.now args.from _ _ _ _ loop.at loop.i-counter (omega arith) loop.invariant.2 (numbered test-row.result) test-row.ensures _ refl refl u.0 _ u.1 u.2)
 
 pub overflow_add-at : goal.overflow_add-at
 overflow_add-at c =
@@ -45,7 +47,7 @@ loop-i-preserved c =
     let test-row = c.test_row in
     let loop = c.loop-i in
     let args = c.args in
-    (loop.invariant.0, spread-next loop.at args.c loop.i-counter _ _ (omega arith) loop.invariant.1, rest-next _ args.t.now args.from _ _ _ _ loop.at loop.i-counter (omega arith) loop.invariant.2 test-row.result test-row.ensures _ loop.invariant.0 (search rules))
+    (loop.invariant.0, spread-next loop.at args.c loop.i-counter _ _ (omega arith) loop.invariant.1, rest-next _ args.t.now args.from _ _ _ _ loop.at loop.i-counter (omega arith) loop.invariant.2 (numbered test-row.result) test-row.ensures _ loop.invariant.0 (numbered-ok test-row.result _ (search rules)))
 
 pub returns : goal.returns
 returns c =

@@ -14,7 +14,7 @@ pub returns-then-buf-n : goal.returns-then-buf-n
 returns-then-buf-n c =
     let text-bytes = c.text_bytes-n in
     let test_table = c.test_table in
-    write-short _ _ test_table.result test_table.ensures c.in_ok-s.s (search rules) text-bytes.result _ text-bytes.ensures (search rules) c.new.ensures
+    write-short _ _ test_table.result test_table.ensures c.in_ok-s.s (search rules) text-bytes.result _ text-bytes.ensures (search rules) c.of.ensures
 
 pub put_text-requires : goal.put_text-requires
 put_text-requires c =

@@ -1,6 +1,0 @@
-use mathlib.Core.Path.{ap}
-use Rattle.book.specs.declared.Kind.{Kind}
-use Rattle.book.proofs.numbers_at.Goals as goal
-
-pub returns : goal.returns
-returns c = ap (λ (x : Kind). x.numbers) c.kind_at-x.ensures
