@@ -68,6 +68,7 @@ impl Book {
     // How many kinds of line there are, and their places in the order of a text: B, R, O, X, P, Q, Z.
     pub const KINDS: usize = 7;
 
+    // Kept: places are numbers, for the definitions count them (`kind k`, `after k`, a sum over the kinds before k).
     pub const AT_FIRST: usize = 0;
 
     pub const AT_PLAIN: usize = 1;
@@ -432,6 +433,7 @@ pub fn content_at(place: usize) -> Content
 }
 
 // ---- counts
+// Kept: named functions and no From, for the same counts stand in two orders, that of a text and that of a table, and the name says which.
 
 // How many lines of each kind a book of this shape has, in the order of a text: one B, the rows, one Z.
 pub fn counts_of(s: Shape) -> [usize; Book::KINDS]

@@ -144,7 +144,8 @@ pub fn is_usual(a: u8, b: u8, c: u8, d: u8) -> bool
     (b == b' ') & ((c == b' ') | ((c == b'-') & (d != b'0')))
 }
 
-// What four columns are: a number, or misspelt, with what is wrong. The number of a usual field is made apart: what the look has told of its columns makes that cheap.
+// What four columns are: a number, or misspelt, with what is wrong. The number of a usual field is made apart: what the look has told of its
+// columns makes that cheap.
 pub fn spell(a: u8, b: u8, c: u8, d: u8) -> Result<i32, Fault>
     ensures { numbered result ≡ spelt a b c d }
 {
@@ -271,6 +272,7 @@ pub fn is_headless(t: &[i32], x: Kind) -> bool
 // ---- four columns written
 
 // The columns of a number of this sign and size at a place of a buffer.
+// Kept: a place beside the buffer, as the definitions store (`sets buf at ..`): with `&mut buf[at..]` each caller cuts, and its proof joins again.
 pub fn put_columns(buf: &mut [u8], at: usize, neg: bool, m: u32)
     requires { (m < 10000) × (at + 4 ≤ length buf.old) }
     ensures { buf.new ≡ sets buf.old at (columns neg m) }

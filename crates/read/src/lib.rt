@@ -180,6 +180,7 @@ pub fn read_book(text: &[u8], from: Cursor, t: &mut [i32]) -> Result<(Shape, Cur
     let mut st = empty();
     let mut c = from;
     let mut to = 0;
+    // Kept: a while, for the cursor goes on by whole lines: no range gives its places.
     while c.at < text.len() {
         if st.next == Book::KINDS {
             return ended(st, c);
