@@ -10,83 +10,31 @@ pub const ROOM: usize = 11900;
 
 // ---- the small books
 
-// Small book k: read, and written again.
-fn book(rt: &impl Print, k: u64, text: &[u8]) -> io::Result<()> {
-    rows::letter(rt, b'K')?;
-    rt.print(k)?;
-    rows::both(rt, text)
-}
+// K1 to K14.
+pub const SMALL: [&[u8]; 14] = [
+    b"B   1   1\nZ   0\n",
+    b"B   1   1\nR   0   0   0   0   0   0   0   0   0\nZ   1\n",
+    b"B   1   2\nR   2   0   0   0   0  -1   0   0   0\nZ   1\n",
+    b"B   1   2\nR   1   0   0   0   0   2   0   0   0\nR   2   0   0   0   0   1   0   0   0\nZ   2\n",
+    b"B   1   1\nR   1   1   0   0   0   0   0   0   0\nZ   1\n",
+    b"B   1   1\nR   1   0   0   0   0   0   0   0   0\nR  -1   0   0   0   0   0   0   0   0\nZ   2\n",
+    b"B   1   3\nR   0   0   0   0   0   1   2   0   0\nR   3   1   0   0   0   0   0   0   0\nX   1   0   0   0   0   0   0   0   0\nX   2   0   0   0   0   0   0   0   0\nZ   4\n",
+    b"B   1   3\nR   0   0   0   0   0   1   2   0   0\nR   3   1   0   0   0   0   0   0   0\nX   1   0   0   0   0   0   0   0   0\nX   2   0   0   0   0   0   0   0   0\nP   1   2\nZ   5\n",
+    b"B   1   4\nR   0   0   0   0   0   1   2   0   0\nR   0   0   0   0   0   3   4   0   0\nR   0   1   3   0   0   0   0   0   0\nR   0   2   4   0   0   0   0   0   0\nX   1   0   0   0   0   0   0   0   0\nX   2   0   0   0   0   0   0   0   0\nX   3   0   0   0   0   0   0   0   0\nX   4   0   0   0   0   0   0   0   0\nP   1   2\nP   3   4\nZ  10\n",
+    b"B   1   1\nR   0   0   0   0   0   1   0   0   0\nX   1   0   0   0   0   0   0   0   0\nP   1   1\nZ   3\n",
+    b"B   1   2\nR   0   0   0   0   0   1   0   0   0\nX   1   0   0   0   0   0   0   0   0\nX   2  -1   0   0   0   0   0   0   0\nZ   3\n",
+    b"B   1   1\nR   0   0   0   0   0   1   0   0   0\nX   1   0   0   0   0   0   0   0   0\nX   1   0   0   0   0   0   0   0   0\nZ   3\n",
+    b"B   1   3\nR   0   0   0   0   0   1   3   0   0\nR   0   2   0   0   0   0   0   0   0\nX   1   0   0   0   0   0   0   0   0\nX   2   0   0   0   0   0   0   0   0\nX   3   0   0   0   0   0   0   0   0\nP   1   2\nP   2   3\nZ   7\n",
+    b"B   1   3\nR   0   0   0   0   0   1   2   0   0\nR   0   1   0   0   0   3   0   0   0\nX   1   0   0   0   0   0   0   0   0\nX   2   0   0   0   0   0   0   0   0\nX   3   0   0   0   0   0   0   0   0\nP   1   2\nZ   6\n",
+];
 
-fn first_seven(rt: &impl Print) -> io::Result<()> {
-    book(rt, 1, b"B   1   1\nZ   0\n")?;
-    book(
-        rt,
-        2,
-        b"B   1   1\nR   0   0   0   0   0   0   0   0   0\nZ   1\n",
-    )?;
-    book(
-        rt,
-        3,
-        b"B   1   2\nR   2   0   0   0   0  -1   0   0   0\nZ   1\n",
-    )?;
-    book(
-        rt,
-        4,
-        b"B   1   2\nR   1   0   0   0   0   2   0   0   0\nR   2   0   0   0   0   1   0   0   0\nZ   2\n",
-    )?;
-    book(
-        rt,
-        5,
-        b"B   1   1\nR   1   1   0   0   0   0   0   0   0\nZ   1\n",
-    )?;
-    book(
-        rt,
-        6,
-        b"B   1   1\nR   1   0   0   0   0   0   0   0   0\nR  -1   0   0   0   0   0   0   0   0\nZ   2\n",
-    )?;
-    book(
-        rt,
-        7,
-        b"B   1   3\nR   0   0   0   0   0   1   2   0   0\nR   3   1   0   0   0   0   0   0   0\nX   1   0   0   0   0   0   0   0   0\nX   2   0   0   0   0   0   0   0   0\nZ   4\n",
-    )
-}
-
-fn last_seven(rt: &impl Print) -> io::Result<()> {
-    book(
-        rt,
-        8,
-        b"B   1   3\nR   0   0   0   0   0   1   2   0   0\nR   3   1   0   0   0   0   0   0   0\nX   1   0   0   0   0   0   0   0   0\nX   2   0   0   0   0   0   0   0   0\nP   1   2\nZ   5\n",
-    )?;
-    book(
-        rt,
-        9,
-        b"B   1   4\nR   0   0   0   0   0   1   2   0   0\nR   0   0   0   0   0   3   4   0   0\nR   0   1   3   0   0   0   0   0   0\nR   0   2   4   0   0   0   0   0   0\nX   1   0   0   0   0   0   0   0   0\nX   2   0   0   0   0   0   0   0   0\nX   3   0   0   0   0   0   0   0   0\nX   4   0   0   0   0   0   0   0   0\nP   1   2\nP   3   4\nZ  10\n",
-    )?;
-    book(
-        rt,
-        10,
-        b"B   1   1\nR   0   0   0   0   0   1   0   0   0\nX   1   0   0   0   0   0   0   0   0\nP   1   1\nZ   3\n",
-    )?;
-    book(
-        rt,
-        11,
-        b"B   1   2\nR   0   0   0   0   0   1   0   0   0\nX   1   0   0   0   0   0   0   0   0\nX   2  -1   0   0   0   0   0   0   0\nZ   3\n",
-    )?;
-    book(
-        rt,
-        12,
-        b"B   1   1\nR   0   0   0   0   0   1   0   0   0\nX   1   0   0   0   0   0   0   0   0\nX   1   0   0   0   0   0   0   0   0\nZ   3\n",
-    )?;
-    book(
-        rt,
-        13,
-        b"B   1   3\nR   0   0   0   0   0   1   3   0   0\nR   0   2   0   0   0   0   0   0   0\nX   1   0   0   0   0   0   0   0   0\nX   2   0   0   0   0   0   0   0   0\nX   3   0   0   0   0   0   0   0   0\nP   1   2\nP   2   3\nZ   7\n",
-    )?;
-    book(
-        rt,
-        14,
-        b"B   1   3\nR   0   0   0   0   0   1   2   0   0\nR   0   1   0   0   0   3   0   0   0\nX   1   0   0   0   0   0   0   0   0\nX   2   0   0   0   0   0   0   0   0\nX   3   0   0   0   0   0   0   0   0\nP   1   2\nZ   6\n",
-    )
+// Each small book: read, and written again.
+fn small_books(rt: &impl Print) -> io::Result<()> {
+    for (i, text) in SMALL.iter().enumerate() {
+        print!(rt; "K{}", i + 1)?;
+        rows::both(rt, text)?;
+    }
+    Ok(())
 }
 
 // The case of document 02, (e), in the same way.
@@ -109,8 +57,7 @@ fn alternatives(rt: &impl Print) -> io::Result<()> {
 
 // The small books.
 pub fn small(rt: &impl Print) -> io::Result<()> {
-    first_seven(rt)?;
-    last_seven(rt)?;
+    small_books(rt)?;
     conditional(rt)?;
     alternatives(rt)
 }
@@ -122,16 +69,9 @@ pub fn put(buf: &mut [u8; ROOM], at: usize, line: &[u8]) -> usize
     requires { at ≤ 11900 }
     ensures { result ≤ 11900 }
 {
-    let mut to = at;
-    let mut i = 0;
-    while i < line.len() {
-        if to < ROOM {
-            buf[to] = line[i];
-            to += 1;
-        }
-        i += 1;
-    }
-    to
+    let n = line.len().min(ROOM - at);
+    buf[at..at + n].copy_from_slice(&line[..n]);
+    at + n
 }
 
 // A line put k times.
@@ -140,128 +80,67 @@ fn repeat(buf: &mut [u8; ROOM], at: usize, line: &[u8], k: usize) -> usize
     ensures { result ≤ 11900 }
 {
     let mut to = at;
-    let mut i = 0;
-    while i < k {
+    for _ in 0..k {
         to = put(buf, to, line);
-        i += 1;
     }
     to
 }
 
-// A book of 48 statements with r R lines, o O lines, x X lines, p P lines and q Q lines in a buffer, and these last bytes; the place after them.
-fn fill(
-    buf: &mut [u8; ROOM],
-    r: usize,
-    o: usize,
-    x: usize,
-    p: usize,
-    q: usize,
-    last: &[u8],
-) -> usize
+// A book of 48 statements with so many R, O, X, P and Q lines in a buffer, and these last bytes; the place after them.
+fn fill(buf: &mut [u8; ROOM], counts: [usize; 5], last: &[u8]) -> usize
     ensures { result ≤ 11900 }
 {
-    let b = put(buf, 0, b"B   1  48\n");
-    let c = repeat(buf, b, b"R -48  48   0   0   0   0   0   0 -48\n", r);
-    let d = repeat(
-        buf,
-        c,
+    let lines: [&[u8]; 5] = [
+        b"R -48  48   0   0   0   0   0   0 -48\n",
         b"O  48 -48   0 -48  48   0   0   0   0   0 -48\n",
-        o,
-    );
-    let e = repeat(buf, d, b"X  48   0   0   0   0   0   0   0   0\n", x);
-    let f = repeat(buf, e, b"P   1   1\n", p);
-    let g = repeat(buf, f, b"Q   1   1 -48  48   0   0   0   0   0 -48\n", q);
-    put(buf, g, last)
-}
-
-// The text in front of a buffer.
-pub fn filled(buf: &[u8; ROOM], e: usize) -> &[u8] {
-    rows::front_bytes(buf, e)
+        b"X  48   0   0   0   0   0   0   0   0\n",
+        b"P   1   1\n",
+        b"Q   1   1 -48  48   0   0   0   0   0 -48\n",
+    ];
+    let mut to = put(buf, 0, b"B   1  48\n");
+    for (i, line) in lines.iter().enumerate() {
+        to = repeat(buf, to, line, counts[i]);
+    }
+    put(buf, to, last)
 }
 
 // What such a book has.
-fn say(
-    rt: &impl Print,
-    r: usize,
-    o: usize,
-    x: usize,
-    p: usize,
-    q: usize,
-    last: &[u8],
-) -> io::Result<()> {
-    rows::letter(rt, b'R')?;
-    rows::number(rt, r)?;
-    rt.write_all(b" O")?;
-    rows::number(rt, o)?;
-    rt.write_all(b" X")?;
-    rows::number(rt, x)?;
-    rt.write_all(b" P")?;
-    rows::number(rt, p)?;
-    rt.write_all(b" Q")?;
-    rows::number(rt, q)?;
-    rows::letter(rt, b' ')?;
+fn say(rt: &impl Print, counts: [usize; 5], last: &[u8]) -> io::Result<()> {
+    let [r, o, x, p, q] = counts;
+    print!(rt; "R {r} O {o} X {x} P {p} Q {q} ")?;
     rows::quote(rt, last)
 }
 
 // Such a book, read and written again.
-fn fits(
-    rt: &impl Print,
-    r: usize,
-    o: usize,
-    x: usize,
-    p: usize,
-    q: usize,
-    last: &[u8; 6],
-) -> io::Result<()> {
+fn fits(rt: &impl Print, counts: [usize; 5], last: &[u8]) -> io::Result<()> {
     let mut buf = [0u8; ROOM];
-    let e = fill(&mut buf, r, o, x, p, q, last);
-    say(rt, r, o, x, p, q, last)?;
-    rows::both(rt, filled(&buf, e))
+    let end = fill(&mut buf, counts, last);
+    say(rt, counts, last)?;
+    rows::both(rt, &buf[..end])
 }
 
 // Such a book, read only.
-pub fn over(
-    rt: &impl Print,
-    r: usize,
-    o: usize,
-    x: usize,
-    p: usize,
-    q: usize,
-    last: &[u8],
-) -> io::Result<()> {
+pub fn over(rt: &impl Print, counts: [usize; 5], last: &[u8]) -> io::Result<()> {
     let mut buf = [0u8; ROOM];
-    let e = fill(&mut buf, r, o, x, p, q, last);
-    say(rt, r, o, x, p, q, last)?;
-    rows::read_row(rt, filled(&buf, e))
-}
-
-// The same, where the last bytes are a Z line.
-pub fn over_by(
-    rt: &impl Print,
-    r: usize,
-    o: usize,
-    x: usize,
-    p: usize,
-    q: usize,
-    last: &[u8; 6],
-) -> io::Result<()> {
-    over(rt, r, o, x, p, q, last)
+    let end = fill(&mut buf, counts, last);
+    say(rt, counts, last)?;
+    rows::read_row(rt, &buf[..end])
 }
 
 // Each limit reached, and passed by one.
 pub fn limits(rt: &impl Print) -> io::Result<()> {
-    fits(rt, 0, 0, 0, 0, 0, b"Z   0\n")?;
-    fits(rt, 200, 0, 0, 0, 0, b"Z 200\n")?;
-    over_by(rt, 201, 0, 0, 0, 0, b"Z 201\n")?;
-    fits(rt, 0, 40, 0, 0, 0, b"Z  40\n")?;
-    over_by(rt, 0, 41, 0, 0, 0, b"Z  41\n")?;
-    fits(rt, 0, 0, 13, 0, 0, b"Z  13\n")?;
-    fits(rt, 0, 0, 16, 0, 0, b"Z  16\n")?;
-    over_by(rt, 0, 0, 17, 0, 0, b"Z  17\n")?;
-    fits(rt, 0, 0, 1, 32, 0, b"Z  33\n")?;
-    over_by(rt, 0, 0, 1, 33, 0, b"Z  34\n")?;
-    fits(rt, 0, 0, 1, 0, 32, b"Z  33\n")?;
-    over_by(rt, 0, 0, 1, 0, 33, b"Z  34\n")?;
-    fits(rt, 200, 40, 16, 32, 32, b"Z 320\n")?;
-    over(rt, 200, 40, 16, 32, 32, b"Z 320\n\n")
+    fits(rt, [0, 0, 0, 0, 0], b"Z   0\n")?;
+    fits(rt, [200, 0, 0, 0, 0], b"Z 200\n")?;
+    over(rt, [201, 0, 0, 0, 0], b"Z 201\n")?;
+    fits(rt, [0, 40, 0, 0, 0], b"Z  40\n")?;
+    over(rt, [0, 41, 0, 0, 0], b"Z  41\n")?;
+    fits(rt, [0, 0, 13, 0, 0], b"Z  13\n")?;
+    fits(rt, [0, 0, 16, 0, 0], b"Z  16\n")?;
+    over(rt, [0, 0, 17, 0, 0], b"Z  17\n")?;
+    fits(rt, [0, 0, 1, 32, 0], b"Z  33\n")?;
+    over(rt, [0, 0, 1, 33, 0], b"Z  34\n")?;
+    fits(rt, [0, 0, 1, 0, 32], b"Z  33\n")?;
+    over(rt, [0, 0, 1, 0, 33], b"Z  34\n")?;
+    fits(rt, [200, 40, 16, 32, 32], b"Z 320\n")?;
+    over(rt, [200, 40, 16, 32, 32], b"Z 320\n\n")
 }

@@ -1,179 +1,59 @@
 // Texts that Read turns down, by place: the whole text, each line's letter, length, fields, the line as a whole, the lent slice.
 // One book of seventeen lines is read with other bytes in the place of one of its lines, or of one or two of its fields.
-ghost use Rattle.std.specs.Prelude.{◌≤◌};
+ghost use Rattle.std.specs.Prelude.{◌<◌, ◌≤◌};
 
 use crate::{books, rows};
 use std::io;
 
-// A line of the book, or the bytes that stand for it.
-fn line(buf: &mut [u8; books::ROOM], at: usize, other: bool, new: &[u8], own: &[u8]) -> usize
-    requires { at ≤ 11900 }
-    ensures { result ≤ 11900 }
-{
-    if other {
-        return books::put(buf, at, new);
-    }
-    books::put(buf, at, own)
-}
-
-// The lines B and R of the book, with these bytes in the place of line k and its line feed. The place after them.
-fn first_lines(buf: &mut [u8; books::ROOM], k: usize, new: &[u8]) -> usize
-    ensures { result ≤ 11900 }
-{
-    let b = line(buf, 0, k == 1, new, b"B   1   3\n");
-    let r = line(
-        buf,
-        b,
-        k == 2,
-        new,
-        b"R   0   0   0   0   0   1   2   0   0\n",
-    );
-    let s = line(
-        buf,
-        r,
-        k == 3,
-        new,
-        b"R   3   1   0   0   0   0   0   0   0\n",
-    );
-    line(
-        buf,
-        s,
-        k == 4,
-        new,
-        b"R  -1  -2   0   0   0   3   0   0  -3\n",
-    )
-}
-
-// The lines O, in the same way, from a place on.
-fn alternative_lines(buf: &mut [u8; books::ROOM], at: usize, k: usize, new: &[u8]) -> usize
-    requires { at ≤ 11900 }
-    ensures { result ≤ 11900 }
-{
-    let o = line(
-        buf,
-        at,
-        k == 5,
-        new,
-        b"O   1   2   0   0   0   0   0   0   0   0   0\n",
-    );
-    let a = line(
-        buf,
-        o,
-        k == 6,
-        new,
-        b"O   0  -3   3   1  -2   0   0   0   0   0  -1\n",
-    );
-    line(
-        buf,
-        a,
-        k == 7,
-        new,
-        b"O   2   2   0   0   0   0   0   3   0   0   0\n",
-    )
-}
-
-// The lines X, in the same way.
-fn middle_lines(buf: &mut [u8; books::ROOM], at: usize, k: usize, new: &[u8]) -> usize
-    requires { at ≤ 11900 }
-    ensures { result ≤ 11900 }
-{
-    let x = line(
-        buf,
-        at,
-        k == 8,
-        new,
-        b"X   1   0   0   0   0   0   0   0   0\n",
-    );
-    let y = line(
-        buf,
-        x,
-        k == 9,
-        new,
-        b"X   2   0   0   0   0   0   0   0   0\n",
-    );
-    line(
-        buf,
-        y,
-        k == 10,
-        new,
-        b"X   3   0   0   0   0   0   0   0   0\n",
-    )
-}
-
-// The lines P, in the same way.
-fn later_lines(buf: &mut [u8; books::ROOM], at: usize, k: usize, new: &[u8]) -> usize
-    requires { at ≤ 11900 }
-    ensures { result ≤ 11900 }
-{
-    let p = line(buf, at, k == 11, new, b"P   1   2\n");
-    let q = line(buf, p, k == 12, new, b"P   2   3\n");
-    line(buf, q, k == 13, new, b"P   3   3\n")
-}
-
-// The lines Q, in the same way.
-fn conditional_lines(buf: &mut [u8; books::ROOM], at: usize, k: usize, new: &[u8]) -> usize
-    requires { at ≤ 11900 }
-    ensures { result ≤ 11900 }
-{
-    let q = line(
-        buf,
-        at,
-        k == 14,
-        new,
-        b"Q   1   3   0   0   0   0   2   0   0   0\n",
-    );
-    let c = line(
-        buf,
-        q,
-        k == 15,
-        new,
-        b"Q   3   2  -1   2   0   0   0   0   0  -3\n",
-    );
-    line(
-        buf,
-        c,
-        k == 16,
-        new,
-        b"Q   2   2   0   0   0   0   0   0   0   0\n",
-    )
-}
+// The lines of the book.
+const BOOK: [&[u8]; 17] = [
+    b"B   1   3\n",
+    b"R   0   0   0   0   0   1   2   0   0\n",
+    b"R   3   1   0   0   0   0   0   0   0\n",
+    b"R  -1  -2   0   0   0   3   0   0  -3\n",
+    b"O   1   2   0   0   0   0   0   0   0   0   0\n",
+    b"O   0  -3   3   1  -2   0   0   0   0   0  -1\n",
+    b"O   2   2   0   0   0   0   0   3   0   0   0\n",
+    b"X   1   0   0   0   0   0   0   0   0\n",
+    b"X   2   0   0   0   0   0   0   0   0\n",
+    b"X   3   0   0   0   0   0   0   0   0\n",
+    b"P   1   2\n",
+    b"P   2   3\n",
+    b"P   3   3\n",
+    b"Q   1   3   0   0   0   0   2   0   0   0\n",
+    b"Q   3   2  -1   2   0   0   0   0   0  -3\n",
+    b"Q   2   2   0   0   0   0   0   0   0   0\n",
+    b"Z  15\n",
+];
 
 // The book with these bytes in the place of line k and its line feed; line 18 comes after the last, line 0 is none. The place after it all.
 fn exchange(buf: &mut [u8; books::ROOM], k: usize, new: &[u8]) -> usize
     ensures { result ≤ 11900 }
 {
-    let r = first_lines(buf, k, new);
-    let o = alternative_lines(buf, r, k, new);
-    let x = middle_lines(buf, o, k, new);
-    let p = later_lines(buf, x, k, new);
-    let q = conditional_lines(buf, p, k, new);
-    let e = line(buf, q, k == 17, new, b"Z  15\n");
-    line(buf, e, k == 18, new, b"")
+    let mut to = 0;
+    for (i, own) in BOOK.iter().enumerate() {
+        let line = if i + 1 == k { new } else { *own };
+        to = books::put(buf, to, line);
+    }
+    if k == 18 {
+        to = books::put(buf, to, new);
+    }
+    to
 }
 
 // Where line k of the book begins.
 fn start(k: usize) -> usize
     ensures { result ≤ 532 }
 {
-    if k < 2 {
-        return 0;
+    match k {
+        0 | 1 => 0,
+        2..=4 => 10 + (k - 2) * 38,
+        5..=7 => 124 + (k - 5) * 46,
+        8..=10 => 262 + (k - 8) * 38,
+        11..=13 => 376 + (k - 11) * 10,
+        14..=16 => 406 + (k - 14) * 42,
+        _ => 532,
     }
-    if k < 5 {
-        return 10 + (k - 2) * 38;
-    }
-    if k < 8 {
-        return 124 + (k - 5) * 46;
-    }
-    if k < 11 {
-        return 262 + (k - 8) * 38;
-    }
-    if k < 14 {
-        return 376 + (k - 11) * 10;
-    }
-    if k < 17 {
-        return 406 + (k - 14) * 42;
-    }
-    532
 }
 
 // The row of a whole text.
@@ -185,39 +65,23 @@ fn text(rt: &impl Print, t: &[u8]) -> io::Result<()> {
 // The row of the book with these bytes in the place of line k.
 fn with(rt: &impl Print, k: usize, new: &[u8]) -> io::Result<()> {
     let mut buf = [0u8; books::ROOM];
-    let e = exchange(&mut buf, k, new);
-    rt.write_all(b"line")?;
-    rows::number(rt, k)?;
-    rows::letter(rt, b' ')?;
+    let end = exchange(&mut buf, k, new);
+    print!(rt; "line {k} ")?;
     rows::quote(rt, new)?;
-    rows::read_row(rt, books::filled(&buf, e))
+    rows::read_row(rt, &buf[..end])
 }
 
 // The row of the book with these bytes in line k, from field f on; the first field is 1.
-fn at_field(rt: &impl Print, k: usize, f: u8, new: &[u8]) -> io::Result<()> {
+fn field(rt: &impl Print, k: usize, f: u8, new: &[u8]) -> io::Result<()> {
     if f == 0 {
         return Ok(());
     }
     let mut buf = [0u8; books::ROOM];
-    let e = exchange(&mut buf, 0, b"");
-    books::put(&mut buf, start(k) + 4 * f as usize - 3, new);
-    rt.write_all(b"line")?;
-    rows::number(rt, k)?;
-    rt.write_all(b" field")?;
-    rows::number(rt, f as usize)?;
-    rows::letter(rt, b' ')?;
+    let end = exchange(&mut buf, 0, b"");
+    books::put(&mut buf, start(k) + 4 * usize::from(f) - 3, new);
+    print!(rt; "line {k} field {f} ")?;
     rows::quote(rt, new)?;
-    rows::read_row(rt, books::filled(&buf, e))
-}
-
-// One field.
-fn field(rt: &impl Print, k: usize, f: u8, new: &[u8; 4]) -> io::Result<()> {
-    at_field(rt, k, f, new)
-}
-
-// Two fields.
-fn fields(rt: &impl Print, k: usize, f: u8, new: &[u8; 8]) -> io::Result<()> {
-    at_field(rt, k, f, new)
+    rows::read_row(rt, &buf[..end])
 }
 
 // 1 and 2, the whole text: 1 comes before 2, 2 before 3, 1 before 8, 19 and 22.
@@ -228,11 +92,11 @@ pub fn whole(rt: &impl Print) -> io::Result<()> {
     text(rt, b"B   1   1\nZ   0\n\x00")?;
     with(rt, 17, b"Z  15")?;
     with(rt, 17, b"Q")?;
-    books::over(rt, 200, 40, 16, 32, 32, b"Z 320\nZ")?;
-    books::over(rt, 200, 40, 16, 32, 32, b"Z 320 ")?;
-    books::over(rt, 200, 40, 16, 33, 32, b"Z 321\n")?;
-    books::over(rt, 200, 40, 16, 32, 33, b"Z 321\n")?;
-    books::over(rt, 200, 41, 16, 32, 32, b"Z 321\n")
+    books::over(rt, [200, 40, 16, 32, 32], b"Z 320\nZ")?;
+    books::over(rt, [200, 40, 16, 32, 32], b"Z 320 ")?;
+    books::over(rt, [200, 40, 16, 33, 32], b"Z 321\n")?;
+    books::over(rt, [200, 40, 16, 32, 33], b"Z 321\n")?;
+    books::over(rt, [200, 41, 16, 32, 32], b"Z 321\n")
 }
 
 // 3, the letter, on the first line.
@@ -336,9 +200,9 @@ pub fn editions(rt: &impl Print) -> io::Result<()> {
     field(rt, 1, 1, b"   0")?;
     field(rt, 1, 1, b"   2")?;
     field(rt, 1, 1, b"  -1")?;
-    fields(rt, 1, 1, b"   2  49")?;
-    fields(rt, 1, 1, b"   2  03")?;
-    fields(rt, 1, 1, b"   x  49")
+    field(rt, 1, 1, b"   2  49")?;
+    field(rt, 1, 1, b"   2  03")?;
+    field(rt, 1, 1, b"   x  49")
 }
 
 // 5, a byte that is no space, digit or minus, or a minus out of its place: each way, in a line in the middle.
@@ -357,7 +221,7 @@ pub fn strays(rt: &impl Print) -> io::Result<()> {
     field(rt, 9, 5, b"   :")?;
     field(rt, 9, 5, b"1 1x")?;
     field(rt, 9, 5, b"01 x")?;
-    fields(rt, 9, 5, b"   -   1")
+    field(rt, 9, 5, b"   -   1")
 }
 
 // 17, a blank field or a space after a digit.
@@ -369,7 +233,7 @@ pub fn gaps(rt: &impl Print) -> io::Result<()> {
     field(rt, 9, 5, b"1 -1")?;
     field(rt, 9, 5, b"01 1")?;
     field(rt, 9, 5, b"0  0")?;
-    fields(rt, 9, 5, b"   4    ")
+    field(rt, 9, 5, b"   4    ")
 }
 
 // 18, a leading zero or "-0".
@@ -379,7 +243,7 @@ pub fn zeros(rt: &impl Print) -> io::Result<()> {
     field(rt, 9, 5, b"  -0")?;
     field(rt, 9, 5, b" -01")?;
     field(rt, 9, 5, b" -00")?;
-    fields(rt, 9, 5, b"  01   x")
+    field(rt, 9, 5, b"  01   x")
 }
 
 // 5, 17 and 18 on the lines around.
@@ -415,8 +279,8 @@ pub fn ranges(rt: &impl Print) -> io::Result<()> {
     field(rt, 7, 11, b"9999")?;
     field(rt, 9, 2, b"-999")?;
     field(rt, 10, 1, b"9999")?;
-    fields(rt, 9, 2, b"  01   4")?;
-    fields(rt, 9, 2, b"   4  01")?;
+    field(rt, 9, 2, b"  01   4")?;
+    field(rt, 9, 2, b"   4  01")?;
     field(rt, 11, 1, b"   0")?;
     field(rt, 12, 2, b"  17")?;
     field(rt, 13, 1, b"  -1")?;
@@ -430,98 +294,74 @@ pub fn ranges(rt: &impl Print) -> io::Result<()> {
 
 // 8, a line over its limit: before 9, 10 and what is wrong in a later line; after 6.
 pub fn overs(rt: &impl Print) -> io::Result<()> {
-    books::over_by(rt, 201, 0, 16, 1, 0, b"Z 218\n")?;
-    books::over_by(rt, 200, 0, 17, 0, 0, b"Z 217\n")?;
-    books::over_by(rt, 0, 0, 16, 33, 0, b"Z  49\n")?;
-    books::over(rt, 0, 0, 17, 0, 0, b"R\n")?;
+    books::over(rt, [201, 0, 16, 1, 0], b"Z 218\n")?;
+    books::over(rt, [200, 0, 17, 0, 0], b"Z 217\n")?;
+    books::over(rt, [0, 0, 16, 33, 0], b"Z  49\n")?;
+    books::over(rt, [0, 0, 17, 0, 0], b"R\n")?;
     books::over(
         rt,
-        0,
-        0,
-        16,
-        0,
-        0,
+        [0, 0, 16, 0, 0],
         b"X   0   0   0   0   0   0   0   0   0\n",
     )?;
     books::over(
         rt,
-        0,
-        0,
-        16,
-        0,
-        0,
+        [0, 0, 16, 0, 0],
         b"X  49   0   0   0   0   0   0   0   0\n",
     )?;
-    books::over(rt, 0, 0, 1, 32, 0, b"P   2   2\n")
+    books::over(rt, [0, 0, 1, 32, 0], b"P   2   2\n")
 }
 
 // 22, an O line over its limit, in the same places: before 23, after 4 and 6.
 pub fn alternative_overs(rt: &impl Print) -> io::Result<()> {
-    books::over_by(rt, 200, 41, 16, 0, 33, b"Z 290\n")?;
-    books::over_by(rt, 0, 41, 17, 0, 0, b"Z  58\n")?;
-    books::over_by(rt, 201, 41, 0, 0, 0, b"Z 242\n")?;
-    books::over(rt, 0, 41, 0, 0, 0, b"R\n")?;
+    books::over(rt, [200, 41, 16, 0, 33], b"Z 290\n")?;
+    books::over(rt, [0, 41, 17, 0, 0], b"Z  58\n")?;
+    books::over(rt, [201, 41, 0, 0, 0], b"Z 242\n")?;
+    books::over(rt, [0, 41, 0, 0, 0], b"R\n")?;
     books::over(
         rt,
-        0,
-        40,
-        0,
-        0,
-        0,
+        [0, 40, 0, 0, 0],
         b"O   1   0   0   0   0   0   0   0   0   0   0\n",
     )?;
     books::over(
         rt,
-        0,
-        40,
-        0,
-        0,
-        0,
+        [0, 40, 0, 0, 0],
         b"O   1   0   0   0   0   0   0   0   0   0  49\n",
     )?;
-    books::over(rt, 0, 40, 0, 0, 0, b"O   1   0\n")
+    books::over(rt, [0, 40, 0, 0, 0], b"O   1   0\n")
 }
 
 // 19, a Q line over its limit, in the same places; after 4.
 pub fn conditional_overs(rt: &impl Print) -> io::Result<()> {
-    books::over_by(rt, 200, 0, 16, 0, 33, b"Z 249\n")?;
-    books::over_by(rt, 0, 0, 1, 33, 33, b"Z  67\n")?;
-    books::over(rt, 0, 0, 1, 0, 33, b"P\n")?;
+    books::over(rt, [200, 0, 16, 0, 33], b"Z 249\n")?;
+    books::over(rt, [0, 0, 1, 33, 33], b"Z  67\n")?;
+    books::over(rt, [0, 0, 1, 0, 33], b"P\n")?;
     books::over(
         rt,
-        0,
-        0,
-        1,
-        0,
-        32,
+        [0, 0, 1, 0, 32],
         b"Q   2   2   0   0   0   0   0   0   0   0\n",
     )?;
     books::over(
         rt,
-        0,
-        0,
-        1,
-        0,
-        32,
+        [0, 0, 1, 0, 32],
         b"Q   2   2   0   0   0   0   0   0   0  49\n",
     )?;
-    books::over(rt, 0, 0, 1, 0, 32, b"Q   1   1\n")
+    books::over(rt, [0, 0, 1, 0, 32], b"Q   1   1\n")
 }
 
 // 9 and 10: an exception without head, a P or Q line that names a missing one; 6 comes before them.
 pub fn heads(rt: &impl Print) -> io::Result<()> {
-    fields(rt, 8, 1, b"   0   1")?;
+    field(rt, 8, 1, b"   0   1")?;
     field(rt, 9, 1, b"   0")?;
     field(rt, 10, 1, b"   0")?;
-    fields(rt, 9, 1, b"   0   4")?;
+    field(rt, 9, 1, b"   0   4")?;
     field(rt, 11, 1, b"   4")?;
     field(rt, 12, 2, b"   4")?;
     field(rt, 12, 2, b"  13")?;
-    fields(rt, 13, 1, b"  16  16")?;
-    fields(rt, 11, 1, b"   4  17")?;
+    field(rt, 13, 1, b"  16  16")?;
+    field(rt, 11, 1, b"   4  17")?;
     field(rt, 14, 1, b"   4")?;
     field(rt, 15, 2, b"  16")?;
-    fields(rt, 16, 1, b"   4  17")?;
+    field(rt, 16, 1, b"   4  17")?;
     with(rt, 15, b"Q   4   2  -1   2   0   0   0   0   0  -4\n")?;
     with(rt, 8, b"P   1   1\n")?;
     with(rt, 8, b"Q   1   1   0   0   0   0   0   0   0   0\n")?;
@@ -533,15 +373,15 @@ pub fn alternative_heads(rt: &impl Print) -> io::Result<()> {
     field(rt, 5, 1, b"   0")?;
     field(rt, 5, 2, b"   0")?;
     field(rt, 6, 2, b"   0")?;
-    fields(rt, 7, 1, b"   0   0")?;
+    field(rt, 7, 1, b"   0   0")?;
     with(rt, 5, b"O   0   0   0   1   2   3   0   1   2   3   0\n")?;
-    fields(rt, 5, 1, b"   0   4")?;
+    field(rt, 5, 1, b"   0   4")?;
     field(rt, 6, 3, b"   0")?;
     with(rt, 7, b"O   1   0   0   0   0   0   0   0   0   0  -4\n")?;
-    fields(rt, 5, 2, b"   0   2")?;
+    field(rt, 5, 2, b"   0   2")?;
     field(rt, 5, 2, b"   1")?;
     field(rt, 5, 2, b"  -1")?;
-    fields(rt, 7, 3, b"   2   2")
+    field(rt, 7, 3, b"   2   2")
 }
 
 // 11, Z's number wrong.
@@ -559,11 +399,12 @@ pub fn totals(rt: &impl Print) -> io::Result<()> {
     with(rt, 17, b"Z  14\n\n")
 }
 
-// Small book k read into a slice of m numbers.
-fn book_into(rt: &impl Print, k: u64, t: &[u8], m: usize) -> io::Result<()> {
-    rows::letter(rt, b'K')?;
-    rt.print(k)?;
-    rows::read_short(rt, t, m)
+// The small book after i others, read into a slice of m numbers.
+fn book_into(rt: &impl Print, i: usize, m: usize) -> io::Result<()>
+    requires { i < 14 }
+{
+    print!(rt; "K{}", i + 1)?;
+    rows::read_short(rt, books::SMALL[i], m)
 }
 
 // A text read into a slice of m numbers.
@@ -574,15 +415,12 @@ fn text_into(rt: &impl Print, t: &[u8], m: usize) -> io::Result<()> {
 
 // 15, the lent slice: one number short, just enough, one more; after all else.
 pub fn lent(rt: &impl Print) -> io::Result<()> {
-    let k1 = b"B   1   1\nZ   0\n";
-    book_into(rt, 1, k1, 0)?;
-    book_into(rt, 1, k1, 5)?;
-    book_into(rt, 1, k1, 6)?;
-    let k7 =
-        b"B   1   3\nR   0   0   0   0   0   1   2   0   0\nR   3   1   0   0   0   0   0   0   0\nX   1   0   0   0   0   0   0   0   0\nX   2   0   0   0   0   0   0   0   0\nZ   4\n";
-    book_into(rt, 7, k7, 41)?;
-    book_into(rt, 7, k7, 42)?;
-    book_into(rt, 7, k7, 43)?;
+    book_into(rt, 0, 0)?;
+    book_into(rt, 0, 5)?;
+    book_into(rt, 0, 6)?;
+    book_into(rt, 6, 41)?;
+    book_into(rt, 6, 42)?;
+    book_into(rt, 6, 43)?;
     text_into(rt, b"B   1   1\nZ   1\n", 3)?;
     text_into(rt, b"", 0)
 }

@@ -3,103 +3,45 @@ use crate::rows;
 use std::io;
 
 // n and the counts; then the R, O, X, P and Q rows, from places 6, 33, 66, 93 and 99 on.
-fn table() -> [i32; 129] {
-    let mut t = [0i32; 129];
-    t[0] = 3;
-    t[1] = 3;
-    t[2] = 3;
-    t[3] = 3;
-    t[4] = 3;
-    t[5] = 3;
-    t[11] = 1;
-    t[12] = 2;
-    t[15] = 3;
-    t[16] = 1;
-    t[24] = -1;
-    t[25] = -2;
-    t[29] = 3;
-    t[32] = -3;
-    t[33] = 1;
-    t[34] = 2;
-    t[45] = -3;
-    t[46] = 3;
-    t[47] = 1;
-    t[48] = -2;
-    t[54] = -1;
-    t[55] = 2;
-    t[56] = 2;
-    t[62] = 3;
-    t[66] = 1;
-    t[75] = 2;
-    t[84] = 3;
-    t[93] = 1;
-    t[94] = 2;
-    t[95] = 2;
-    t[96] = 3;
-    t[97] = 3;
-    t[98] = 3;
-    t[99] = 1;
-    t[100] = 3;
-    t[105] = 2;
-    t[109] = 3;
-    t[110] = 2;
-    t[111] = -1;
-    t[112] = 2;
-    t[118] = -3;
-    t[119] = 2;
-    t[120] = 2;
+const TABLE: [i32; 129] = [
+    3, 3, 3, 3, 3, 3, // n and the counts
+    0, 0, 0, 0, 0, 1, 2, 0, 0, // R
+    3, 1, 0, 0, 0, 0, 0, 0, 0, // R
+    -1, -2, 0, 0, 0, 3, 0, 0, -3, // R
+    1, 2, 0, 0, 0, 0, 0, 0, 0, 0, 0, // O
+    0, -3, 3, 1, -2, 0, 0, 0, 0, 0, -1, // O
+    2, 2, 0, 0, 0, 0, 0, 3, 0, 0, 0, // O
+    1, 0, 0, 0, 0, 0, 0, 0, 0, // X
+    2, 0, 0, 0, 0, 0, 0, 0, 0, // X
+    3, 0, 0, 0, 0, 0, 0, 0, 0, // X
+    1, 2, // P
+    2, 3, // P
+    3, 3, // P
+    1, 3, 0, 0, 0, 0, 2, 0, 0, 0, // Q
+    3, 2, -1, 2, 0, 0, 0, 0, 0, -3, // Q
+    2, 2, 0, 0, 0, 0, 0, 0, 0, 0, // Q
+];
+
+// The table with numbers at some places.
+fn with_all(changes: &[(usize, i32)]) -> [i32; 129] {
+    let mut t = TABLE;
+    for &(at, v) in changes {
+        if let Some(place) = t.get_mut(at) {
+            *place = v;
+        }
+    }
     t
 }
 
-// The row of Write of such a table.
-fn row(rt: &impl Print, t: &[i32; 129]) -> io::Result<()> {
-    rows::write_row(rt, t)
-}
-
-// A table with v at a place.
-fn set(t: [i32; 129], at: usize, v: i32) -> [i32; 129] {
-    let mut u = t;
-    if at < 129 {
-        u[at] = v;
-    }
-    u
-}
-
-// The place and the number that is put there, where that is not negative.
+// The place and the number that is put there.
 fn say(rt: &impl Print, at: usize, v: i32) -> io::Result<()> {
-    rows::letter(rt, b't')?;
-    rows::number(rt, at)?;
-    rt.write_all(b" is")?;
-    rows::number(rt, fields::to_nat(v))
+    print!(rt; "t {at} is {v}")
 }
 
 // The row of the table with v at a place.
 fn with(rt: &impl Print, at: usize, v: i32) -> io::Result<()> {
     say(rt, at, v)?;
-    let t = set(table(), at, v);
-    row(rt, &t)
-}
-
-// The same with less than 0 at a place: -m, m below 10,000.
-fn minus(rt: &impl Print, at: usize, m: u32) -> io::Result<()> {
-    if 9999 < m {
-        return Ok(());
-    }
-    rows::letter(rt, b't')?;
-    rows::number(rt, at)?;
-    rt.write_all(b" is -")?;
-    rt.print(m as u64)?;
-    let t = set(table(), at, fields::to_signed(true, m));
-    row(rt, &t)
-}
-
-// The same with the least number of all.
-fn least(rt: &impl Print, at: usize) -> io::Result<()> {
-    rows::letter(rt, b't')?;
-    rows::number(rt, at)?;
-    rt.write_all(b" is -2147483648")?;
-    let t = set(table(), at, -2147483648);
-    row(rt, &t)
+    rows::write_row(rt, &with_all(&[(at, v)]))
 }
 
 // The same with numbers at two places.
@@ -107,43 +49,35 @@ fn with_two(rt: &impl Print, at: usize, v: i32, and: usize, w: i32) -> io::Resul
     say(rt, at, v)?;
     rows::letter(rt, b' ')?;
     say(rt, and, w)?;
-    let t = set(set(table(), at, v), and, w);
-    row(rt, &t)
+    rows::write_row(rt, &with_all(&[(at, v), (and, w)]))
 }
 
 // The row of its first m numbers.
 fn cut(rt: &impl Print, m: usize) -> io::Result<()> {
-    let t = table();
-    rows::letter(rt, b't')?;
-    rt.write_all(b" to")?;
-    rows::number(rt, m)?;
-    rows::write_row(rt, rows::front(&t, m))
+    print!(rt; "t to {m}")?;
+    rows::write_row(rt, rows::front(&TABLE, m))
 }
 
 // The table is what Read gives of its text, and Write gives the text back. Other good tables.
 pub fn good(rt: &impl Print) -> io::Result<()> {
     let text =
         b"B   1   3\nR   0   0   0   0   0   1   2   0   0\nR   3   1   0   0   0   0   0   0   0\nR  -1  -2   0   0   0   3   0   0  -3\nO   1   2   0   0   0   0   0   0   0   0   0\nO   0  -3   3   1  -2   0   0   0   0   0  -1\nO   2   2   0   0   0   0   0   3   0   0   0\nX   1   0   0   0   0   0   0   0   0\nX   2   0   0   0   0   0   0   0   0\nX   3   0   0   0   0   0   0   0   0\nP   1   2\nP   2   3\nP   3   3\nQ   1   3   0   0   0   0   2   0   0   0\nQ   3   2  -1   2   0   0   0   0   0  -3\nQ   2   2   0   0   0   0   0   0   0   0\nZ  15\n";
-    let t = table();
-    rows::letter(rt, b't')?;
-    rows::read_same(rt, text, &t)?;
-    rows::write_same(rt, &t, text)?;
+    print!(rt; "t")?;
+    rows::read_same(rt, text, &TABLE)?;
+    rows::write_same(rt, &TABLE, text)?;
     with(rt, 0, 48)?;
     with(rt, 15, 0)?;
-    minus(rt, 23, 3)
+    with(rt, 23, -3)
 }
 
 // Tables with no row: a good one, one too short (16 before 6), one too long.
 pub fn few(rt: &impl Print) -> io::Result<()> {
-    let right = [1, 0, 0, 0, 0, 0];
-    rt.write_all(b"1 0 0 0 0 0")?;
-    rows::write_row(rt, &right)?;
-    let short = [49, 0, 0, 0, 0];
-    rt.write_all(b"49 0 0 0 0")?;
-    rows::write_row(rt, &short)?;
-    let long = [1, 0, 0, 0, 0, 0, 0];
-    rt.write_all(b"1 0 0 0 0 0 0")?;
-    rows::write_row(rt, &long)
+    print!(rt; "1 0 0 0 0 0")?;
+    rows::write_row(rt, &[1, 0, 0, 0, 0, 0])?;
+    print!(rt; "49 0 0 0 0")?;
+    rows::write_row(rt, &[49, 0, 0, 0, 0])?;
+    print!(rt; "1 0 0 0 0 0 0")?;
+    rows::write_row(rt, &[1, 0, 0, 0, 0, 0, 0])
 }
 
 // 16 under 6 numbers; 6 for n; 8 for the counts; 16 where the length differs from the counts.
@@ -153,25 +87,25 @@ pub fn counts(rt: &impl Print) -> io::Result<()> {
     cut(rt, 5)?;
     with(rt, 0, 0)?;
     with(rt, 0, 49)?;
-    minus(rt, 0, 1)?;
-    with(rt, 0, 2147483647)?;
-    least(rt, 0)?;
-    minus(rt, 1, 1)?;
+    with(rt, 0, -1)?;
+    with(rt, 0, i32::MAX)?;
+    with(rt, 0, i32::MIN)?;
+    with(rt, 1, -1)?;
     with(rt, 1, 201)?;
-    minus(rt, 2, 1)?;
+    with(rt, 2, -1)?;
     with(rt, 2, 17)?;
-    minus(rt, 3, 1)?;
+    with(rt, 3, -1)?;
     with(rt, 3, 33)?;
-    with(rt, 3, 2147483647)?;
-    least(rt, 3)?;
-    minus(rt, 4, 1)?;
+    with(rt, 3, i32::MAX)?;
+    with(rt, 3, i32::MIN)?;
+    with(rt, 4, -1)?;
     with(rt, 4, 33)?;
-    with(rt, 4, 2147483647)?;
-    least(rt, 4)?;
-    minus(rt, 5, 1)?;
+    with(rt, 4, i32::MAX)?;
+    with(rt, 4, i32::MIN)?;
+    with(rt, 5, -1)?;
     with(rt, 5, 41)?;
-    with(rt, 5, 2147483647)?;
-    least(rt, 5)?;
+    with(rt, 5, i32::MAX)?;
+    with(rt, 5, i32::MIN)?;
     with_two(rt, 0, 0, 1, 201)?;
     cut(rt, 6)?;
     cut(rt, 128)?;
@@ -188,14 +122,14 @@ pub fn counts(rt: &impl Print) -> io::Result<()> {
 // 6, 9 and 10 in the rows, each with the line that the row would have; in a row 6 comes first, and the first row that is wrong decides.
 pub fn lines(rt: &impl Print) -> io::Result<()> {
     with(rt, 6, 4)?;
-    minus(rt, 14, 4)?;
-    with(rt, 16, 2147483647)?;
+    with(rt, 14, -4)?;
+    with(rt, 16, i32::MAX)?;
     with(rt, 32, 4)?;
-    minus(rt, 66, 4)?;
-    least(rt, 92)?;
+    with(rt, 66, -4)?;
+    with(rt, 92, i32::MIN)?;
     with(rt, 93, 0)?;
     with(rt, 96, 17)?;
-    minus(rt, 98, 1)?;
+    with(rt, 98, -1)?;
     with(rt, 66, 0)?;
     with(rt, 75, 0)?;
     with(rt, 84, 0)?;
@@ -211,9 +145,9 @@ pub fn lines(rt: &impl Print) -> io::Result<()> {
 
 // 6 and 23 in the rows of O lines, before 9 in a later row.
 pub fn alternative_lines(rt: &impl Print) -> io::Result<()> {
-    minus(rt, 33, 4)?;
+    with(rt, 33, -4)?;
     with(rt, 46, 4)?;
-    with(rt, 65, 2147483647)?;
+    with(rt, 65, i32::MAX)?;
     with(rt, 33, 0)?;
     with(rt, 34, 0)?;
     with(rt, 45, 0)?;
@@ -224,7 +158,7 @@ pub fn alternative_lines(rt: &impl Print) -> io::Result<()> {
     with_two(rt, 46, 0, 66, 0)?;
     with_two(rt, 33, 0, 35, 1)?;
     with(rt, 34, 1)?;
-    minus(rt, 34, 1)
+    with(rt, 34, -1)
 }
 
 // 6 and 10 in the rows of Q lines.
@@ -232,8 +166,8 @@ pub fn conditional_lines(rt: &impl Print) -> io::Result<()> {
     with(rt, 99, 0)?;
     with(rt, 100, 17)?;
     with(rt, 101, 4)?;
-    least(rt, 112)?;
-    minus(rt, 128, 4)?;
+    with(rt, 112, i32::MIN)?;
+    with(rt, 128, -4)?;
     with(rt, 99, 4)?;
     with(rt, 110, 4)?;
     with(rt, 119, 16)?;
@@ -243,9 +177,8 @@ pub fn conditional_lines(rt: &impl Print) -> io::Result<()> {
 
 // The table written into a slice of m bytes.
 fn into(rt: &impl Print, m: usize) -> io::Result<()> {
-    let t = table();
-    rows::letter(rt, b't')?;
-    rows::write_short(rt, &t, m)
+    print!(rt; "t")?;
+    rows::write_short(rt, &TABLE, m)
 }
 
 // 15, the lent slice: one byte short, just enough, one more; after all else.
@@ -254,7 +187,6 @@ pub fn lent(rt: &impl Print) -> io::Result<()> {
     into(rt, 537)?;
     into(rt, 538)?;
     into(rt, 539)?;
-    let bad = [0, 0, 0, 0, 0, 0];
-    rt.write_all(b"0 0 0 0 0 0")?;
-    rows::write_short(rt, &bad, 0)
+    print!(rt; "0 0 0 0 0 0")?;
+    rows::write_short(rt, &[0, 0, 0, 0, 0, 0], 0)
 }
