@@ -59,12 +59,12 @@ pub fn entries(store: &[u8]) -> Option<usize>
 // ---- where a name is
 
 // The entry among the first k that has the name, or the entry before which it would stand.
-pub fn find(store: &[u8], k: usize, name: Name) -> Result<usize, usize>
-    requires { k * 32 ≤ length store.now }
-    ensures { result ≡ find_in (entries_of k store.now) 0 name.bytes }
+pub fn find(store: &[u8], k: usize, name: &[u8]) -> Result<usize, usize>
+    requires { (k * 32 ≤ length store.now) × (8 ≤ length name.now) }
+    ensures { result ≡ find_in (entries_of k store.now) 0 (take 8 name.now) }
 {
     for i in 0..k {
-        match entry::compare(&store[i * 32..], &name.bytes) {
+        match entry::compare(&store[i * 32..], name) {
             Ordering::Less => {}
             Ordering::Equal => return Ok(i),
             Ordering::Greater => return Err(i),
@@ -83,7 +83,7 @@ pub fn locate(store: &[u8], name: Name) -> Result<(usize, Result<usize, usize>),
     if !entry::is_name(&name.bytes) {
         return Err(refused(MISSPELT));
     }
-    Ok((k, find(store, k, name)))
+    Ok((k, find(store, k, &name.bytes)))
 }
 
 // ---- entries put in and taken out
