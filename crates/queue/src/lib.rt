@@ -227,18 +227,18 @@ pub fn run(rules: &Rules<'_>, index: &Index, from: State) -> State
 }
 
 // What all rules together say: preferences, and the bound by a closure if these find nothing and the rules are circular.
-pub fn whole(book: &Prepared<'_>, b: Bounds) -> Bounds
-    ensures { Keeps (MaskView book.now.rules.words.now book.now.rules.count book.now.ranks.now) b result }
+pub fn whole(rules: &Rules<'_>, ranks: &[u64], index: &Index, b: Bounds) -> Bounds
+    requires { length ranks.now ≤ 64 }
+    ensures { Keeps (MaskView rules.now.words.now rules.now.count ranks.now) b result }
 {
-    let index = book.index;
-    let o = bounds::unlinked(&book.rules, book.ranks, bounds::levels(book.ranks, b));
+    let o = bounds::unlinked(rules, ranks, bounds::levels(ranks, b));
     if o != b {
         return o;
     }
     if index[index::CIRCLE] == 0 {
         return o;
     }
-    bounds::upper(&book.rules, o)
+    bounds::upper(rules, o)
 }
 
 // Narrows the bounds by what is to be done, then by what all rules say together, in turn until nothing changes.
@@ -257,7 +257,7 @@ pub fn propagate(book: &Prepared<'_>, w: Work, b: Bounds) -> Rest
                 live,
             };
         }
-        let o = whole(book, c);
+        let o = whole(&book.rules, book.ranks, book.index, c);
         if c == o {
             return Rest {
                 bounds: bounds::narrowed(b, o),
