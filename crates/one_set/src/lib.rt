@@ -39,6 +39,7 @@ pub enum Doubt {
 }
 
 // How many nodes searches may visit for sets that turn out to have no view before ranges of such sets are looked for by shaving.
+// Kept: a limit that is counted up to, and no number for a state: the states are `Doubt`.
 const DOUBT: u64 = 8192;
 
 // How many nodes a search may visit while ranges are being found.

@@ -50,6 +50,7 @@ pub struct Task {
 // the rules that are live within them, and perhaps a view that was found within them.
 #[derive(Clone, Copy)]
 pub struct Node {
+    // Kept: a fact about the pair beside it, and no flag for a value that may be missing.
     pub equal: bool,
     pub pair: Pair,
     pub bounds: Bounds,

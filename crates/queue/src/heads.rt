@@ -88,7 +88,7 @@ pub fn simple(rules: &Rules<'_>) -> usize
     rules.count
 }
 
-// Chains the first n rules, from the last to the first; whether each has one conclusion for its head, or none.
+// Chains the rules, from the last to the first; whether each has one conclusion for its head, or none.
 pub fn chained(rules: &Rules<'_>, index: &mut [u64]) -> bool
     requires { (rules.now.count ≤ 256) × (length index.old ≡ index_length) }
     ensures { result ≡ true → ChainsFrom rules.now.words.now rules.now.count index.new 0 }
@@ -174,7 +174,7 @@ pub fn with_rule(r: Masks, b: Bounds, k: usize, g: Givers) -> Givers
     }
 }
 
-// Of the first n rules, which are in chains if the index says so, those that can give the conclusion at place i of word s.
+// Of the rules, which are in chains if the index says so, those that can give the conclusion at place i of word s.
 pub fn count_givers(rules: &Rules<'_>, index: &Index, s: Part, i: u64, b: Bounds) -> Givers
     requires { (rules.now.count ≤ 256) × (get_or index.now whole_place 0 ≡ 1 → ChainsFrom rules.now.words.now rules.now.count index.now 0) × (number_of s < 2) × (i < 64) }
     ensures { Seen rules.now.words.now rules.now.count rules.now.count (one_of (number_of s) i) b result }

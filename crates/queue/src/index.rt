@@ -118,7 +118,7 @@ pub fn branching(rules: &Rules<'_>) -> bool {
     heads::simple(rules) < rules.count
 }
 
-// Fills an index of zeros from the first n rules.
+// Fills an index of zeros from the rules.
 pub fn fill(rules: &Rules<'_>, index: &mut Index)
     requires { rules.now.count ≤ 256 }
     ensures { Chains rules.now.words.now rules.now.count index.new }

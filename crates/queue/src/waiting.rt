@@ -74,12 +74,17 @@ pub fn next(t: Waiting) -> Option<u64>
 }
 
 // The rules of t without rule j.
+// Kept: tried its word by a place that is computed, and slower: the words leave the registers, up to 19 percent more instructions in a listing.
 pub fn without(t: Waiting, j: u64) -> Waiting {
-    let mut o = t;
-    if let Some(word) = o.words.get_mut((j / 64) as usize) {
-        *word = sets::cleared(*word, j % 64);
-    }
-    o
+    let [a, b, c, d] = t.words;
+    let i = j % 64;
+    let words = match j / 64 {
+        0 => [sets::cleared(a, i), b, c, d],
+        1 => [a, sets::cleared(b, i), c, d],
+        2 => [a, b, sets::cleared(c, i), d],
+        _ => [a, b, c, sets::cleared(d, i)],
+    };
+    Waiting { words }
 }
 
 // The rules that are in both.

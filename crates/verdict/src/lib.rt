@@ -18,7 +18,7 @@ fn obeys(r: Masks, v: Pair) -> bool
     !sets::apart(r.head, v)
 }
 
-// The same of the first n rules.
+// The same of all rules.
 fn obeys_all(rules: &Rules<'_>, v: Pair) -> bool
     ensures { Decides result (OfAll (Obeys v) rules.now.words.now rules.now.count) }
 {

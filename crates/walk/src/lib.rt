@@ -112,6 +112,7 @@ pub fn walk(
     let set = order::set_at(x, first);
     let mut next = past_ruled_out(x, s.past, root, marks, Position { place: first, set });
     let mut r = at;
+    // Kept: a while, for what is next is known only once the page is seen to have room: no range gives the places that are not ruled out.
     while let Some(p) = next {
         r = one_set::list_set(
             book, root, task, p.set, false, known, r, effort, marks, memory, store, out,

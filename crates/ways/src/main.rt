@@ -53,6 +53,7 @@ fn rest(text: &[u8], words: &Words, ranks: &Ranks, s: Shape, from: Stand) -> io:
 {
     let mut stand = from;
     let mut left = listing::MOST;
+    // Kept: a while, for each part tells whether another follows and from where.
     while let Some(last) = stand.next {
         left -= listing::PART;
         stand = go_on(text, words, ranks, s, stand.to, last, left)?;

@@ -25,7 +25,7 @@ fn is_last(got: io::Result<usize>, patience: u64) -> bool
     e.kind() != ErrorKind::Interrupted
 }
 
-// Standard output, and how many bytes it has taken. Only the two functions below make one.
+// Standard output, and how many bytes it has taken. Only the two functions below make or change one.
 #[derive(Clone, Copy)]
 pub struct Output {
     stdout: Stdout,
@@ -68,6 +68,7 @@ pub fn send(text: &[u8], to: Output, bytes: &[u8]) -> io::Result<Output>
     let mut out = to;
     let mut done = 0;
     let mut patience = PATIENCE;
+    // Kept: a while, for how far a write gets is the stream's to say.
     while done < bytes.len() {
         let got = write_next(text, &mut out, &bytes[done..]);
         let put = got.unwrap_or(0);
@@ -89,6 +90,7 @@ pub fn receive(stdin: Stdin, room: &mut [u8]) -> io::Result<usize>
     let mut from = stdin;
     let mut done = 0;
     let mut patience = PATIENCE;
+    // Kept: a while, for how far a read gets is the stream's to say.
     while done < room.len() {
         let got = from.read(&mut room[done..]);
         let put = got.unwrap_or(0);
