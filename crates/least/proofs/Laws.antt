@@ -1,7 +1,7 @@
 -- Within bounds that have a view the lower end is the only set below: what the view has beside a smaller one would be closed.
 -- For the bounds from v to v the sets below are the closed sets within v, so the test of a view is exact.
 use mathlib.Core.Path.{◌≡◌, ap}
-use Rattle.std.specs.Prelude.{Option, Some, None, is_some}
+use Rattle.std.specs.Prelude.{Result, Ok, Err, is_ok}
 use mathlib.Core.Bool.{Bool, true, false, not}
 use mathlib.Core.List.{List}
 use Prim.Native.Nat.{ℕ, ◌<◌}
@@ -108,16 +108,16 @@ module _ (ws : List ℕ) (n : ℕ) (ranks : List ℕ) (v : Pair) where
   pub view-shrinks : (d : Pair) (u : Bool) → (u ≡ true → (d.taken ≡ v.taken) × Sub d v × MaskClosed ws n v d) → u ≡ true → (w : Bool) → Decides w (d ≡ v) → w ≡ false → Decides false (MaskView ws n ranks v)
   view-shrinks d u f e w dw q = decides-false (λ x. let h = f e in dw.no q (sub-both h.1 (x.minimal d h.0 h.1 h.2)))
 
-  module _ (s : Option Pair) (p : Swept ws n v s) where
-    pub view-rules : s ≡ None → Decides false (MaskView ws n ranks v)
-    view-rules e = decides-false (λ w. p.exact.no (ap is_some e) w.rules)
+  module _ (s : Result Pair Pair) (p : Swept ws n v s) where
+    pub view-rules : (d : Pair) → s ≡ Err d → Decides false (MaskView ws n ranks v)
+    view-rules d e = decides-false (λ w. p.exact.no (ap is_ok e) w.rules)
 
-    module _ (a : Bool) (e0 : bit_and v.held v.denied ≡ 0) (da : Decides a (Level ranks v.taken)) (ea : not a ≡ false) (l : Lined ws n → Uncrossed ws n ranks v) (d₀ : Pair) (es : s ≡ Some d₀) where
+    module _ (a : Bool) (e0 : bit_and v.held v.denied ≡ 0) (da : Decides a (Level ranks v.taken)) (ea : not a ≡ false) (l : Lined ws n → Uncrossed ws n ranks v) (d₀ : Pair) (es : s ≡ Ok d₀) where
       -- Every closed pair within v has d: that is v.
       pub view-reached : (d : Pair) → Beneath ws n v d → (w : Bool) → Decides w (d ≡ v) → w ≡ true → Decides true (MaskView ws n ranks v)
       view-reached d f w dw e = decides-true (record {
         coherent = and_none _ _ e0;
-        rules = p.exact.yes (ap is_some es);
+        rules = p.exact.yes (ap is_ok es);
         minimal = λ c t g h. rw (dw.yes e) at (f c t g h);
         level = granted da ea;
         lined = l;
@@ -126,5 +126,5 @@ module _ (ws : List ℕ) (n : ℕ) (ranks : List ℕ) (v : Pair) where
       pub view-founded-is : (o : Bool) → Decides o (Founded ws n (only v)) → Decides o (MaskView ws n ranks v)
       view-founded-is o d =
           reworded d
-          (λ f. record { coherent = and_none _ _ e0; rules = p.exact.yes (ap is_some es); minimal = λ c t g h. f.whole c (closed-lower ws n v c t g h); level = granted da ea; lined = l })
+          (λ f. record { coherent = and_none _ _ e0; rules = p.exact.yes (ap is_ok es); minimal = λ c t g h. f.whole c (closed-lower ws n v c t g h); level = granted da ea; lined = l })
           (λ w. view-founded w (only v) (record { lo = sub_refl v; hi = sub_refl v }))

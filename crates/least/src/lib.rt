@@ -188,7 +188,7 @@ pub fn is_view(rules: &Rules<'_>, ranks: &[u64], v: Pair) -> bool
     if !lines::uncrossed(rules, ranks, v) {
         return false;
     }
-    let Some(reached) = masks::sweep(rules, v) else {
+    let Ok(reached) = masks::sweep(rules, v) else {
         return false;
     };
     if reached == v {

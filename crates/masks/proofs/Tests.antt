@@ -1,6 +1,6 @@
 -- The test of a view is exact: it is true of the views and of nothing else.
 -- Each `return` decides its proposition from what the tests before it decided; the loops keep what holds of the rules below k.
-use Rattle.std.specs.Prelude.{Some, None}
+use Rattle.std.specs.Prelude.{Ok, Err}
 use mathlib.Core.Path.{◌≡◌}
 use mathlib.Core.Bool.{Bool, true, false, not}
 use mathlib.Core.List.{List}
@@ -57,11 +57,15 @@ module _ (ws : List ℕ) (k : ℕ) (v : Pair) where
     pub rules-turn : MeetsAll ws k v → not w ≡ false → MeetsAll ws (k + 1) v
     rules-turn f q = below_more _ k f (rw e at (granted m q))
 
-    pub rules-lost : (n : ℕ) → k < n → not w ≡ true → Swept ws n v None
-    rules-lost n h q = record { exact = decides-false (λ f. refused m q (rw e (f k h))); below = λ d o. cc }
+    pub rules-lost : (n : ℕ) (d : Pair) → k < n → Beneath ws k v d → not w ≡ true → Swept ws n v (Err d)
+    rules-lost n d h b q = record {
+      exact = decides-false (λ f. refused m q (rw e (f k h)));
+      below = λ x o. cc;
+      short = λ x o. let e : d ≡ x = cc in rw e at (beneath-more ws k n v d (omega arith) b);
+    }
 
-  pub rules-won : (n : ℕ) (d : Pair) → k ≤ n → n ≤ k → MeetsAll ws k v → Beneath ws k v d → Swept ws n v (Some d)
-  rules-won n d l h f b = record { exact = decides-true (λ j i. f j (omega arith)); below = λ x o. let e : d ≡ x = cc in rw e at (beneath-more ws k n v d l b) }
+  pub rules-won : (n : ℕ) (d : Pair) → k ≤ n → n ≤ k → MeetsAll ws k v → Beneath ws k v d → Swept ws n v (Ok d)
+  rules-won n d l h f b = record { exact = decides-true (λ j i. f j (omega arith)); below = λ x o. let e : d ≡ x = cc in rw e at (beneath-more ws k n v d l b); short = λ x o. cc }
 
 -- ---- one member
 pub lone-held : (x : Pair) → x.taken ≡ 0 → x.denied ≡ 0 → Lone x.held → Atom x

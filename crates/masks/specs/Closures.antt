@@ -1,5 +1,5 @@
 -- What the functions that compute a closure within bounds promise.
-use Rattle.std.specs.Prelude.{ℕ, ◌^◌, ◌<◌, ◌≡◌, List, ◌⊎◌, Option, Some, is_some}
+use Rattle.std.specs.Prelude.{ℕ, ◌^◌, ◌<◌, ◌≡◌, List, ◌⊎◌, Result, Ok, Err, is_ok}
 use Rattle.logic.specs.Tests.{Decides}
 use Rattle.sets.specs.declared.Pair.{Pair}
 use Rattle.sets.specs.Sets.{Within}
@@ -53,7 +53,8 @@ pub record Grown (r : Masks) (v d e : Pair) : Type 0 where
 abbrev pub Beneath : List ℕ → ℕ → Pair → Pair → Type 0
 Beneath ws n v d = (c : Pair) → c.taken ≡ v.taken → Sub c v → MaskClosed ws n v c → Sub d c
 
--- What a sweep over the first n rules tells of v: whether it meets them all, and if it does, a part of every closed pair within it.
-pub record Swept (ws : List ℕ) (n : ℕ) (v : Pair) (s : Option Pair) : Type 0 where
-  pub exact : Decides (is_some s) (MeetsAll ws n v)
-  pub below : (d : Pair) → s ≡ Some d → Beneath ws n v d
+-- What a sweep over the first n rules tells of v: whether it meets them all, and in either case a part of every closed pair within it.
+pub record Swept (ws : List ℕ) (n : ℕ) (v : Pair) (s : Result Pair Pair) : Type 0 where
+  pub exact : Decides (is_ok s) (MeetsAll ws n v)
+  pub below : (d : Pair) → s ≡ Ok d → Beneath ws n v d
+  pub short : (d : Pair) → s ≡ Err d → Beneath ws n v d

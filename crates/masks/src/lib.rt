@@ -165,8 +165,9 @@ pub fn add_within(r: Masks, v: Pair, f: bool, d: Pair) -> Pair
 // The most passes over the rules for one pair: each but the last adds a conclusion.
 const PASSES: u64 = 128;
 
-// One sweep over the first n rules: what they add to v's exceptions alone, if v meets them all. It ends at the first that v does not meet.
-pub fn sweep(rules: &Rules<'_>, v: Pair) -> Option<Pair>
+// One sweep over the rules: what they add to v's exceptions alone, if v meets them all. It ends at the first that v does not meet, with what those before
+// it add.
+pub fn sweep(rules: &Rules<'_>, v: Pair) -> Result<Pair, Pair>
     ensures { Swept rules.now.words.now rules.now.count v result }
 {
     let mut d = Pair::of_exceptions(v.taken);
@@ -175,11 +176,11 @@ pub fn sweep(rules: &Rules<'_>, v: Pair) -> Option<Pair>
         let f = fires(r, v, v);
         let e = add_within(r, v, f, d);
         if !meets(r, v, f) {
-            return None;
+            return Err(d);
         }
         d = e;
     }
-    Some(d)
+    Ok(d)
 }
 
 // The pair d with what the first n rules add to it in one pass, which every closed pair within v has as it has d.

@@ -3,7 +3,7 @@
 use mathlib.Core.Path.{◌≡◌, sym, ap}
 use mathlib.Core.List.{List, [], ◌++◌}
 use mathlib.Core.Logic.{◌⊎◌, inl, inr, ⊎_elim}
-use Rattle.std.proofs.Common.{None, Some}
+use Rattle.std.specs.Prelude.{Ok, Err}
 use Prim.Native.Nat.{ℕ, zero, suc, ◌+◌, ◌-◌, ◌*◌, ◌%◌, ◌^◌, ◌<◌, ◌≤◌}
 use native.Mathlib.Omega.{arith}
 use native.Mathlib.Nat.{lt_of_lt_of_le, le_refl, le_trans, mod-lt}
@@ -27,7 +27,7 @@ use Rattle.meaning.specs.Order as order
 use Rattle.meaning.specs.Order.{Before, Point, LawfulPoint, AllLater}
 use Rattle.meaning.proofs.Parts.{Part, part_none, part_join, part-all, part-there}
 use Rattle.walk.specs.declared.Position.{Position}
-use Rattle.walk.specs.Walks.{Passed, AtPlace, Spanned, Stops, Skipped, RuledOut}
+use Rattle.walk.specs.Walks.{Passed, AtPlace, Spanned, Stops, Skipping, Skipped, RuledOut}
 use Rattle.marking.proofs.Steps.{within_all}
 
 -- A set comes earlier than one that contains it.
@@ -42,12 +42,6 @@ subset-earlier a b f n =
 pub earlier-before : (p q : Pair) → Earlier p.taken q.taken → Before p q
 earlier-before p q (fewer l) = order.fewer l
 earlier-before p q (smaller e l) = order.smaller e l
-
--- From place p to place r a look is enough.
-pub record Skipping (x : ℕ) (root : Bounds) (marks : List ℕ) (p r : Position) : Type 0 where
-  pub from : p.place ≤ r.place
-  pub stands : AtPlace x r
-  pub ruled_out : (i : ℕ) → p.place ≤ i → i < r.place → RuledOut root marks (set_at x i)
 
 module _ (x : ℕ) (small : x ≤ exceptions) where
   rule : Ordered x (set_at x)
@@ -69,6 +63,9 @@ module _ (x : ℕ) (small : x ≤ exceptions) where
     pub skipping-none : AtPlace x p → Skipping x root marks p p
     skipping-none s = record { from = le_refl _; stands = s; ruled_out = λ i a b. absurd (omega arith) }
 
+    pub stops-skipping : (r : Position) (past : ℕ) → Stops x past root marks p r → Skipping x root marks p r
+    stops-skipping r past s = record { from = s.from; stands = s.stands; ruled_out = s.ruled_out }
+
     module _ (r : Position) (s : Skipping x root marks p r) where
       pub skipping-more : r.place < 2 ^ x → RuledOut root marks r.set → (u : ℕ) → NextSet x r.set u → Skipping x root marks p (record { place = r.place + 1; set = u })
       skipping-more h f u n = record {
@@ -77,17 +74,19 @@ module _ (x : ℕ) (small : x ≤ exceptions) where
         ruled_out = λ i a b. ⊎_elim (λ l. s.ruled_out i a l) (λ l. let e : i ≡ r.place = omega arith in rw (e, ← s.stands.is h) f) (lt-or-le i r.place);
       }
 
-      pub stopped : (past : ℕ) → r.place < past → (RuledOut root marks r.set → ⊥) → Skipped x past root marks p (Some r)
+      pub stopped : (past : ℕ) → r.place < past → (RuledOut root marks r.set → ⊥) → Skipped x past root marks p (Ok r)
       stopped past l o = record {
         some = λ u e. let f : r ≡ u = cc in rw f at here;
-        none = λ e. cc;
+        none = λ u e. cc;
       }
         where
           here : Stops x past root marks p r
           here = record { from = s.from; to = l; stands = s.stands; ruled_out = s.ruled_out; undecided = o }
 
-      pub skipped_all : (past : ℕ) → past ≤ r.place → Skipped x past root marks p None
-      skipped_all past l = record { some = λ u e. cc; none = λ e i a b. s.ruled_out i a (omega arith) }
+      pub skipped_all : (past : ℕ) → past ≤ r.place → Skipped x past root marks p (Err r)
+      skipped_all past l =
+          let here : (past ≤ r.place) × Skipping x root marks p r = (l, s) in
+          record { some = λ u e. cc; none = λ u e. let f : r ≡ u = cc in rw f at here }
 
   -- ---- the places passed
   -- A set at an earlier place.

@@ -3,7 +3,7 @@ use mathlib.Core.Path.{◌≡◌, refl, sym, ◌∙◌}
 use mathlib.Core.Bool.{Bool, true, false, not}
 use mathlib.Core.List.{List, [], ◌++◌}
 use mathlib.Core.Logic.{inr, ⊎_elim}
-use Rattle.std.proofs.Common.{Option, None, Some}
+use Rattle.std.specs.Prelude.{Result, Ok, Err}
 use Prim.Native.Nat.{ℕ, zero, suc, ◌+◌, ◌-◌, ◌^◌, ◌<◌, ◌≤◌, max}
 use native.Mathlib.Nat.{le_refl, le_trans, lt_of_lt_of_le}
 use native.Mathlib.Numerals.{add-one}
@@ -39,8 +39,8 @@ use Rattle.marking.specs.Marks.{marks_in, IsMarked, Clear, RightMarks}
 use Rattle.one_set.specs.Plans.{Told, Full, Rests, SetListed}
 use Rattle.one_set.proofs.Plans.{marks-same, told-kept, told_none}
 use Rattle.one_set.proofs.Sets.{set-none, set-viewless}
-use Rattle.walk.specs.Walks.{Passed, RuledOut, marked, beyond, short, AtPlace, Spanned, Stops, Skipped, Beyond, Ready, Walked, beginning, Paged}
-use Rattle.walk.proofs.Places.{at-or-past, subset-place, none_yet, one_more, all-places, cut_short}
+use Rattle.walk.specs.Walks.{Passed, RuledOut, marked, beyond, short, AtPlace, Spanned, Skipping, Skipped, Beyond, Ready, Walked, beginning, Paged}
+use Rattle.walk.proofs.Places.{at-or-past, subset-place, none_yet, one_more, all-places, cut_short, stops-skipping}
 
 -- ---- what a look tells
 module _ (root : Bounds) (t : ℕ) (m : List ℕ) where
@@ -123,9 +123,9 @@ pub record Going (ws ranks : List ℕ) (root : Bounds) (q : Sought) (wide first 
       → (ys : List Pair) × Part b from (Passed wide j) ys × Page q.room 0 start p ys k
 
 -- The walk between the root's sets, of which those before `past` are still to be looked at: at the next place, or at the end.
-pub record Walking (ws ranks : List ℕ) (root : Bounds) (q : Sought) (wide first : ℕ) (known : Bool) (at : ℕ) (m : List ℕ) (w : Memory) (o : List ℕ) (past : ℕ) (next : Option Position) (k : ℕ) (n : List ℕ) (v : Memory) (p : List ℕ) : Type 0 where
-  pub some : (r : Position) → next ≡ Some r → Going ws ranks root q wide first known at m w o r.place k n v p × AtPlace wide r × (r.place < past)
-  pub none : next ≡ None → (j : ℕ) × (past ≤ j) × Going ws ranks root q wide first known at m w o j k n v p
+pub record Walking (ws ranks : List ℕ) (root : Bounds) (q : Sought) (wide first : ℕ) (known : Bool) (at : ℕ) (m : List ℕ) (w : Memory) (o : List ℕ) (past : ℕ) (next : Result Position Position) (k : ℕ) (n : List ℕ) (v : Memory) (p : List ℕ) : Type 0 where
+  pub some : (r : Position) → next ≡ Ok r → Going ws ranks root q wide first known at m w o r.place k n v p × AtPlace wide r × (r.place < past)
+  pub none : (r : Position) → next ≡ Err r → Going ws ranks root q wide first known at m w o r.place k n v p × (past ≤ r.place)
 
 plus_none : (j : ℕ) → j + 0 ≡ j
 plus_none j = omega arith
@@ -219,21 +219,19 @@ module _ (ws ranks : List ℕ) (root : Bounds) (q : Sought) (wide : ℕ) (small 
       going-at (j + 1 + d) (j + suc d) k n v p (sym (plus_one j d))
       (going-over d (j + 1) k n v p (rw (plus_one j d) at h) (going-past j k n v p g (below j d (2 ^ wide) h) (f j (le_refl j) (above j d))) (λ i a b. f i (inner j i a) (rw (← plus_one j d) at b)))
 
-  -- To the next place at which a look is not enough.
-  going_on : (j k past : ℕ) (n : List ℕ) (v : Memory) (p : List ℕ) → Going ws ranks root q wide first known at m w o j k n v p → (s r : Position) → s.place ≡ j → Stops wide past root n s r → past ≤ 2 ^ wide
+  -- To a place up to which a look is enough.
+  pub going_on : (j k : ℕ) (n : List ℕ) (v : Memory) (p : List ℕ) → Going ws ranks root q wide first known at m w o j k n v p → (s r : Position) → s.place ≡ j → Skipping wide root n s r
       → Going ws ranks root q wide first known at m w o r.place k n v p
-  going_on j k past n v p g s r e x l =
+  going_on j k n v p g s r e x =
       let f : j + (r.place - j) ≡ r.place = omega (arith, x.from) in
-      rw f at (going-over (r.place - j) j k n v p (omega (arith, x.to, f)) g (λ i a b. x.ruled_out i (omega arith) (omega (arith, f))))
+      rw f at (going-over (r.place - j) j k n v p (omega (arith, x.stands.to, f)) g (λ i a b. x.ruled_out i (omega arith) (omega (arith, f))))
 
-  pub walking-on : (j k past : ℕ) (n : List ℕ) (v : Memory) (p : List ℕ) → Going ws ranks root q wide first known at m w o j k n v p → (s : Position) → s.place ≡ j → (next : Option Position) → Skipped wide past root n s next
-      → past ≤ 2 ^ wide → Walking ws ranks root q wide first known at m w o past next k n v p
-  walking-on j k past n v p g s e next x l = record {
-    some = λ r f. let y = x.some r f in (going_on j k past n v p g s r e y l, y.stands, y.to);
-    none = λ f. ⊎_elim
-        (λ (a : j < past). let h : j + (past - j) ≡ past = omega arith in
-        (past, le_refl past, rw h at (going-over (past - j) j k n v p (omega arith) g (λ i c d. x.none f i (omega arith) (omega arith)))))
-        (λ (a : past ≤ j). (j, a, g)) (lt-or-le j past);
+  -- To the next place at which a look is not enough, or past all.
+  pub walking-on : (j k past : ℕ) (n : List ℕ) (v : Memory) (p : List ℕ) → Going ws ranks root q wide first known at m w o j k n v p → (s : Position) → s.place ≡ j → (next : Result Position Position) → Skipped wide past root n s next
+      → Walking ws ranks root q wide first known at m w o past next k n v p
+  walking-on j k past n v p g s e next x = record {
+    some = λ r f. let y = x.some r f in (going_on j k n v p g s r e (stops-skipping wide small root n s r past y), y.stands, y.to);
+    none = λ r f. let y = x.none r f in (going_on j k n v p g s r e y.1, y.0);
   }
 
   -- To the first place between the root's sets.
@@ -292,10 +290,10 @@ module _ (ws ranks : List ℕ) (root : Bounds) (q : Sought) (wide : ℕ) (small 
         (set-ruled-out ws ranks root q q.point.taken true false (Rests ws q.rules ranks root q.point.taken false m) 0 m w o (omega arith) f) x
 
 -- How many places may still be looked at, and one more; nothing at the end.
-abbrev pub left : ℕ → Option Position → ℕ
-left e None = 0
-left e (Some r) = suc (e - r.place)
+abbrev pub left : ℕ → Result Position Position → ℕ
+left e (Err r) = 0
+left e (Ok r) = suc (e - r.place)
 
-pub left-less : (x past e : ℕ) (root : Bounds) (marks : List ℕ) (s r : Position) (next : Option Position) → s.place ≡ r.place + 1 → Skipped x past root marks s next → r.place < e → left e next < suc (e - r.place)
-left-less x past e root marks s r None f k l = omega arith
-left-less x past e root marks s r (Some u) f k l = let y = (k.some u refl).from in omega arith
+pub left-less : (x past e : ℕ) (root : Bounds) (marks : List ℕ) (s r : Position) (next : Result Position Position) → s.place ≡ r.place + 1 → Skipped x past root marks s next → r.place < e → left e next < suc (e - r.place)
+left-less x past e root marks s r (Err u) f k l = omega arith
+left-less x past e root marks s r (Ok u) f k l = let y = (k.some u refl).from in omega arith

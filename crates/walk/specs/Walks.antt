@@ -1,5 +1,5 @@
 -- The walk over the sets of exceptions: what has been passed, and the page that it leaves.
-use Rattle.std.specs.Prelude.{ℕ, zero, suc, ◌^◌, ◌<◌, ◌≤◌, ◌≡◌, Bool, true, false, List, ◌⊎◌, Option, None, Some, length}
+use Rattle.std.specs.Prelude.{ℕ, zero, suc, ◌^◌, ◌<◌, ◌≤◌, ◌≡◌, Bool, true, false, List, ◌⊎◌, Result, Ok, Err, length}
 use Rattle.sets.specs.declared.Pair.{Pair}
 use Rattle.sets.specs.Sets.{without}
 use Rattle.order.specs.Formula.{set_at}
@@ -48,10 +48,16 @@ pub record Stops (x past : ℕ) (root : Bounds) (marks : List ℕ) (p r : Positi
   pub ruled_out : (i : ℕ) → p.place ≤ i → i < r.place → RuledOut root marks (set_at x i)
   pub undecided : RuledOut root marks r.set → ⊥
 
--- That place is r, or there is none from p on before `past`.
-pub record Skipped (x past : ℕ) (root : Bounds) (marks : List ℕ) (p : Position) (r : Option Position) : Type 0 where
-  pub some : (s : Position) → r ≡ Some s → Stops x past root marks p s
-  pub none : r ≡ None → (i : ℕ) → p.place ≤ i → i < past → RuledOut root marks (set_at x i)
+-- From place p to place r a look is enough.
+pub record Skipping (x : ℕ) (root : Bounds) (marks : List ℕ) (p r : Position) : Type 0 where
+  pub from : p.place ≤ r.place
+  pub stands : AtPlace x r
+  pub ruled_out : (i : ℕ) → p.place ≤ i → i < r.place → RuledOut root marks (set_at x i)
+
+-- That place is r; or there is none from p on before `past`, and r is the place past these.
+pub record Skipped (x past : ℕ) (root : Bounds) (marks : List ℕ) (p : Position) (r : Result Position Position) : Type 0 where
+  pub some : (s : Position) → r ≡ Ok s → Stops x past root marks p s
+  pub none : (s : Position) → r ≡ Err s → (past ≤ s.place) × Skipping x root marks p s
 
 -- From place j on every pair is later than the point.
 pub record Beyond (x : ℕ) (from : Point) (j : ℕ) : Type 0 where

@@ -61,25 +61,29 @@ pub fn spanned(x: usize, root: Bounds) -> Span
     }
 }
 
-// The first place from p on and before `past` at which a look is not enough, in the order of the sets of x exceptions.
+// The first place from p on and before `past` at which a look is not enough, in the order of the sets of x exceptions; or, where there is none, the
+// place past these.
 pub fn past_ruled_out(
     x: usize,
     past: usize,
     root: Bounds,
     marks: &[u64],
     p: Position,
-) -> Option<Position>
+) -> Result<Position, Position>
     requires { (x ≤ exceptions) × (past ≤ 2 ^ x) × (2 ^ x ≤ marks_in marks.now) × AtPlace x p }
     ensures { Skipped x past root marks.now p result }
 {
-    let mut set = p.set;
+    let mut r = p;
     for place in p.place..past {
-        if !ruled_out(root, marks, set) {
-            return Some(Position { place, set });
+        if !ruled_out(root, marks, r.set) {
+            return Ok(r);
         }
-        set = order::next(x, set);
+        r = Position {
+            place: place + 1,
+            set: order::next(x, r.set),
+        };
     }
-    None
+    Err(r)
 }
 
 // Puts the resolutions with the sets of x exceptions from place `from` on on the page, until it is full. Where `known` is true, the sets before that
@@ -113,7 +117,7 @@ pub fn walk(
     let mut next = past_ruled_out(x, s.past, root, marks, Position { place: first, set });
     let mut r = at;
     // Kept: a while, for what is next is known only once the page is seen to have room: no range gives the places that are not ruled out.
-    while let Some(p) = next {
+    while let Ok(p) = next {
         r = one_set::list_set(
             book, root, task, p.set, false, known, r, effort, marks, memory, store, out,
         );

@@ -8,7 +8,7 @@ pub loop-k-init : goal.loop-k-init
 loop-k-init c = (λ j h. absurd (omega arith), rw c.of_exceptions-d.ensures (beneath-start _ _))
 
 pub returns-then-not-meets : goal.returns-then-not-meets
-returns-then-not-meets c = rules-lost _ c.loop-k.k _ _ _ c.masks_at-r.ensures c.meets.ensures _ (omega arith) (search rules)
+returns-then-not-meets c = rules-lost _ c.loop-k.k _ _ _ c.masks_at-r.ensures c.meets.ensures _ _ (omega arith) c.loop-k.invariant.1 (search rules)
 
 pub loop-k-preserved : goal.loop-k-preserved
 loop-k-preserved c =
