@@ -23,24 +23,33 @@ use Rattle.book.specs.declared.Content.{Content}
 use Rattle.book.specs.declared.Content.TheVariants.{Edition, Statements, Literal, Exception, Total}
 use Rattle.book.specs.declared.Fault.{Fault}
 use Rattle.book.specs.declared.Fault.TheVariants.{OutOfRange, Edition as WrongEdition}
-use Rattle.book.specs.Faults.{number}
+use Rattle.book.specs.Faults.{number, numbered}
 use Rattle.book.specs.Limits as limit
 use Rattle.book.specs.Kinds.{Range, range_of, kinds, most, row_once, most_rows}
 use Rattle.text.specs.Lines.{inside, between}
 use Rattle.text.specs.Reading.{to_nat}
 use Rattle.fields.specs.declared.Seen.{Seen}
-use Rattle.fields.specs.Checks.{number_is, range, see_of}
+use Rattle.fields.specs.Checks.{number_is, range, ranged, see_of}
 use Rattle.fields.proofs.Columns.{back, lt-le, ge-le}
 
 -- ---- one number
-module _ (low high v : ℤ) (q : Fault) (b : Bool) (f : b ≡ between low high v) where
-  pub number_in : b ≡ true → Ok tt ≡ number_is (range low high q) v
-  unfolding number_is inside pick
+module _ {E : Type 0} (low high v : ℤ) (q : E) (b : Bool) (f : b ≡ between low high v) where
+  pub number_in : b ≡ true → Ok tt ≡ ranged low high q v
+  unfolding ranged pick
   number_in g = rw (← f, g)
 
-  pub number-out : b ≡ false → Err (number q) ≡ number_is (range low high q) v
-  unfolding number_is inside pick
+  pub number-out : b ≡ false → Err q ≡ ranged low high q v
+  unfolding ranged pick
   number-out g = rw (← f, g)
+
+-- The same by the number of what is wrong.
+pub ranged-number : (low high v : ℤ) (q : Fault) (x : Result ⊤ Fault) → x ≡ ranged low high q v → numbered x ≡ number_is (range low high q) v
+unfolding ranged number_is inside pick
+ranged-number low high v q x e = go (between low high v) x e
+  where
+    go : (b : Bool) (x : Result ⊤ Fault) → x ≡ pick b (Ok tt) (Err q) → numbered x ≡ pick b (Ok tt) (Err (number q))
+    go true x e = rw e
+    go false x e = rw e
 
 -- ---- a signed number as a count
 neg-nat : (v : ℤ) → lt_z v (pos 0) ≡ true → 0 ≡ to_nat v

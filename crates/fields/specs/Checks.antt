@@ -14,6 +14,10 @@ use Rattle.fields.specs.declared.Seen.{Seen}
 abbrev pub range : ℤ → ℤ → Fault → Range
 range a b q = record { low = a; high = b; fault = q }
 
+-- Ok from the low end to the high one, else what is wrong.
+unfoldable pub ranged : {E : Type 0} → ℤ → ℤ → E → ℤ → Result ⊤ E
+ranged a b q v = pick (between a b v) (Ok tt) (Err q)
+
 -- Ok in the range, else refused by the range's number.
 unfoldable pub number_is : Range → ℤ → Result ⊤ ℕ
 number_is r v = pick (inside r v) (Ok tt) (Err (number r.fault))

@@ -11,7 +11,7 @@ ghost use Rattle.text.specs.Fields.{digit_of, column_of, columns, minus_in, sign
 ghost use Rattle.text.specs.Fields.{is_space, is_digit, stray_byte, stray, gapped, misspelling as misspelling_of, is_number};
 ghost use Rattle.text.specs.Lines.{between, filled_in, headless};
 ghost use Rattle.text.specs.Reading.{to_nat};
-ghost use Rattle.fields.specs.Checks.{number_is, range, see_of};
+ghost use Rattle.fields.specs.Checks.{number_is, ranged, see_of};
 ghost use Rattle.fields.specs.Short.{all_short};
 
 use book::{Book, Content, Fault, Kind};
@@ -170,9 +170,9 @@ pub fn read_field(text: &[u8], at: usize) -> Result<i32, Fault>
 
 // ---- the number of a field
 
-// A number against a range: what is wrong if it lies outside.
-pub fn in_range(low: i32, high: i32, fault: Fault, v: i32) -> Result<(), Fault>
-    ensures { numbered result ≡ number_is (range low high fault) v }
+// A number against a range: what is wrong, by whatever word the caller has for it, if it lies outside.
+pub fn in_range<E: Copy>(low: i32, high: i32, fault: E, v: i32) -> Result<(), E>
+    ensures { result ≡ ranged low high fault v }
 {
     if low <= v && v <= high {
         Ok(())
