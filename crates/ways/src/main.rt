@@ -3,10 +3,10 @@
 
 mod streams;
 
-ghost use Rattle.std.specs.Prelude.{IfOk};
+ghost use Rattle.std.specs.Prelude.{◌≡◌, IfOk};
 ghost use Rattle.answers.specs.Ways.{most_lines};
 ghost use Rattle.listing.specs.Parts.{Midway};
-ghost use Rattle.ways.specs.Stands.{Printed, Stood};
+ghost use Rattle.ways.specs.Stands.{Printed, Stood, stand_after};
 
 use arrayvec::ArrayString;
 use book::{Book, Shape};
@@ -24,7 +24,15 @@ pub struct Stand {
     pub next: Option<Pair>,
 }
 
-// Prints the part after the last pair printed, where m lines are left. If not all of it is written, the listing is cut off.
+// Where it stands after a part. If not all of the part was written, the listing is cut off: nothing more is printed, and the answer is what failed.
+fn after(next: Option<Pair>, sent: io::Result<Output>) -> io::Result<Stand>
+    ensures { result ≡ stand_after next sent }
+{
+    let to = sent?;
+    Ok(Stand { to, next })
+}
+
+// Prints the part after the last pair printed, where m lines are left.
 fn go_on(
     text: &[u8],
     words: &Words,
@@ -39,11 +47,7 @@ fn go_on(
 {
     let mut out: listing::Text = [0; listing::PART * listing::LONGEST + listing::CLOSING];
     let part = listing::go_on(words, ranks, s, last, m, &mut out);
-    let to = streams::send(text, to, &out[..part.bytes])?;
-    Ok(Stand {
-        to,
-        next: part.next,
-    })
+    after(part.next, streams::send(text, to, &out[..part.bytes]))
 }
 
 // Prints what is left after the first part: part after part.
@@ -69,14 +73,11 @@ fn print(stdout: Stdout, text: &[u8]) -> io::Result<Output>
     let mut ranks = [0u64; Book::EXCEPTIONS];
     let mut out: listing::Text = [0; listing::PART * listing::LONGEST + listing::CLOSING];
     let b = listing::begin(text, &mut words, &mut ranks, &mut out);
-    let to = streams::send(text, streams::untouched(stdout), &out[..b.bytes])?;
+    let sent = streams::send(text, streams::untouched(stdout), &out[..b.bytes]);
     let Some((s, last)) = b.next else {
-        return Ok(to);
+        return sent;
     };
-    let from = Stand {
-        to,
-        next: Some(last),
-    };
+    let from = after(Some(last), sent)?;
     rest(text, &words, &ranks, s, from)
 }
 

@@ -17,4 +17,4 @@ send-requires c =
 pub returns : goal.returns
 returns c =
     let l = c.go_on-part.ensures in
-    stood _ _ _ _ _ _ _ _ _ _ (step _ _ _ _ _ _ _ c.requires _ _ l) l.fits c.in_ok-to.ensures
+    rw c.after.ensures (stood _ _ _ _ _ _ _ _ _ c.send.result (step _ _ _ _ _ _ _ c.requires _ _ l) l.fits c.send.ensures)
