@@ -5,14 +5,16 @@ use mathlib.Core.List.{List, [], ◌∷◌, append_assoc}
 use Prim.Native.Nat.{ℕ, suc, ◌+◌, ◌-◌, ◌<◌, ◌≤◌}
 use native.Mathlib.Nat.{div-div-eq-div-mul}
 use native.Mathlib.Omega.{arith}
-use lib.ListN.{length, get_or, take, drop}
+use lib.ListN.{length, get_or, take, drop, drop_of_length-le}
+use lib.Bits.{bit_or}
 use lib.Dec.{eqb}
 use lib.Seq.{sets, sets-eq, drop-cons, drop-drop}
 use borrow.Rule.Slice.PartMut.{put_mid}
 use Rattle.std.proofs.lemmas.Slice.{between_to_end}
-use borrow.Author.Tests.{eq-eqb, ne_eqb}
+use borrow.Author.Tests.{eq-eqb, ne_eqb, eqb-true, eqb-false}
 use Rattle.logic.specs.Tests.{both, either}
 use Rattle.logic.proofs.Tests.{and_both}
+use Rattle.sets.proofs.Words.{or-zero}
 use Rattle.std.specs.Char.{is_ascii_digit, is_ascii_uppercase}
 use Rattle.std.specs.List.{between, list_all}
 use Rattle.std.specs.Int.{to_le_bytes, from_le_bytes}
@@ -90,6 +92,37 @@ pub zeros_all : (bs : List ℕ) → list_all (λ b. eqb b 0) bs ≡ zeros bs
 unfolding zeros
 zeros_all [] = refl
 zeros_all (b ∷ bs) = and_both _ _ ∙ ap (both (eqb b 0)) (zeros_all bs)
+
+or-zeros : (a b : ℕ) (o : Bool) → both (eqb (bit_or a b) 0) o ≡ both (eqb a 0) (both (eqb b 0) o)
+unfolding both
+or-zeros a b o = go (eqb a 0) (eqb b 0) refl refl
+  where
+    go : (x y : Bool) → eqb a 0 ≡ x → eqb b 0 ≡ y → both (eqb (bit_or a b) 0) o ≡ both x (both y o)
+    go true true e f = rw (eqb-true a 0 e, eqb-true b 0 f)
+    go true false e f = rw (ne_eqb (bit_or a b) 0 (λ z. eqb-false b 0 f (or-zero a b z).1))
+    go false y e f = rw (ne_eqb (bit_or a b) 0 (λ z. eqb-false a 0 e (or-zero a b z).0))
+
+both-true : (a : Bool) → both a true ≡ a
+unfolding both
+both-true true = refl
+both-true false = refl
+
+-- What the first i bytes come to, with those behind them.
+module _ (s : List ℕ) where
+  unfoldable pub Zeros : ℕ → ℕ → Type 0
+  Zeros any i = both (eqb any 0) (zeros (drop i s)) ≡ zeros s
+
+  pub zeros-start : Zeros 0 0
+  unfolding Zeros both
+  zeros-start = refl
+
+  pub zeros-next : (any i : ℕ) → i < length s → Zeros any i → Zeros (bit_or any (get_or s i 0)) (i + 1)
+  unfolding Zeros zeros
+  zeros-next any i h inv = let z : i + 1 ≡ suc i = omega arith in rw (z, or-zeros any (get_or s i 0) (zeros (drop (suc i) s))) (rw (drop-cons s i 0 h) at inv)
+
+  pub zeros-end : (any i : ℕ) → length s ≤ i → Zeros any i → eqb any 0 ≡ zeros s
+  unfolding Zeros zeros
+  zeros-end any i h inv = sym (both-true (eqb any 0)) ∙ (rw (drop_of_length-le s {i = i} h) at inv)
 
 -- ---- numbers
 pub eight : (s : List ℕ) → 8 ≤ length s

@@ -3,9 +3,10 @@ use mathlib.Core.Path.{◌≡◌, refl, sym, ap, ◌∙◌}
 use mathlib.Core.Bool.{Bool, true, false}
 use mathlib.Core.List.{List, [], ◌∷◌}
 use mathlib.Core.Logic.{◌↔◌, ◌⊎◌, inl, inr, ⊎_elim}
-use Prim.Native.Nat.{ℕ, ◌<◌}
+use Prim.Native.Nat.{ℕ, ◌+◌, ◌-◌, ◌<◌, ◌≤◌}
 use native.Mathlib.Omega.{arith}
 use lib.Dec.{ltb}
+use lib.ListN.{length, get_or, take, drop}
 use borrow.Author.Tests.{lt-ltb, le-ltb, ltb-true, ltb-false}
 use Rattle.logic.specs.Tests.{pick}
 use Rattle.logic.proofs.Decide.{clash}
@@ -15,6 +16,7 @@ use Rattle.std.specs.Ordering.{is_lt, is_eq, nat_cmp, ordering_then, MatchOrderi
 use Rattle.std.specs.Cmp.Lexicographic.{slice_cmp}
 use Rattle.std.proofs.lemmas.Cmp.{ranked}
 use Rattle.entry.specs.Names.{compare_to, before, same_name}
+use Rattle.entry.proofs.Leaves.{part-next}
 
 pub less-same : Less ≡ Equal → ⊥
 less-same e = clash (ap is_eq e)
@@ -153,3 +155,30 @@ compare-cmp (x ∷ xs) (y ∷ ys) = go (compare-cmp xs ys) (nat_cmp x y) (ranked
     go ih Less h = sym (less-cons x y (compare_to xs ys) h)
     go ih Equal h = ih ∙ sym (eq-cons x y (compare_to xs ys) h)
     go ih Greater h = sym (more-cons x y (compare_to xs ys) h)
+
+-- Byte by byte, from the first: what is left after k equal bytes compares as all does.
+module _ (a b : List ℕ) where
+  unfoldable pub Compared : ℕ → Type 0
+  Compared k = compare_to (take (8 - k) (drop k a)) (take (8 - k) (drop k b)) ≡ compare_to (take 8 a) (take 8 b)
+
+  pub compare_start : Compared 0
+  unfolding Compared
+  compare_start = refl
+
+  module _ (k : ℕ) (h : k < 8) (ha : 8 ≤ length a) (hb : 8 ≤ length b) (inv : Compared k) where
+    pub compare-differs : (get_or a k 0 ≡ get_or b k 0 → ⊥) → (o : Ordering) → o ≡ nat_cmp (get_or a k 0) (get_or b k 0) → o ≡ compare_to (take 8 a) (take 8 b)
+    unfolding Compared compare_to pick
+    compare-differs n o e = e ∙ go (nat_cmp (get_or a k 0) (get_or b k 0)) (ranked (get_or a k 0) (get_or b k 0) (nat_cmp (get_or a k 0) (get_or b k 0)) refl)
+      where
+        go : (o : Ordering) → MatchOrdering o (get_or a k 0 < get_or b k 0) (get_or a k 0 ≡ get_or b k 0) (get_or b k 0 < get_or a k 0) → o ≡ compare_to (take 8 a) (take 8 b)
+        go Less l = rw (part-next a 8 k h ha, part-next b 8 k h hb, lt-ltb _ _ l) at inv
+        go Equal l = absurd (n l)
+        go Greater l = rw (part-next a 8 k h ha, part-next b 8 k h hb, le-ltb (get_or a k 0) (get_or b k 0) (omega arith), lt-ltb _ _ l) at inv
+
+    pub compare-next : get_or a k 0 ≡ get_or b k 0 → Compared (k + 1)
+    unfolding Compared compare_to pick
+    compare-next l = rw (part-next a 8 k h ha, part-next b 8 k h hb, le-ltb (get_or a k 0) (get_or b k 0) (omega arith), le-ltb (get_or b k 0) (get_or a k 0) (omega arith)) at inv
+
+  pub compare-end : (k : ℕ) → 8 ≤ k → Compared k → Equal ≡ compare_to (take 8 a) (take 8 b)
+  unfolding Compared compare_to
+  compare-end k h inv = let z : 8 - k ≡ 0 = omega arith in rw z at inv

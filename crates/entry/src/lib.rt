@@ -63,7 +63,14 @@ pub fn compare(a: &[u8], b: &[u8]) -> Ordering
     requires { (8 ≤ length a.now) × (8 ≤ length b.now) }
     ensures { result ≡ compare_to (take 8 a.now) (take 8 b.now) }
 {
-    a[..8].cmp(&b[..8])
+    for i in 0..8 {
+        let x = a[i];
+        let y = b[i];
+        if x != y {
+            return x.cmp(&y);
+        }
+    }
+    Ordering::Equal
 }
 
 // ---- numbers and bytes
@@ -107,9 +114,13 @@ pub fn put_pair(s: &mut [u8], at: usize, p: Pair)
     put_word(s, at + 16, p.denied);
 }
 
-// The bytes are zeros.
+// The bytes are zeros. All are looked at, many at once, since most that are asked about are.
 pub fn is_zero(s: &[u8]) -> bool
     ensures { result ≡ zeros s.now }
 {
-    s.iter().all(|&b| b == 0)
+    let mut any = 0;
+    for &b in s {
+        any |= b;
+    }
+    any == 0
 }

@@ -93,7 +93,9 @@ pub fn insert(store: &mut [u8], at: usize, name: Name, p: Pair)
     requires { (length store.old ≡ 1024) × (at + 32 ≤ 1024) }
     ensures { store.new ≡ take at store.old ++ (entry_row name.bytes p ++ take (992 - at) (drop at store.old)) }
 {
-    store[at..].rotate_right(32);
+    let mut old = [0u8; 1024];
+    old.copy_from_slice(store);
+    store[at + 32..].copy_from_slice(&old[at..992]);
     store[at..at + 8].copy_from_slice(&name.bytes);
     entry::put_pair(store, at + 8, p);
 }
@@ -103,7 +105,9 @@ pub fn remove(store: &mut [u8], at: usize)
     requires { (length store.old ≡ 1024) × (at + 32 ≤ 1024) }
     ensures { store.new ≡ take at store.old ++ (drop (at + 32) store.old ++ replicate 32 0) }
 {
-    store[at..].rotate_left(32);
+    let mut old = [0u8; 1024];
+    old.copy_from_slice(store);
+    store[at..992].copy_from_slice(&old[at + 32..]);
     store[992..].fill(0);
 }
 

@@ -1,11 +1,12 @@
-use mathlib.Core.Path.{◌∙◌}
-use Rattle.std.proofs.Common.{rules, tests}
-use Rattle.std.proofs.lemmas.Iterator.{YieldsList-from_slice}
-use Rattle.std.proofs.lemmas.Iterator.Search.{all_from_yields_List}
-use Prim.Native.Nat.{ℕ}
-use lib.Dec.{eqb}
-use Rattle.entry.proofs.Leaves.{zeros_all}
+use borrow.Author.Rules.{rules}
+use Rattle.entry.proofs.Leaves.{zeros-start, zeros-next, zeros-end}
 use Rattle.entry.proofs.is_zero.Goals as goal
 
+pub loop-b-init : goal.loop-b-init
+loop-b-init c = zeros-start _
+
+pub loop-b-preserved : goal.loop-b-preserved
+loop-b-preserved c = zeros-next c.args.s.now c.loop-b.any c.loop-b.b-index (search rules) c.loop-b.invariant
+
 pub returns : goal.returns
-returns c = all_from_yields_List (λ (b : ℕ). eqb b 0) _ _ _ c.all.ensures.ran (YieldsList-from_slice c.args.s.now cc) (λ x b q k. search (rules, tests)) ∙ zeros_all _
+returns c = zeros-end c.args.s.now c.loop-b.any c.loop-b.b-index (search rules) c.loop-b.invariant
