@@ -5,21 +5,21 @@ use mathlib.Core.Bool.{Bool, true, false, not}
 use mathlib.Core.List.{List}
 use Prim.Native.Nat.{ℕ, ◌<◌}
 use lib.Bits.{bit_and}
-use lib.ListN.{get_or}
+use lib.ListN.{length, get_or}
 use Rattle.logic.specs.Tests.{Decides}
 use Rattle.logic.proofs.Decide.{clash}
 use Rattle.sets.specs.declared.Pair.{Pair}
 use Rattle.sets.proofs.Words.{and_none, none-and, none-sub, single-has}
 use Rattle.sets.proofs.Pairs.{sub_trans, join-l, join-r}
 use Rattle.masks.specs.declared.Bounds.{Bounds}
-use Rattle.masks.proofs.Booleans.{decides-true, decides-false}
+use Rattle.masks.proofs.Booleans.{refused, decides-true, decides-false}
 use Rattle.bounds.specs.Singles.{one_of}
 use Rattle.bounds.specs.Sound.{into_of}
 use Rattle.bounds.proofs.Singles.{has-place}
 use Rattle.bounds.proofs.Steps.{in-into}
 use Rattle.std.specs.Prelude.{Option, Some, None, is_some}
 use Rattle.probe.specs.Probes.{Probed}
-use Rattle.admissible.specs.Admissible.{UndominatedAt}
+use Rattle.admissible.specs.Admissible.{UndominatedAt, Undominated}
 
 module _ (ws : List ℕ) (n : ℕ) (ranks : List ℕ) (root : Bounds) (taken rank a : ℕ) where
   pub free-apart : bit_and rank taken ≡ 0 → Decides true (UndominatedAt ws n ranks root taken rank a)
@@ -51,5 +51,10 @@ module _ (ws : List ℕ) (n : ℕ) (ranks : List ℕ) (root : Bounds) (taken ran
 -- ---- all exceptions
 abbrev pub UndominatedTo : List ℕ → ℕ → List ℕ → Bounds → ℕ → ℕ → Type 0
 UndominatedTo ws n ranks root taken k = (a : ℕ) → a < k → UndominatedAt ws n ranks root taken (get_or ranks a 0) a
+
+-- One exception that some view takes against the set is enough.
+module _ (ws : List ℕ) (n : ℕ) (ranks : List ℕ) (root : Bounds) (taken k : ℕ) (b : Bool) (d : Decides b (UndominatedAt ws n ranks root taken (get_or ranks k 0) k)) where
+  pub undominated-lost : k < length ranks → not b ≡ true → Decides false (Undominated ws n ranks root taken)
+  undominated-lost h q = decides-false (λ m. refused d q (record { free = m.free k h }))
 
 -- ---- both

@@ -1,6 +1,6 @@
 -- What the parts are of all that `ways` prints for a text, byte by byte: each is the next bytes, until they are all.
 use Prim.Native.Nat.{ℕ, ◌+◌, ◌-◌, ◌≤◌}
-use Rattle.std.specs.Prelude.{Option, Some, None}
+use Rattle.std.specs.Prelude.{Option, Some, None, option_map}
 use mathlib.Core.List.{List, ◌++◌}
 use mathlib.Core.Path.{◌≡◌, refl, sym, ap, ◌∙◌}
 use native.Mathlib.Omega.{arith}
@@ -93,3 +93,8 @@ module _ (bs ws ranks o : List ℕ) (r : Begun) (b : Begins bs ws ranks o r) whe
           short = omega (arith, b.small);
         } in rw (same_pair p q d) at g;
   }
+
+  -- In one: the first part of what is printed for the text.
+  pub first_step : (s : Shape) (x : Option Pair) → r.next ≡ option_map (λ (p : Pair). (s, p)) x → Step bs ws ranks 0 s most_lines o r.bytes x
+  first_step s None e = first_ends e s
+  first_step s (Some p) e = first_goes_on s p e

@@ -22,7 +22,7 @@ pub struct Row {
 // A ban has the exceptions of a view that was found to dominate, and the lines whose steps rank in it. A free row has a set of exceptions and a set
 // of lines, such that no view dominates a pair that takes no more and in which no more lines' steps rank. Two counters say which rows are replaced
 // next. Rows of zeros say nothing.
-#[derive(Drop)]
+#[derive(Clone, Copy)]
 pub struct Memory {
     pub bans: [Row; BANS],
     pub free: [Row; FREE],
