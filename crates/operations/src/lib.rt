@@ -68,8 +68,8 @@ pub fn judge(text: &[u8], p: Pair) -> Result<u32, Refusal>
 {
     let mut words = [0u64; (Book::RULES + Book::CONDITIONALS) * 8];
     let mut ranks = [0u64; Book::EXCEPTIONS];
-    let s = load_for(text, p, &mut words, &mut ranks)?;
-    Ok(engine::verdict_in(&words, &ranks, s, p))
+    let shape = load_for(text, p, &mut words, &mut ranks)?;
+    Ok(engine::verdict_in(&words, &ranks, shape, p))
 }
 
 // A page: the first resolutions, as many as the lent slice has room for, or the refusal of the text.
