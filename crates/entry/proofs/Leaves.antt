@@ -16,7 +16,7 @@ use Rattle.logic.specs.Tests.{both, either}
 use Rattle.logic.proofs.Tests.{and_both}
 use Rattle.sets.proofs.Words.{or-zero}
 use Rattle.std.specs.Char.{is_ascii_digit, is_ascii_uppercase}
-use Rattle.std.specs.List.{between, list_all}
+use Rattle.std.specs.List.{between}
 use Rattle.std.specs.Int.{to_le_bytes, from_le_bytes}
 use mir.Syntax.{w64}
 use Rattle.entry.specs.Names.{letter, follows, chain, name_spelt}
@@ -88,11 +88,6 @@ module _ (s : List ℕ) where
   chain-end i h inv = let z : 8 - i ≡ 0 = omega arith in rw z at inv
 
 -- ---- zeros
-pub zeros_all : (bs : List ℕ) → list_all (λ b. eqb b 0) bs ≡ zeros bs
-unfolding zeros
-zeros_all [] = refl
-zeros_all (b ∷ bs) = and_both _ _ ∙ ap (both (eqb b 0)) (zeros_all bs)
-
 or-zeros : (a b : ℕ) (o : Bool) → both (eqb (bit_or a b) 0) o ≡ both (eqb a 0) (both (eqb b 0) o)
 unfolding both
 or-zeros a b o = go (eqb a 0) (eqb b 0) refl refl

@@ -12,8 +12,7 @@ use Rattle.logic.specs.Tests.{pick}
 use Rattle.logic.proofs.Decide.{clash}
 use Rattle.std.specs.declared.cmp.Ordering.{Ordering}
 use Rattle.std.specs.declared.cmp.Ordering.TheVariants.{Less, Equal, Greater}
-use Rattle.std.specs.Ordering.{is_lt, is_eq, nat_cmp, ordering_then, MatchOrdering}
-use Rattle.std.specs.Cmp.Lexicographic.{slice_cmp}
+use Rattle.std.specs.Ordering.{is_lt, is_eq, nat_cmp, MatchOrdering}
 use Rattle.std.proofs.lemmas.Cmp.{ranked}
 use Rattle.entry.specs.Names.{compare_to, before, same_name}
 use Rattle.entry.proofs.Leaves.{part-next}
@@ -142,19 +141,6 @@ same_true a b e = go (compare_to a b) refl e
 pub same-iff : (a b : List ℕ) → (same_name a b ≡ true) ↔ (a ≡ b)
 unfolding same_name
 same-iff a b = (same_true a b, λ e. rw (e, same_self b))
-
--- The order of the bytes by the library's `cmp`.
-pub compare-cmp : (a b : List ℕ) → slice_cmp nat_cmp a b ≡ compare_to a b
-unfolding compare_to
-compare-cmp [] [] = refl
-compare-cmp [] (y ∷ ys) = refl
-compare-cmp (x ∷ xs) [] = refl
-compare-cmp (x ∷ xs) (y ∷ ys) = go (compare-cmp xs ys) (nat_cmp x y) (ranked x y (nat_cmp x y) refl)
-  where
-    go : slice_cmp nat_cmp xs ys ≡ compare_to xs ys → (o : Ordering) → MatchOrdering o (x < y) (x ≡ y) (y < x) → ordering_then o (slice_cmp nat_cmp xs ys) ≡ pick (ltb x y) Less (pick (ltb y x) Greater (compare_to xs ys))
-    go ih Less h = sym (less-cons x y (compare_to xs ys) h)
-    go ih Equal h = ih ∙ sym (eq-cons x y (compare_to xs ys) h)
-    go ih Greater h = sym (more-cons x y (compare_to xs ys) h)
 
 -- Byte by byte, from the first: what is left after k equal bytes compares as all does.
 module _ (a b : List ℕ) where

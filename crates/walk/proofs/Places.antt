@@ -63,9 +63,6 @@ module _ (x : ℕ) (small : x ≤ exceptions) where
     pub skipping-none : AtPlace x p → Skipping x root marks p p
     skipping-none s = record { from = le_refl _; stands = s; ruled_out = λ i a b. absurd (omega arith) }
 
-    pub stops-skipping : (r : Position) (past : ℕ) → Stops x past root marks p r → Skipping x root marks p r
-    stops-skipping r past s = record { from = s.from; stands = s.stands; ruled_out = s.ruled_out }
-
     module _ (r : Position) (s : Skipping x root marks p r) where
       pub skipping-more : r.place < 2 ^ x → RuledOut root marks r.set → (u : ℕ) → NextSet x r.set u → Skipping x root marks p (record { place = r.place + 1; set = u })
       skipping-more h f u n = record {
@@ -81,7 +78,7 @@ module _ (x : ℕ) (small : x ≤ exceptions) where
       }
         where
           here : Stops x past root marks p r
-          here = record { from = s.from; to = l; stands = s.stands; ruled_out = s.ruled_out; undecided = o }
+          here = record { over = s; to = l; undecided = o }
 
       pub skipped_all : (past : ℕ) → past ≤ r.place → Skipped x past root marks p (Err r)
       skipped_all past l =

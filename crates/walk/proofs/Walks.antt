@@ -40,7 +40,7 @@ use Rattle.one_set.specs.Plans.{Told, Full, Rests, SetListed}
 use Rattle.one_set.proofs.Plans.{marks-same, told-kept, told_none}
 use Rattle.one_set.proofs.Sets.{set-none, set-viewless}
 use Rattle.walk.specs.Walks.{Passed, RuledOut, marked, beyond, short, AtPlace, Spanned, Skipping, Skipped, Beyond, Ready, Walked, beginning, Paged}
-use Rattle.walk.proofs.Places.{at-or-past, subset-place, none_yet, one_more, all-places, cut_short, stops-skipping}
+use Rattle.walk.proofs.Places.{at-or-past, subset-place, none_yet, one_more, all-places, cut_short}
 
 -- ---- what a look tells
 module _ (root : Bounds) (t : ℕ) (m : List ℕ) where
@@ -230,7 +230,7 @@ module _ (ws ranks : List ℕ) (root : Bounds) (q : Sought) (wide : ℕ) (small 
   pub walking-on : (j k past : ℕ) (n : List ℕ) (v : Memory) (p : List ℕ) → Going ws ranks root q wide first known at m w o j k n v p → (s : Position) → s.place ≡ j → (next : Result Position Position) → Skipped wide past root n s next
       → Walking ws ranks root q wide first known at m w o past next k n v p
   walking-on j k past n v p g s e next x = record {
-    some = λ r f. let y = x.some r f in (going_on j k n v p g s r e (stops-skipping wide small root n s r past y), y.stands, y.to);
+    some = λ r f. let y = x.some r f in (going_on j k n v p g s r e y.over, y.over.stands, y.to);
     none = λ r f. let y = x.none r f in (going_on j k n v p g s r e y.1, y.0);
   }
 
@@ -296,4 +296,4 @@ left e (Ok r) = suc (e - r.place)
 
 pub left-less : (x past e : ℕ) (root : Bounds) (marks : List ℕ) (s r : Position) (next : Result Position Position) → s.place ≡ r.place + 1 → Skipped x past root marks s next → r.place < e → left e next < suc (e - r.place)
 left-less x past e root marks s r (Err u) f k l = omega arith
-left-less x past e root marks s r (Ok u) f k l = let y = (k.some u refl).from in omega arith
+left-less x past e root marks s r (Ok u) f k l = let y = (k.some u refl).over.from in omega arith

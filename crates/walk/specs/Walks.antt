@@ -40,19 +40,17 @@ pub record Spanned (x : ℕ) (root : Bounds) (s : Span) : Type 0 where
   pub after : (i : ℕ) → s.past ≤ i → i < 2 ^ x → without (set_at x i) root.hi.taken ≡ 0 → ⊥
   pub to : s.past ≤ 2 ^ x
 
--- The place r is the first from p on at which a look is not enough, and one before `past`.
-pub record Stops (x past : ℕ) (root : Bounds) (marks : List ℕ) (p r : Position) : Type 0 where
-  pub from : p.place ≤ r.place
-  pub to : r.place < past
-  pub stands : AtPlace x r
-  pub ruled_out : (i : ℕ) → p.place ≤ i → i < r.place → RuledOut root marks (set_at x i)
-  pub undecided : RuledOut root marks r.set → ⊥
-
 -- From place p to place r a look is enough.
 pub record Skipping (x : ℕ) (root : Bounds) (marks : List ℕ) (p r : Position) : Type 0 where
   pub from : p.place ≤ r.place
   pub stands : AtPlace x r
   pub ruled_out : (i : ℕ) → p.place ≤ i → i < r.place → RuledOut root marks (set_at x i)
+
+-- The place r is the first from p on at which a look is not enough, and one before `past`.
+pub record Stops (x past : ℕ) (root : Bounds) (marks : List ℕ) (p r : Position) : Type 0 where
+  pub over : Skipping x root marks p r
+  pub to : r.place < past
+  pub undecided : RuledOut root marks r.set → ⊥
 
 -- That place is r; or there is none from p on before `past`, and r is the place past these.
 pub record Skipped (x past : ℕ) (root : Bounds) (marks : List ℕ) (p : Position) (r : Result Position Position) : Type 0 where
